@@ -57,6 +57,7 @@ fn call_on<R: AllocGlobal + Threads + Wait + Sync + Abort, S: Lanes, B: Beat>(
     let bad_writes = [fails.1].to_vec(rt.alloc()).expect(rt, "memory");
     let output = MemSink::new(rt.alloc(), 1_000_000, bad_writes);
     let mut output = output.expect(rt, "memory");
+    let mut trace: Option<MemSink> = None;
     let status = obladi(
         rt,
         &words,
@@ -65,6 +66,7 @@ fn call_on<R: AllocGlobal + Threads + Wait + Sync + Abort, S: Lanes, B: Beat>(
         &mut tape,
         &mut input,
         &mut output,
+        &mut trace,
         beat,
     );
     (status, output)

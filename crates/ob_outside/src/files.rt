@@ -2,10 +2,10 @@
 
 ghost use Rattle.std.specs.Prelude.{◌≡◌, IfOk, None};
 
-use crate::locking::open_locked;
+use crate::locking::{open_emptied, open_locked};
 use crate::store::{FileStore, OpenErr};
-use crate::streams::StdSource;
-use ob_base::{Fault, Memory};
+use crate::streams::{StdSink, StdSource};
+use ob_base::{Failed, Fault, Memory};
 use ob_io::{ReadErr, read_all};
 use ob_words::store_wanted;
 use std::alloc::Global;
@@ -14,14 +14,16 @@ use std::fs::File;
 // The most bytes that a key file may have: the digits of 96 bytes, and a line feed.
 const KEY_TEXT: usize = 193;
 
-/// The files of the words, each locked as long as this lives: the key file against writers, and the
-/// store against all.
+/// The files of the words, each locked as long as this lives: the key file against writers, the
+/// store and the trace against all.
 #[derive(Drop)]
 pub struct Files<'a> {
     /// The key file, where it could be had.
     pub keys: Option<File>,
     /// The store, where it could be had.
     pub store: Option<FileStore<&'a HostRuntime>>,
+    /// The trace, emptied, where it could be had, and the key file and the store were.
+    pub trace: Option<StdSink<File>>,
 }
 
 /// The words, and what they name.
@@ -44,34 +46,49 @@ fn texts_of(alloc: Global, words: &[String]) -> Result<Vec<&str>, Memory> {
     Ok(texts)
 }
 
-// Opens and locks the files that the words call for, before anything is read or written: none where
-// they call for none, or where it can't be had. Where the two are one file the key file's lock
-// refuses the store.
+// No file but the key file, if that.
+fn without_store<'a>(keys: Option<File>) -> Files<'a>
+    ensures keys { result.keys ≡ keys }
+    ensures store { result.store ≡ None }
+    ensures trace { result.trace ≡ None }
+{
+    Files {
+        keys,
+        store: None,
+        trace: None,
+    }
+}
+
+// The trace's file, where the words call for one and it can be had.
+fn open_trace(rt: &HostRuntime, path: Option<&str>) -> Option<StdSink<File>> {
+    match open_emptied(rt, path?) {
+        Ok(file) => Some(StdSink::new(file)),
+        Err(Failed) => None,
+    }
+}
+
+// Opens and locks the files that the words call for, before anything is read, and before anything is
+// written but that a trace is emptied: none where they call for none, or where it can't be had.
+// Where two of them are one file the lock of the first refuses the other: the key file comes first,
+// then the store.
 fn open_files<'a>(rt: &'a HostRuntime, words: &[&str]) -> Result<Files<'a>, Fault>
-    ensures { IfOk result (λ files. files.keys ≡ None → files.store ≡ None) }
+    ensures store { IfOk result (λ files. files.keys ≡ None → files.store ≡ None) }
+    ensures trace { IfOk result (λ files. files.store ≡ None → files.trace ≡ None) }
 {
     let paths = store_wanted(rt.alloc(), words)?;
     let (Some(keys), Some((store, create))) = (paths.keys, paths.store) else {
-        return Ok(Files {
-            keys: None,
-            store: None,
-        });
+        return Ok(without_store(None));
     };
     let Ok(keys) = open_locked(rt, keys) else {
-        return Ok(Files {
-            keys: None,
-            store: None,
-        });
+        return Ok(without_store(None));
     };
     match FileStore::open(rt, rt.alloc(), store, create) {
         Ok(store) => Ok(Files {
             keys: Some(keys),
             store: Some(store),
+            trace: open_trace(rt, paths.trace),
         }),
-        Err(OpenErr::Failed) => Ok(Files {
-            keys: Some(keys),
-            store: None,
-        }),
+        Err(OpenErr::Failed) => Ok(without_store(Some(keys))),
         Err(OpenErr::Memory(_)) => Err(Fault::Memory),
     }
 }
@@ -90,12 +107,13 @@ fn read_keys(alloc: Global, file: Option<&File>) -> Result<Option<Vec<u8>>, Faul
 }
 
 /// Opens and locks the files that the words name, and then reads the key file. Without a key file
-/// no store is opened or made.
+/// no store is opened or made, and without both no trace.
 ///
 /// # Errors
 /// Memory was wanting.
 pub fn open_named<'a>(rt: &'a HostRuntime, words: &'a [String]) -> Result<Named<'a>, Fault>
-    ensures { IfOk result (λ named. named.files.keys ≡ None → named.files.store ≡ None) }
+    ensures store { IfOk result (λ named. named.files.keys ≡ None → named.files.store ≡ None) }
+    ensures trace { IfOk result (λ named. named.files.store ≡ None → named.files.trace ≡ None) }
 {
     let words = texts_of(rt.alloc(), words)?;
     let files = open_files(rt, &words)?;

@@ -1,6 +1,6 @@
 -- How the head's read and the opening join.
-use Rattle.std.specs.Prelude.{false}
-use Rattle.std.proofs.Common.{◌≡◌, ◌∙◌, ◌≤◌, ℕ, List, length, None, Some, Result, Ok, Err, refl, sym, ap, subst, inr, arith}
+use Rattle.std.specs.Prelude.{true, false}
+use Rattle.std.proofs.Common.{◌≡◌, ◌⊎◌, ◌∙◌, ◌≤◌, ℕ, List, [], ◌∷◌, length, None, Some, Result, Ok, Err, refl, sym, ap, subst, inr, arith}
 use Rattle.ob_base.specs.Causes.{Rose}
 use Rattle.ob_base.specs.declared.fault.Fault.{Fault}
 use Rattle.ob_base.specs.declared.fault.Fault.TheVariants as fault
@@ -8,7 +8,7 @@ use Rattle.ob_base.specs.declared.params.Params.{Params}
 use Rattle.ob_io.specs.Streams.{Flow}
 use Rattle.ob_pads.specs.Lives.{IsFormattedStore}
 use Rattle.ob_vault.proofs.Formatting.{ring_formats}
-use Rattle.ob_vault.proofs.Opening.{opens_or_not, ring_leaves_standing, ring_opens, ring_opens_at}
+use Rattle.ob_vault.proofs.Opening.{opening_shown, opens_or_not, ring_leaves_standing, ring_opens, ring_opens_at}
 use Rattle.ob_vault.proofs.Refusing.{ring_refuses}
 use Rattle.ob_vault.specs.RingLaws.{ReadsHead, found_ring}
 use Rattle.ob_vault.specs.RingKind.{ring_kind}
@@ -26,7 +26,12 @@ use Rattle.ob_store.specs.Told.{events_of}
 use Rattle.ob_store.specs.Calls.{IsStoreFault, Notes, NotesFirst}
 use Rattle.ob_store.specs.Disk.{Disk, Image}
 use Rattle.ob_store.specs.Images.{IsSynced}
-use Rattle.ob_store.specs.Lines.{Trace}
+use Rattle.ob_store.specs.Lines.{Shows, Trace}
+use Rattle.ob_store.specs.Told.{TellsFirst}
+use Rattle.ob_store.specs.declared.watch.Note.TheVariants as note
+use Rattle.ob_conduct.specs.declared.run_err.RunErr.{RunErr}
+use Rattle.ob_conduct.specs.declared.run_err.RunErr.TheVariants as failed
+use Rattle.ob_top.specs.Outside.{IsWatched}
 use Rattle.ob_opening.proofs.PlanLaws.{opened_plans}
 use Rattle.ob_opening.specs.OpeningActs.{IsLeftAt, OpensInLife}
 use Rattle.ob_opening.specs.Formats.{HasClosedLogs, IsFormatFault, formatted_standing}
@@ -36,16 +41,22 @@ use Rattle.ob_opening.specs.declared.opening.Opening.{Opening}
 use Rattle.ob_top.proofs.Running.{IsQuiet}
 use Rattle.ob_top.specs.Begun.{IsBegun, MayServe}
 use Rattle.ob_top.specs.Formats.{FormatEnds, IsFormatted}
-use Rattle.ob_top.specs.Runs.{CameIn, EndsEarly}
+use Rattle.ob_top.specs.Runs.{BreaksAtHead, BreaksAtOpening, CameIn, EndsEarly}
+
+-- the watch was found broken
+pub broke_early : {S : Type 0} (disk : S → Disk) (keys : Keys) (most : ℕ) (old new : Disk) (t u : Trace) (before after : Flow) (err : RunErr) → IsWatched u (Some err)
+    → (u.broken ≡ true → BreaksAtHead ring_kind ring_lives keys most old new t u before after ⊎ BreaksAtOpening ring_kind ring_lives keys most old new t u disk before) → EndsEarly ring_kind ring_lives keys most old new t u disk before after err
+broke_early disk keys most old new t u before after (failed.Fault refused) is so = absurd is
+broke_early disk keys most old new t u before after failed.Unwatched is so = so is
 
 pub ring_quiet : IsQuiet ring_kind
 ring_quiet = record { head = λ is. is; opening = λ is. is }
 
 module _ {S : Type 0} (disk : S → Disk) (keys : Keys) (most : ℕ) (some : 1 ≤ most) (p : Params) (script : Scripts) (before : Flow) (old mid new : S) (head : (disk old).tells → IsHead keys 1 p ((disk old).cells 0)) (read : ReadsHead (disk old) (disk mid)) (came : CameIn p.keys before script) where
   -- the store was opened
-  pub begun : {L : Type 0} (shown later : Trace) (o : Opening L) (is : IsRingOpened disk keys most p mid new shown later o) → ((disk mid).tells → (disk new).tells)
-      → ((s : RingStanding) → (disk mid).tells → stand.Stands keys p s (disk mid).cells → OpensWhatStood keys p s (disk new) (Ok o)) → IsBegun keys most p script (disk old) (disk new) before (found_ring is.found o)
-  begun {L} shown later o is told stands =
+  pub begun : {L : Type 0} (first shown later : Trace) (o : Opening L) (is : IsRingOpened disk keys most p mid new shown later o) → ((disk mid).tells → (disk new).tells)
+      → ((s : RingStanding) → (disk mid).tells → stand.Stands keys p s (disk mid).cells → OpensWhatStood keys p s (disk new) (Ok o)) → Shows (note.Read 0 ∷ []) first shown → IsBegun keys most p script (disk old) (disk new) first later before (found_ring is.found o)
+  begun {L} first shown later o is told stands head_shown =
       let so = ring_opens L disk keys most p old mid new shown later o some read is in
       record {
         found = is.found;
@@ -54,16 +65,19 @@ module _ {S : Type 0} (disk : S → Disk) (keys : Keys) (most : ℕ) (some : 1 �
         start = (is.found).gates;
         opened = record { head = head; came = came; finds = so.finds; starts = so.starts };
         seen = so.seen;
+        shown = opening_shown disk keys most p old mid new first shown later o is head_shown;
         stood = λ at tells here. ring_opens_at L disk keys p old mid new is.found o read tells (told (read.keeps.tells tells)) (is.told (read.keeps.tells tells)).found_in stands at here;
       }
 
   -- it was refused
-  pub unopened : {T L : Type 0} (o : Result (Opening L) Fault) (tape_old tape_new : T) (present : ℕ) (drawn : List ℕ) (shown later : Trace) (refused : Fault) (after : Flow) → ((c : Image) → (disk old).left_since (disk old).moment c → (disk old).may_leave c)
+  pub unopened : {T L : Type 0} (o : Result (Opening L) Fault) (tape_old tape_new : T) (present : ℕ) (drawn : List ℕ) (first shown later : Trace) (refused : Fault) (after : Flow) → Shows (note.Read 0 ∷ []) first shown →
+      ((c : Image) → (disk old).left_since (disk old).moment c → (disk old).may_leave c)
       → (disk old).faults ≤ (disk mid).faults → IsOpenFault refused → (IsStoreFault refused → Rose (disk mid).faults (disk new).faults) → RefusedDoes keys most p (disk mid) (disk new) shown later refused
       → ((disk mid).tells → IsOpenRefusal keys p (disk mid).cells refused) → ((s : RingStanding) → (disk mid).tells → stand.Stands keys p s (disk mid).cells → IsStandingRefusal s refused)
       → RefusedWrites disk keys p mid new tape_old tape_new present drawn refused → OpeningLeaves {L = L} disk keys p mid new (Err refused)
-      → ((word_of : WordId → ℕ) (s : LifeState) → (disk mid).tells → IsLeftAt keys p word_of s None (disk mid).cells → OpensInLife keys most p word_of s None (disk mid) (disk new) shown later false) → EndsEarly ring_kind ring_lives keys most (disk old) (disk new) disk before after refused
-  unopened {T} {L} o tape_old tape_new present drawn shown later refused after only further kind cause does refusal stood writes leaves acts =
+      → ((word_of : WordId → ℕ) (s : LifeState) → (disk mid).tells → IsLeftAt keys p word_of s None (disk mid).cells → OpensInLife keys most p word_of s None (disk mid) (disk new) shown later false) → EndsEarly ring_kind ring_lives keys most (disk old)
+      (disk new) first later disk before after (failed.Fault refused)
+  unopened {T} {L} o tape_old tape_new present drawn first shown later refused after head_shown only further kind cause does refusal stood writes leaves acts =
       let so = ring_refuses T disk keys most p old mid new tape_old tape_new present drawn shown later refused some read kind does refusal stood writes in
       let either = opens_or_not disk keys p old mid new read.passes read.keeps leaves in
       inr (inr (record {
@@ -75,6 +89,7 @@ module _ {S : Type 0} (disk : S → Disk) (keys : Keys) (most : ℕ) (some : 1 �
         read = so.refuses;
         cause = λ is. rose_later (disk old).faults (disk mid).faults (disk new).faults further (cause is);
         seen = so.seen;
+        shown = record { mid = mid; later = shown; read = read.seen; keeps = read.keeps; head = head_shown; does = does };
         unwritten = so.unwritten;
         left = λ at tells stands all. ring_leaves_standing disk keys p old new only tells all either at stands;
         opens = either;
@@ -103,17 +118,23 @@ pub formatted : {S : Type 0} (disk : S → Disk) (keys : Keys) (p : Params) (dra
     → ((disk old).tells → RingFormatted keys p (disk new)) → ((disk old).tells → (disk new).tells) → IsFormatted ring_kind ring_lives disk keys p old new
 formatted disk keys p drawn old new seen stands images durable closed begins life tells = record { made = (ring_formats disk).made keys p drawn old new seen stands images durable closed; tells = tells; begins = begins; begins_life = life }
 
+-- the watch was found broken behind one
+pub format_broke : {S : Type 0} (disk : S → Disk) (keys : Keys) (p : Params) (old new : S) (t u : Trace) (before : Flow) (err : RunErr) → IsWatched u (Some err) → IsFormatted ring_kind ring_lives disk keys p old new → Shows (format_notes p) t u
+    → FormatEnds ring_kind ring_lives disk keys p old new before before t u (Some err)
+format_broke disk keys p old new t u before (failed.Fault refused) is made shown = absurd is
+format_broke disk keys p old new t u before failed.Unwatched is made shown = (made, refl, (shown, is))
+
 -- one that was refused
-pub format_refused : {S : Type 0} (disk : S → Disk) (keys : Keys) (p : Params) (old new : S) (before : Flow) (refused : Fault) → IsFormatFault refused → (IsStoreFault refused → Rose (disk old).faults (disk new).faults) → (refused ≡ fault.Memory → new ≡ old)
-    → NotesFirst (events_of (format_notes p)) (disk old).seen (disk new).seen → FormatEnds ring_kind ring_lives disk keys p old new before before (Some refused)
-format_refused disk keys p old new before (fault.StoreFault unsure) is cause same seen = (is, cause tt, seen, refl)
-format_refused disk keys p old new before fault.Memory is cause same seen = (refl, same refl, refl)
-format_refused disk keys p old new before fault.Usage is cause same seen = absurd is
-format_refused disk keys p old new before (fault.BadScript line) is cause same seen = absurd is
-format_refused disk keys p old new before (fault.BadParams field) is cause same seen = absurd is
-format_refused disk keys p old new before fault.NotStore is cause same seen = absurd is
-format_refused disk keys p old new before (fault.Damaged cell check kept computed) is cause same seen = absurd is
-format_refused disk keys p old new before (fault.StashFull rows) is cause same seen = absurd is
-format_refused disk keys p old new before (fault.Worn number) is cause same seen = absurd is
-format_refused disk keys p old new before fault.SourceFault is cause same seen = absurd is
-format_refused disk keys p old new before fault.SinkFault is cause same seen = absurd is
+pub format_refused : {S : Type 0} (disk : S → Disk) (keys : Keys) (p : Params) (old new : S) (t u : Trace) (before : Flow) (refused : Fault) → IsFormatFault refused → (IsStoreFault refused → Rose (disk old).faults (disk new).faults) → (refused ≡ fault.Memory → (new ≡ old) × (u ≡ t))
+    → NotesFirst (events_of (format_notes p)) (disk old).seen (disk new).seen → TellsFirst (format_notes p) (disk old).seen (disk new).seen t u → FormatEnds ring_kind ring_lives disk keys p old new before before t u (Some (failed.Fault refused))
+format_refused disk keys p old new t u before (fault.StoreFault unsure) is cause same seen first = (is, cause tt, seen, refl, first)
+format_refused disk keys p old new t u before fault.Memory is cause same seen first = (refl, (same refl).0, refl, (same refl).1)
+format_refused disk keys p old new t u before fault.Usage is cause same seen first = absurd is
+format_refused disk keys p old new t u before (fault.BadScript line) is cause same seen first = absurd is
+format_refused disk keys p old new t u before (fault.BadParams field) is cause same seen first = absurd is
+format_refused disk keys p old new t u before fault.NotStore is cause same seen first = absurd is
+format_refused disk keys p old new t u before (fault.Damaged cell check kept computed) is cause same seen first = absurd is
+format_refused disk keys p old new t u before (fault.StashFull rows) is cause same seen first = absurd is
+format_refused disk keys p old new t u before (fault.Worn number) is cause same seen first = absurd is
+format_refused disk keys p old new t u before fault.SourceFault is cause same seen first = absurd is
+format_refused disk keys p old new t u before fault.SinkFault is cause same seen first = absurd is

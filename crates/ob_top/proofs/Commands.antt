@@ -1,5 +1,5 @@
 -- What came of the words, command by command.
-use Rattle.std.proofs.Common.{◌≡◌, ◌⊎◌, ℕ, List, Bool, not, Option, Some, None, refl, sym, ap, subst, inl, inr, arith, ◌∙◌}
+use Rattle.std.proofs.Common.{◌≡◌, ◌⊎◌, ℕ, List, Bool, true, false, not, is_some, Option, Some, None, refl, sym, ap, subst, inl, inr, arith, ◌∙◌}
 use Rattle.std.specs.Borrow.{Bor}
 use Rattle.ob_base.specs.declared.params.Params.{Params}
 use Rattle.ob_base.specs.declared.fault.Field.{Field}
@@ -16,12 +16,16 @@ use Rattle.ob_words.specs.declared.work.Command.{Command}
 use Rattle.ob_words.specs.declared.work.Command.TheVariants.{Format, Run}
 use Rattle.ob_words.specs.Work.{AreParams, IsBadNumber, AreLanes, AreBadLanes, IsBadCount, Asks, IsCommandOf, IsOutOfRange, IsRefusedFor, HasKeys, IsKeysRefused}
 use Rattle.ob_top.specs.Begun.{AreFewLanes}
-use Rattle.ob_top.specs.Outside.{Outside, IsFinished, IsOnlyTold}
+use Rattle.ob_conduct.specs.declared.run_err.RunErr.{RunErr}
+use Rattle.ob_conduct.specs.declared.run_err.RunErr.TheVariants as failed
+use Rattle.ob_io.specs.Streams.{Flow}
+use Rattle.ob_top.specs.Outside.{blind, Outside, IsEnded, IsFinished, IsOnlyTold}
 use Rattle.ob_top.specs.Formats.{FormatDone}
 use Rattle.ob_vault.specs.RingKind.{ring_kind}
 use Rattle.ob_vault.specs.Lives.{ring_lives}
 use Rattle.ob_top.specs.Runs.{manner, RunOn, RunDone}
-use Rattle.ob_top.specs.Top.{AskForSomething, CommandDoes, IsRefusedWithout}
+use Rattle.ob_store.specs.Lines.{Trace, first_line, open_line, start_line}
+use Rattle.ob_top.specs.Top.{AskForSomething, ByTrace, CommandDoes, IsRefusedWithout, TracedDoes, WatchedDoes, start_for, traced_of}
 use Rattle.ob_top.proofs.Beginnings.{ring_quiet}
 use Rattle.ob_top.proofs.Finishing.{run_done, format_done}
 
@@ -33,31 +37,31 @@ one_asked words a b first second = let same : Some a ≡ Some b = sym first ∙ 
 pub nothing_asked : (words : List (List ℕ)) (a : Asked) → asked_by words ≡ None → asked_by words ≡ Some a → ⊥
 nothing_asked words a none some = let same : None ≡ Some a = sym none ∙ some in cc same
 
-params_at : (store keys : List ℕ) (numbers : List (List ℕ)) (command : Command) → IsCommandOf (format_asked store keys numbers) command → (p : Params) × AreParams numbers p
-params_at store keys numbers (Format p) fits = (p, fits)
-params_at store keys numbers (Run k by_hand) fits = absurd fits
+params_at : (store keys : List ℕ) (numbers : List (List ℕ)) (trace : Option (List ℕ)) (command : Command) → IsCommandOf (format_asked store keys numbers trace) command → (p : Params) × AreParams numbers p
+params_at store keys numbers trace (Format p traced) fits = (p, fits.0)
+params_at store keys numbers trace (Run k by_hand traced) fits = absurd fits
 
-lanes_at : (store keys : List ℕ) (lanes : Option (List ℕ)) (turns : Bool) (command : Command) → IsCommandOf (run_asked store keys lanes turns) command → (k : ℕ) × AreLanes lanes k
-lanes_at store keys lanes turns (Format p) fits = absurd fits
-lanes_at store keys lanes turns (Run k by_hand) fits = (k, fits.0)
+lanes_at : (store keys : List ℕ) (lanes : Option (List ℕ)) (turns : Bool) (trace : Option (List ℕ)) (command : Command) → IsCommandOf (run_asked store keys lanes turns trace) command → (k : ℕ) × AreLanes lanes k
+lanes_at store keys lanes turns trace (Format p traced) fits = absurd fits
+lanes_at store keys lanes turns trace (Run k by_hand traced) fits = (k, fits.0)
 
 -- a run that is asked for has from 1 to 16 lanes
 in_range : (lanes : Option (List ℕ)) (k : ℕ) → AreLanes lanes k → AreFewLanes k
 in_range None k are = (omega (arith, are), omega (arith, are))
 in_range (Some word) k are = (are.1, are.2)
 
-run_of : (asked : Asked) (k : ℕ) (turns : Bool) → IsCommandOf asked (Run k turns) → AreFewLanes k
-run_of (format_asked store keys numbers) k turns fits = absurd fits
-run_of (run_asked store keys lanes by_hand) k turns fits = in_range lanes k fits.0
-run_of audit_asked k turns fits = absurd fits
-run_of (drill_asked word) k turns fits = absurd fits
+run_of : (asked : Asked) (k : ℕ) (turns traced : Bool) → IsCommandOf asked (Run k turns traced) → AreFewLanes k
+run_of (format_asked store keys numbers trace) k turns traced fits = absurd fits
+run_of (run_asked store keys lanes by_hand trace) k turns traced fits = in_range lanes k fits.0
+run_of audit_asked k turns traced fits = absurd fits
+run_of (drill_asked word) k turns traced fits = absurd fits
 
-pub few_lanes : (words : List (List ℕ)) (k : ℕ) (turns : Bool) → Asks words (Run k turns) → AreFewLanes k
-few_lanes words k turns (asked, by, fits) = run_of asked k turns fits
+pub few_lanes : (words : List (List ℕ)) (k : ℕ) (turns traced : Bool) → Asks words (Run k turns traced) → AreFewLanes k
+few_lanes words k turns traced (asked, by, fits) = run_of asked k turns traced fits
 
 none_over : (command : Command) → IsCommandOf audit_asked command → ⊥
-none_over (Format p) fits = fits
-none_over (Run k by_hand) fits = fits
+none_over (Format p traced) fits = fits
+none_over (Run k by_hand traced) fits = fits
 
 -- an audit is nothing over a store
 audit_alone : (words : List (List ℕ)) → AskForSomething words → asked_by words ≡ Some audit_asked → ⊥
@@ -65,8 +69,8 @@ audit_alone words (command, (asked, by, fits)) asks = none_over command (subst (
 
 -- nor is a self-test
 none_counted : (word : List ℕ) (command : Command) → IsCommandOf (drill_asked word) command → ⊥
-none_counted word (Format p) fits = fits
-none_counted word (Run k by_hand) fits = fits
+none_counted word (Format p traced) fits = fits
+none_counted word (Run k by_hand traced) fits = fits
 
 drill_alone : (words : List (List ℕ)) → AskForSomething words → (count : List ℕ) → asked_by words ≡ Some (drill_asked count) → ⊥
 drill_alone words (command, (asked, by, fits)) count asks = none_counted count command (subst (λ (a : Asked). IsCommandOf a command) (one_asked words asked (drill_asked count) by asks) fits)
@@ -89,6 +93,12 @@ refusals words (StashFull rows) never = absurd never
 refusals words (Worn number) never = absurd never
 refusals words SourceFault never = absurd never
 refusals words SinkFault never = absurd never
+
+-- a command that was refused before anything was touched
+as_finished : (before after : Flow) (f : Fault) (status : ℕ) (err : Option RunErr) → err ≡ Some (failed.Fault f) → IsEnded before after err status → IsFinished before after (Some f) status
+as_finished before after f status err is done =
+    let now : IsEnded before after (Some (failed.Fault f)) status = subst (λ (x : Option RunErr). IsEnded before after x status) is done in
+    record { status_is = now.status_is; line = now.line }
 
 -- one of the first two of three
 early : {A B C : Type 0} → A ⊎ B → A ⊎ (B ⊎ C)
@@ -157,25 +167,25 @@ module _ (before mid after : Outside) (status : ℕ) (input : after.input ≡ mi
         by_refusal (inr (inl (usage, none))) = absurd (nothing_asked words audit_asked none asks)
         by_refusal (inr (inr (field, bad, (asked, by, out)))) = absurd (subst (λ (a : Asked). IsOutOfRange a field) (one_asked words asked audit_asked by asks) out)
 
-    format_tells : (store keys : List ℕ) (numbers : List (List ℕ)) → IsRefusedFor words f → asked_by words ≡ Some (format_asked store keys numbers)
+    format_tells : (store keys : List ℕ) (numbers : List (List ℕ)) (trace : Option (List ℕ)) → IsRefusedFor words f → asked_by words ≡ Some (format_asked store keys numbers trace)
         → Tells Memory ⊎ ((field : Field) × IsBadNumber numbers field × Tells (BadParams field))
-    format_tells store keys numbers refused asks = by_refusal (refusals words f refused)
+    format_tells store keys numbers trace refused asks = by_refusal (refusals words f refused)
       where
         by_refusal : WordsRefused words f → Tells Memory ⊎ ((field : Field) × IsBadNumber numbers field × Tells (BadParams field))
         by_refusal (inl memory) = inl (memory_told memory)
-        by_refusal (inr (inl (usage, none))) = absurd (nothing_asked words (format_asked store keys numbers) none asks)
+        by_refusal (inr (inl (usage, none))) = absurd (nothing_asked words (format_asked store keys numbers trace) none asks)
         by_refusal (inr (inr (field, bad, (asked, by, out)))) =
-            inr (field, subst (λ (a : Asked). IsOutOfRange a field) (one_asked words asked (format_asked store keys numbers) by asks) out, number_told field bad)
+            inr (field, subst (λ (a : Asked). IsOutOfRange a field) (one_asked words asked (format_asked store keys numbers trace) by asks) out, number_told field bad)
 
-    run_tells : (store keys : List ℕ) (lanes : Option (List ℕ)) (turns : Bool) → IsRefusedFor words f → asked_by words ≡ Some (run_asked store keys lanes turns)
+    run_tells : (store keys : List ℕ) (lanes : Option (List ℕ)) (turns : Bool) (trace : Option (List ℕ)) → IsRefusedFor words f → asked_by words ≡ Some (run_asked store keys lanes turns trace)
         → Tells Memory ⊎ (AreBadLanes lanes × Tells (BadParams LANES))
-    run_tells store keys lanes turns refused asks = by_refusal (refusals words f refused)
+    run_tells store keys lanes turns trace refused asks = by_refusal (refusals words f refused)
       where
         by_refusal : WordsRefused words f → Tells Memory ⊎ (AreBadLanes lanes × Tells (BadParams LANES))
         by_refusal (inl memory) = inl (memory_told memory)
-        by_refusal (inr (inl (usage, none))) = absurd (nothing_asked words (run_asked store keys lanes turns) none asks)
+        by_refusal (inr (inl (usage, none))) = absurd (nothing_asked words (run_asked store keys lanes turns trace) none asks)
         by_refusal (inr (inr (field, bad, (asked, by, out)))) =
-            let bad_lanes = subst (λ (a : Asked). IsOutOfRange a field) (one_asked words asked (run_asked store keys lanes turns) by asks) out in
+            let bad_lanes = subst (λ (a : Asked). IsOutOfRange a field) (one_asked words asked (run_asked store keys lanes turns trace) by asks) out in
             inr (bad_lanes.1, number_told LANES (bad ∙ ap BadParams bad_lanes.0))
 
     drill_tells : (word : List ℕ) → IsRefusedFor words f → asked_by words ≡ Some (drill_asked word) → Tells Memory ⊎ (IsBadCount word × Tells (BadParams COUNT))
@@ -189,117 +199,168 @@ module _ (before mid after : Outside) (status : ℕ) (input : after.input ≡ mi
             inr (bad_count.1, number_told COUNT (bad ∙ ap BadParams bad_count.0))
 
   -- the command of a request is the one that the words ask for
-  params_asked : (words : List (List ℕ)) (asked : Asked) (command : Command) (store keys : List ℕ) (numbers : List (List ℕ)) → asked_by words ≡ Some asked → IsCommandOf asked command
-      → asked_by words ≡ Some (format_asked store keys numbers) → IsCommandOf (format_asked store keys numbers) command
-  params_asked words asked command store keys numbers by fits asks = subst (λ (a : Asked). IsCommandOf a command) (one_asked words asked (format_asked store keys numbers) by asks) fits
+  params_asked : (words : List (List ℕ)) (asked : Asked) (command : Command) (store keys : List ℕ) (numbers : List (List ℕ)) (trace : Option (List ℕ)) → asked_by words ≡ Some asked → IsCommandOf asked command
+      → asked_by words ≡ Some (format_asked store keys numbers trace) → IsCommandOf (format_asked store keys numbers trace) command
+  params_asked words asked command store keys numbers trace by fits asks = subst (λ (a : Asked). IsCommandOf a command) (one_asked words asked (format_asked store keys numbers trace) by asks) fits
 
-  lanes_asked : (words : List (List ℕ)) (asked : Asked) (command : Command) (store keys : List ℕ) (lanes : Option (List ℕ)) (turns : Bool) → asked_by words ≡ Some asked → IsCommandOf asked command
-      → asked_by words ≡ Some (run_asked store keys lanes turns) → IsCommandOf (run_asked store keys lanes turns) command
-  lanes_asked words asked command store keys lanes turns by fits asks = subst (λ (a : Asked). IsCommandOf a command) (one_asked words asked (run_asked store keys lanes turns) by asks) fits
+  lanes_asked : (words : List (List ℕ)) (asked : Asked) (command : Command) (store keys : List ℕ) (lanes : Option (List ℕ)) (turns : Bool) (trace : Option (List ℕ)) → asked_by words ≡ Some asked → IsCommandOf asked command
+      → asked_by words ≡ Some (run_asked store keys lanes turns trace) → IsCommandOf (run_asked store keys lanes turns trace) command
+  lanes_asked words asked command store keys lanes turns trace by fits asks = subst (λ (a : Asked). IsCommandOf a command) (one_asked words asked (run_asked store keys lanes turns trace) by asks) fits
 
   -- ---- with a store
 
-  module _ {S : Type 0} (disk : S → Disk) (beat : BeatKind) (drawn : List ℕ) (words : List (List ℕ)) (text : Option (Bor (List ℕ))) (old new : S) where
+  module _ {S W : Type 0} (disk : S → Disk) (flow : W → Flow) (beat : BeatKind) (drawn : List ℕ) (words : List (List ℕ)) (text : Option (Bor (List ℕ))) (old new : S) (was is : Option W) where
+    -- nothing was touched
+    abbrev Kept : Type 0
+    Kept = (new ≡ old) × (is ≡ was)
+
     abbrev Tell : Fault → Type 0
-    Tell f = (new ≡ old) × IsOnlyTold f before after status
+    Tell f = Kept × IsOnlyTold f before after status
 
     abbrev KeysTell : Type 0
     KeysTell = (f : Fault) × IsKeysRefused text f × Tell f
 
-    abbrev FormatTells : List (List ℕ) → Type 0
-    FormatTells numbers = Tell Memory ⊎ (((field : Field) × IsBadNumber numbers field × Tell (BadParams field))
-        ⊎ ((p : Params) × AreParams numbers p × (KeysTell ⊎ ((keys : Keys) × HasKeys text keys × FormatDone ring_kind ring_lives disk keys p old new before after status))))
+    abbrev FormatsBy : Keys → Params → Option (List ℕ) → Type 0
+    FormatsBy keys p trace = ByTrace flow was is before after status trace (start_line p) (λ t u. FormatDone ring_kind ring_lives disk keys p old new before after t u status) old new
 
-    abbrev RunTells : Option (List ℕ) → Bool → Type 0
-    RunTells lanes turns = Tell Memory ⊎ ((AreBadLanes lanes × Tell (BadParams LANES))
-        ⊎ ((k : ℕ) × AreLanes lanes k × (KeysTell ⊎ ((keys : Keys) × HasKeys text keys × RunDone ring_kind ring_lives disk (manner beat (not turns) k) drawn keys old new before after status))))
+    abbrev RunsBy : Keys → ℕ → Bool → Option (List ℕ) → Type 0
+    RunsBy keys k turns trace = ByTrace flow was is before after status trace open_line (λ t u. RunDone ring_kind ring_lives disk (manner beat (not turns) k) drawn keys old new before after t u status) old new
 
-    pub usage_done : (fault : Option Fault) → CommandDoes disk beat drawn words text old new before mid fault → IsFinished mid.output after.output fault status → asked_by words ≡ None → Tell Usage ⊎ Tell Memory
-    usage_done fault (inl (f, is, inl refused, kept, same)) done nothing = usage_tells (new ≡ old) kept same words text fault f is done refused nothing
-    usage_done fault (inl (f, is, inr ((command, (asked, by, fits)), bad), kept, same)) done nothing = absurd (nothing_asked words asked nothing by)
-    usage_done fault (inr (keys, has, inl (p, (asked, by, fits), ends, leaves, same))) done nothing = absurd (nothing_asked words asked nothing by)
-    usage_done fault (inr (keys, has, inr (k, by_hand, (asked, by, fits), on))) done nothing = absurd (nothing_asked words asked nothing by)
+    abbrev FormatTells : List (List ℕ) → Option (List ℕ) → Type 0
+    FormatTells numbers trace = Tell Memory ⊎ (((field : Field) × IsBadNumber numbers field × Tell (BadParams field))
+        ⊎ ((p : Params) × AreParams numbers p × (KeysTell ⊎ ((keys : Keys) × HasKeys text keys × FormatsBy keys p trace))))
 
-    pub audit_told : (fault : Option Fault) → CommandDoes disk beat drawn words text old new before mid fault → IsFinished mid.output after.output fault status → asked_by words ≡ Some audit_asked → Tell Memory
-    audit_told fault (inl (f, is, inl refused, kept, same)) done asks = audit_tells (new ≡ old) kept same words text fault f is done refused asks
-    audit_told fault (inl (f, is, inr (some, bad), kept, same)) done asks = absurd (audit_alone words some asks)
-    audit_told fault (inr (keys, has, inl (p, fits, ends, leaves, same))) done asks = absurd (audit_alone words (Format p, fits) asks)
-    audit_told fault (inr (keys, has, inr (k, by_hand, fits, on))) done asks = absurd (audit_alone words (Run k by_hand, fits) asks)
+    abbrev RunTells : Option (List ℕ) → Bool → Option (List ℕ) → Type 0
+    RunTells lanes turns trace = Tell Memory ⊎ ((AreBadLanes lanes × Tell (BadParams LANES))
+        ⊎ ((k : ℕ) × AreLanes lanes k × (KeysTell ⊎ ((keys : Keys) × HasKeys text keys × RunsBy keys k turns trace))))
 
-    pub drill_told : (fault : Option Fault) → CommandDoes disk beat drawn words text old new before mid fault → IsFinished mid.output after.output fault status → (word : List ℕ) → asked_by words ≡ Some (drill_asked word)
+    abbrev Ended : Option RunErr → Type 0
+    Ended err = IsEnded mid.output after.output err status
+
+    pub usage_done : (err : Option RunErr) → CommandDoes disk flow beat drawn words text old new before mid was is err → Ended err → asked_by words ≡ None → Tell Usage ⊎ Tell Memory
+    usage_done err (inl (f, told, inl refused, kept, same)) done nothing = usage_tells Kept kept same words text (Some f) f refl (as_finished mid.output after.output f status err told done) refused nothing
+    usage_done err (inl (f, told, inr ((command, (asked, by, fits)), bad), kept, same)) done nothing = absurd (nothing_asked words asked nothing by)
+    usage_done err (inr (keys, has, (command, (asked, by, fits), does))) done nothing = absurd (nothing_asked words asked nothing by)
+
+    pub audit_told : (err : Option RunErr) → CommandDoes disk flow beat drawn words text old new before mid was is err → Ended err → asked_by words ≡ Some audit_asked → Tell Memory
+    audit_told err (inl (f, told, inl refused, kept, same)) done asks = audit_tells Kept kept same words text (Some f) f refl (as_finished mid.output after.output f status err told done) refused asks
+    audit_told err (inl (f, told, inr (some, bad), kept, same)) done asks = absurd (audit_alone words some asks)
+    audit_told err (inr (keys, has, (command, fits, does))) done asks = absurd (audit_alone words (command, fits) asks)
+
+    pub drill_told : (err : Option RunErr) → CommandDoes disk flow beat drawn words text old new before mid was is err → Ended err → (word : List ℕ) → asked_by words ≡ Some (drill_asked word)
         → Tell Memory ⊎ (IsBadCount word × Tell (BadParams COUNT))
-    drill_told fault (inl (f, is, inl refused, kept, same)) done word asks = drill_tells (new ≡ old) kept same words text fault f is done word refused asks
-    drill_told fault (inl (f, is, inr (some, bad), kept, same)) done word asks = absurd (drill_alone words some word asks)
-    drill_told fault (inr (keys, has, inl (p, fits, ends, leaves, same))) done word asks = absurd (drill_alone words (Format p, fits) word asks)
-    drill_told fault (inr (keys, has, inr (k, by_hand, fits, on))) done word asks = absurd (drill_alone words (Run k by_hand, fits) word asks)
+    drill_told err (inl (f, told, inl refused, kept, same)) done word asks = drill_tells Kept kept same words text (Some f) f refl (as_finished mid.output after.output f status err told done) word refused asks
+    drill_told err (inl (f, told, inr (some, bad), kept, same)) done word asks = absurd (drill_alone words some word asks)
+    drill_told err (inr (keys, has, (command, fits, does))) done word asks = absurd (drill_alone words (command, fits) word asks)
 
-    pub format_does : (fault : Option Fault) → CommandDoes disk beat drawn words text old new before mid fault → IsFinished mid.output after.output fault status
-        → (store keys : List ℕ) (numbers : List (List ℕ)) → asked_by words ≡ Some (format_asked store keys numbers) → FormatTells numbers
-    format_does fault (inl (f, is, inl refused, kept, same)) done store keys numbers asks = early (format_tells (new ≡ old) kept same words text fault f is done store keys numbers refused asks)
-    format_does fault (inl (f, is, inr ((command, (asked, by, fits)), bad), kept, same)) done store keys numbers asks =
-        let (p, are) = params_at store keys numbers command (params_asked words asked command store keys numbers by fits asks) in
-        inr (inr (p, are, inl (keys_tell (new ≡ old) kept same words text fault f is done bad)))
-    format_does fault (inr (found, has, inl (p, (asked, by, fits), ends, leaves, same))) done store keys numbers asks =
-        inr (inr (p, params_asked words asked (Format p) store keys numbers by fits asks, inr (found, has, format_done ring_kind ring_quiet ring_lives disk found p old new before mid after status fault ends leaves same input done)))
-    format_does fault (inr (found, has, inr (k, by_hand, (asked, by, fits), on))) done store keys numbers asks = absurd (params_asked words asked (Run k by_hand) store keys numbers by fits asks)
+    module _ (err : Option RunErr) (done : Ended err) where
+      -- for want of a trace
+      untraced_told : (new ≡ old) × (mid ≡ before) × (err ≡ Some failed.Unwatched) → (new ≡ old) × IsOnlyTold SinkFault before after status
+      untraced_told (kept, same, told) =
+          let now : Ended (Some failed.Unwatched) = subst Ended told done in
+          (kept, only_told SinkFault same now.status_is now.line)
 
-    pub run_does : (fault : Option Fault) → CommandDoes disk beat drawn words text old new before mid fault → IsFinished mid.output after.output fault status
-        → (store keys : List ℕ) (lanes : Option (List ℕ)) (turns : Bool) → asked_by words ≡ Some (run_asked store keys lanes turns) → RunTells lanes turns
-    run_does fault (inl (f, is, inl refused, kept, same)) done store keys lanes turns asks = early (run_tells (new ≡ old) kept same words text fault f is done store keys lanes turns refused asks)
-    run_does fault (inl (f, is, inr ((command, (asked, by, fits)), bad), kept, same)) done store keys lanes turns asks =
-        let (k, are) = lanes_at store keys lanes turns command (lanes_asked words asked command store keys lanes turns by fits asks) in
-        inr (inr (k, are, inl (keys_tell (new ≡ old) kept same words text fault f is done bad)))
-    run_does fault (inr (found, has, inl (p, (asked, by, fits), ends, leaves, same))) done store keys lanes turns asks = absurd (lanes_asked words asked (Format p) store keys lanes turns by fits asks)
-    run_does fault (inr (found, has, inr (k, by_hand, (asked, by, fits), on))) done store keys lanes turns asks =
-        let (are, same) = lanes_asked words asked (Run k by_hand) store keys lanes turns by fits asks in
-        let its = subst (λ (b : Bool). RunOn ring_kind ring_lives disk (manner beat (not b) k) drawn found old new before mid fault) same on in
-        inr (inr (k, are, inr (found, has, run_done ring_kind ring_quiet ring_lives disk (manner beat (not turns) k) drawn found old new before mid after input status fault its done)))
+      by_trace : (command : Command) (keys : Keys) (traced : Bool) (trace : Option (List ℕ)) → traced ≡ is_some trace → TracedDoes disk flow beat drawn command keys old new before mid was is err traced → (Done : Trace → Trace → Type 0)
+          → ((t u : Trace) → WatchedDoes disk beat drawn command keys old new before mid t u err → Done t u) → ByTrace flow was is before after status trace (first_line (start_for command)) Done old new
+      by_trace command keys false None same (kept, does) Done so = (kept, so blind blind does)
+      by_trace command keys true (Some file) same (inl (none, kept, un)) Done so = let told = untraced_told un in inl (none, kept, told.0, told.1)
+      by_trace command keys true (Some file) same (inr (t, u, has, inl (broken, still, un))) Done so = let told = untraced_told un in inr (t, u, has, inl (broken, still, told.0, told.1))
+      by_trace command keys true (Some file) same (inr (t, u, has, inr (whole, does))) Done so = inr (t, u, has, inr (whole, so t u does))
+      by_trace command keys true None same does Done so = absurd (not_both same)
+        where
+          not_both : true ≡ false → ⊥
+          not_both one = cc one
+      by_trace command keys false (Some file) same does Done so = absurd (not_both same)
+        where
+          not_both : false ≡ true → ⊥
+          not_both one = cc one
+
+      formats_by : (store keys : List ℕ) (numbers : List (List ℕ)) (trace : Option (List ℕ)) (found : Keys) (command : Command) → IsCommandOf (format_asked store keys numbers trace) command → TracedDoes disk flow beat drawn command found old new before mid was is err (traced_of command)
+          → (p : Params) × AreParams numbers p × FormatsBy found p trace
+      formats_by store keys numbers trace found (Format p traced) fits does = (
+        p,
+        fits.0,
+        by_trace (Format p traced) found traced trace fits.1 does (λ t u. FormatDone ring_kind ring_lives disk found p old new before after t u status)
+            (λ t u watched. format_done ring_kind ring_quiet ring_lives disk found p old new before mid after t u status err watched.0 watched.1 watched.2 input done),
+      )
+      formats_by store keys numbers trace found (Run k by_hand traced) fits does = absurd fits
+
+      runs_by : (store keys : List ℕ) (lanes : Option (List ℕ)) (turns : Bool) (trace : Option (List ℕ)) (found : Keys) (command : Command) → IsCommandOf (run_asked store keys lanes turns trace) command → TracedDoes disk flow beat drawn command found old new before mid was is err (traced_of command)
+          → (k : ℕ) × AreLanes lanes k × RunsBy found k turns trace
+      runs_by store keys lanes turns trace found (Run k by_hand traced) (are, same, given) does = (
+        k,
+        are,
+        subst (λ (b : Bool). RunsBy found k b trace) same
+            (by_trace (Run k by_hand traced) found traced trace given does (λ t u. RunDone ring_kind ring_lives disk (manner beat (not by_hand) k) drawn found old new before after t u status)
+            (λ t u on. run_done ring_kind ring_quiet ring_lives disk (manner beat (not by_hand) k) drawn found old new before mid after t u input status err on done)),
+      )
+      runs_by store keys lanes turns trace found (Format p traced) fits does = absurd fits
+
+    pub format_does : (err : Option RunErr) → CommandDoes disk flow beat drawn words text old new before mid was is err → Ended err
+        → (store keys : List ℕ) (numbers : List (List ℕ)) (trace : Option (List ℕ)) → asked_by words ≡ Some (format_asked store keys numbers trace) → FormatTells numbers trace
+    format_does err (inl (f, told, inl refused, kept, same)) done store keys numbers trace asks = early (format_tells Kept kept same words text (Some f) f refl (as_finished mid.output after.output f status err told done) store keys numbers trace refused asks)
+    format_does err (inl (f, told, inr ((command, (asked, by, fits)), bad), kept, same)) done store keys numbers trace asks =
+        let (p, are) = params_at store keys numbers trace command (params_asked words asked command store keys numbers trace by fits asks) in
+        inr (inr (p, are, inl (keys_tell Kept kept same words text (Some f) f refl (as_finished mid.output after.output f status err told done) bad)))
+    format_does err (inr (found, has, (command, (asked, by, fits), does))) done store keys numbers trace asks =
+        let (p, are, its) = formats_by err done store keys numbers trace found command (params_asked words asked command store keys numbers trace by fits asks) does in
+        inr (inr (p, are, inr (found, has, its)))
+
+    pub run_does : (err : Option RunErr) → CommandDoes disk flow beat drawn words text old new before mid was is err → Ended err
+        → (store keys : List ℕ) (lanes : Option (List ℕ)) (turns : Bool) (trace : Option (List ℕ)) → asked_by words ≡ Some (run_asked store keys lanes turns trace) → RunTells lanes turns trace
+    run_does err (inl (f, told, inl refused, kept, same)) done store keys lanes turns trace asks = early (run_tells Kept kept same words text (Some f) f refl (as_finished mid.output after.output f status err told done) store keys lanes turns trace refused asks)
+    run_does err (inl (f, told, inr ((command, (asked, by, fits)), bad), kept, same)) done store keys lanes turns trace asks =
+        let (k, are) = lanes_at store keys lanes turns trace command (lanes_asked words asked command store keys lanes turns trace by fits asks) in
+        inr (inr (k, are, inl (keys_tell Kept kept same words text (Some f) f refl (as_finished mid.output after.output f status err told done) bad)))
+    run_does err (inr (found, has, (command, (asked, by, fits), does))) done store keys lanes turns trace asks =
+        let (k, are, its) = runs_by err done store keys lanes turns trace found command (lanes_asked words asked command store keys lanes turns trace by fits asks) does in
+        inr (inr (k, are, inr (found, has, its)))
 
   -- ---- without one
 
-  module _ (words : List (List ℕ)) (text : Option (Bor (List ℕ))) (fault : Fault) (same : mid ≡ before) (done : IsFinished mid.output after.output (Some fault) status) where
+  module _ (Kept : Type 0) (kept : Kept) (words : List (List ℕ)) (text : Option (Bor (List ℕ))) (fault : Fault) (same : mid ≡ before) (done : IsFinished mid.output after.output (Some fault) status) where
     abbrev Alone : Fault → Type 0
-    Alone f = Unit {0} × IsOnlyTold f before after status
+    Alone f = (Unit {0} × Kept) × IsOnlyTold f before after status
 
     abbrev KeysAlone : Type 0
     KeysAlone = (f : Fault) × IsKeysRefused text f × Alone f
 
     abbrev NoneAlone : Type 0
-    NoneAlone = KeysAlone ⊎ ((keys : Keys) × HasKeys text keys × IsOnlyTold (StoreFault None) before after status)
+    NoneAlone = KeysAlone ⊎ ((keys : Keys) × HasKeys text keys × (Kept × IsOnlyTold (StoreFault None) before after status))
 
     keys_alone : IsKeysRefused text fault → KeysAlone
-    keys_alone bad = keys_tell (Unit {0}) tt same words text (Some fault) fault refl done bad
+    keys_alone bad = keys_tell (Unit {0} × Kept) (tt, kept) same words text (Some fault) fault refl done bad
 
-    none_alone : fault ≡ StoreFault None → IsOnlyTold (StoreFault None) before after status
-    none_alone is = none_told (Unit {0}) tt same words text (Some fault) fault refl done is
+    none_alone : fault ≡ StoreFault None → Kept × IsOnlyTold (StoreFault None) before after status
+    none_alone is = (kept, none_told (Unit {0} × Kept) (tt, kept) same words text (Some fault) fault refl done is)
 
     pub no_store_usage : IsRefusedWithout words text fault → asked_by words ≡ None → Alone Usage ⊎ Alone Memory
-    no_store_usage (inl (inl refused)) nothing = usage_tells (Unit {0}) tt same words text (Some fault) fault refl done refused nothing
+    no_store_usage (inl (inl refused)) nothing = usage_tells (Unit {0} × Kept) (tt, kept) same words text (Some fault) fault refl done refused nothing
     no_store_usage (inl (inr ((command, (asked, by, fits)), bad))) nothing = absurd (nothing_asked words asked nothing by)
     no_store_usage (inr ((command, (asked, by, fits)), has, is)) nothing = absurd (nothing_asked words asked nothing by)
 
     pub no_store_audit : IsRefusedWithout words text fault → asked_by words ≡ Some audit_asked → Alone Memory
-    no_store_audit (inl (inl refused)) asks = audit_tells (Unit {0}) tt same words text (Some fault) fault refl done refused asks
+    no_store_audit (inl (inl refused)) asks = audit_tells (Unit {0} × Kept) (tt, kept) same words text (Some fault) fault refl done refused asks
     no_store_audit (inl (inr (some, bad))) asks = absurd (audit_alone words some asks)
     no_store_audit (inr (some, has, is)) asks = absurd (audit_alone words some asks)
 
     pub no_store_drill : IsRefusedWithout words text fault → (word : List ℕ) → asked_by words ≡ Some (drill_asked word) → Alone Memory ⊎ (IsBadCount word × Alone (BadParams COUNT))
-    no_store_drill (inl (inl refused)) word asks = drill_tells (Unit {0}) tt same words text (Some fault) fault refl done word refused asks
+    no_store_drill (inl (inl refused)) word asks = drill_tells (Unit {0} × Kept) (tt, kept) same words text (Some fault) fault refl done word refused asks
     no_store_drill (inl (inr (some, bad))) word asks = absurd (drill_alone words some word asks)
     no_store_drill (inr (some, has, is)) word asks = absurd (drill_alone words some word asks)
 
-    pub no_store_format : IsRefusedWithout words text fault → (store keys : List ℕ) (numbers : List (List ℕ)) → asked_by words ≡ Some (format_asked store keys numbers)
+    pub no_store_format : IsRefusedWithout words text fault → (store keys : List ℕ) (numbers : List (List ℕ)) (trace : Option (List ℕ)) → asked_by words ≡ Some (format_asked store keys numbers trace)
         → Alone Memory ⊎ (((field : Field) × IsBadNumber numbers field × Alone (BadParams field)) ⊎ ((p : Params) × AreParams numbers p × NoneAlone))
-    no_store_format (inl (inl refused)) store keys numbers asks = early (format_tells (Unit {0}) tt same words text (Some fault) fault refl done store keys numbers refused asks)
-    no_store_format (inl (inr ((command, (asked, by, fits)), bad))) store keys numbers asks =
-        let (p, are) = params_at store keys numbers command (params_asked words asked command store keys numbers by fits asks) in inr (inr (p, are, inl (keys_alone bad)))
-    no_store_format (inr ((command, (asked, by, fits)), (found, has), is)) store keys numbers asks =
-        let (p, are) = params_at store keys numbers command (params_asked words asked command store keys numbers by fits asks) in inr (inr (p, are, inr (found, has, none_alone is)))
+    no_store_format (inl (inl refused)) store keys numbers trace asks = early (format_tells (Unit {0} × Kept) (tt, kept) same words text (Some fault) fault refl done store keys numbers trace refused asks)
+    no_store_format (inl (inr ((command, (asked, by, fits)), bad))) store keys numbers trace asks =
+        let (p, are) = params_at store keys numbers trace command (params_asked words asked command store keys numbers trace by fits asks) in inr (inr (p, are, inl (keys_alone bad)))
+    no_store_format (inr ((command, (asked, by, fits)), (found, has), is)) store keys numbers trace asks =
+        let (p, are) = params_at store keys numbers trace command (params_asked words asked command store keys numbers trace by fits asks) in inr (inr (p, are, inr (found, has, none_alone is)))
 
-    pub no_store_run : IsRefusedWithout words text fault → (store keys : List ℕ) (lanes : Option (List ℕ)) (turns : Bool) → asked_by words ≡ Some (run_asked store keys lanes turns)
+    pub no_store_run : IsRefusedWithout words text fault → (store keys : List ℕ) (lanes : Option (List ℕ)) (turns : Bool) (trace : Option (List ℕ)) → asked_by words ≡ Some (run_asked store keys lanes turns trace)
         → Alone Memory ⊎ ((AreBadLanes lanes × Alone (BadParams LANES)) ⊎ ((k : ℕ) × AreLanes lanes k × NoneAlone))
-    no_store_run (inl (inl refused)) store keys lanes turns asks = early (run_tells (Unit {0}) tt same words text (Some fault) fault refl done store keys lanes turns refused asks)
-    no_store_run (inl (inr ((command, (asked, by, fits)), bad))) store keys lanes turns asks =
-        let (k, are) = lanes_at store keys lanes turns command (lanes_asked words asked command store keys lanes turns by fits asks) in inr (inr (k, are, inl (keys_alone bad)))
-    no_store_run (inr ((command, (asked, by, fits)), (found, has), is)) store keys lanes turns asks =
-        let (k, are) = lanes_at store keys lanes turns command (lanes_asked words asked command store keys lanes turns by fits asks) in inr (inr (k, are, inr (found, has, none_alone is)))
+    no_store_run (inl (inl refused)) store keys lanes turns trace asks = early (run_tells (Unit {0} × Kept) (tt, kept) same words text (Some fault) fault refl done store keys lanes turns trace refused asks)
+    no_store_run (inl (inr ((command, (asked, by, fits)), bad))) store keys lanes turns trace asks =
+        let (k, are) = lanes_at store keys lanes turns trace command (lanes_asked words asked command store keys lanes turns trace by fits asks) in inr (inr (k, are, inl (keys_alone bad)))
+    no_store_run (inr ((command, (asked, by, fits)), (found, has), is)) store keys lanes turns trace asks =
+        let (k, are) = lanes_at store keys lanes turns trace command (lanes_asked words asked command store keys lanes turns trace by fits asks) in inr (inr (k, are, inr (found, has, none_alone is)))

@@ -1,5 +1,5 @@
 -- What can be done is done.
-use Rattle.std.proofs.Common.{◌≡◌, ◌⊎◌, ◌≤◌, ◌+◌, ◌^◌, ℕ, Bool, not, List, length, take, Option, Some, None, refl, subst, inl, inr, arith, ◌∙◌, ⊎_elim, ap, sym}
+use Rattle.std.proofs.Common.{◌≡◌, ◌⊎◌, ◌≤◌, ◌+◌, ◌^◌, ℕ, Bool, true, false, not, List, [], ◌∷◌, length, take, Option, Some, None, refl, subst, inl, inr, arith, ◌∙◌, ⊎_elim, ap, sym}
 use Rattle.std.specs.Borrow.{Bor}
 use Rattle.ob_base.specs.declared.params.Params.{Params}
 use Rattle.ob_base.specs.declared.fault.Fault.{Fault}
@@ -10,6 +10,15 @@ use Rattle.ob_report.specs.Faults.{status_of}
 use Rattle.ob_seal.specs.declared.keys.Keys.{Keys}
 use Rattle.ob_store.specs.Disk.{Disk}
 use Rattle.ob_store.specs.Calls.{IsStoreFault}
+use Rattle.ob_store.specs.Lines.{AddsOnly, BreaksOnly, Trace, lines_of, open_line, start_line}
+use Rattle.ob_store.specs.declared.watch.Note.TheVariants as note
+use Rattle.ob_store.proofs.Serving.{rose_later}
+use Rattle.std.proofs.lemmas.Option.{same_Some}
+use Rattle.ob_io.specs.Streams.{Flow}
+use Rattle.ob_conduct.specs.declared.run_err.RunErr.{RunErr}
+use Rattle.ob_conduct.specs.declared.run_err.RunErr.TheVariants as failed
+use Rattle.ob_top.specs.Endings.{told_fault}
+use Rattle.ob_top.specs.Top.{ByTrace}
 use Rattle.ob_serial.specs.Serial.{EpochRecord}
 use Rattle.ob_serial.specs.Vaults.{VaultCall}
 use Rattle.ob_script.specs.Script.{Scripts, IsScript, IsFirstBad, limit}
@@ -19,7 +28,7 @@ use Rattle.ob_base.specs.declared.fault.Field.{Field}
 use Rattle.ob_base.specs.declared.fault.Field.TheVariants.{LANES}
 use Rattle.ob_words.specs.Reading.{asked_by, format_asked, run_asked}
 use Rattle.ob_words.specs.Work.{AreParams, IsBadNumber, AreLanes, AreBadLanes, HasKeys, IsKeysRefused}
-use Rattle.ob_top.specs.Outside.{Outside, IsOnlyTold}
+use Rattle.ob_top.specs.Outside.{blind, HasTrace, Outside, IsOnlyTold}
 use Rattle.ob_top.specs.Formats.{FormatTold, FormatDone}
 use Rattle.ob_vault.specs.RingKind.{RingMayStop, ring_kind}
 use Rattle.ob_vault.specs.Lives.{ring_lives}
@@ -29,36 +38,41 @@ use Rattle.ob_vault.specs.KindLives.{LifeWords}
 use Rattle.ob_vault.specs.Shapes.{Shape, refused, shapes}
 use Rattle.ob_conduct.specs.Acts.{calls}
 use Rattle.ob_desk.specs.Beats.{BeatKind}
-use Rattle.ob_top.specs.Runs.{Manner, manner, CameIn, IsInputRefused, EndsEarly, EndsFor, Ran, Went, RunDone}
-use Rattle.ob_top.specs.Complete.{CanFormat, CanRun, DoesWhatItCan, StopsFull}
+use Rattle.ob_top.specs.Runs.{Manner, manner, CameIn, IsInputRefused, EndsEarly, EndsFor, Ran, Went, RunDone, begin_notes}
+use Rattle.ob_top.specs.Complete.{CanFormat, CanRun, DoesWhatItCan, StopsFull, TraceHolds}
 use Rattle.ob_vault.proofs.Standing.{ring_keeps}
 use Rattle.ob_top.proofs.Counted.{one_lanes, one_script}
 use Rattle.ob_words.proofs.Named.{no_bad_number, no_bad_lanes, one_keys, keys_stand}
 
 -- ---- format
 
-format_fault : {S : Type 0} (disk : S → Disk) (keys : Keys) (p : Params) (old new : S) (before after : Outside) (f : Option Fault) → FormatTold ring_kind ring_lives disk keys p old new before.output after.output f
-    → (Rose (disk old).faults (disk new).faults → ⊥) → (Rose before.output.faults after.output.faults → ⊥) → (status_of f ≡ 0) ⊎ (status_of f ≡ 9)
-format_fault disk keys p old new before after None told store output = inl refl
-format_fault disk keys p old new before after (Some fault.SinkFault) told store output = absurd (output told.1)
-format_fault disk keys p old new before after (Some (fault.StoreFault unsure)) told store output = absurd (store told.1)
-format_fault disk keys p old new before after (Some fault.Memory) told store output = inr refl
-format_fault disk keys p old new before after (Some fault.Usage) told store output = inr (ap (λ (x : Fault). status_of (Some x)) told.0)
-format_fault disk keys p old new before after (Some (fault.BadScript line)) told store output = inr (ap (λ (x : Fault). status_of (Some x)) told.0)
-format_fault disk keys p old new before after (Some (fault.BadParams field)) told store output = inr (ap (λ (x : Fault). status_of (Some x)) told.0)
-format_fault disk keys p old new before after (Some fault.NotStore) told store output = inr (ap (λ (x : Fault). status_of (Some x)) told.0)
-format_fault disk keys p old new before after (Some (fault.Damaged cell check kept computed)) told store output = inr (ap (λ (x : Fault). status_of (Some x)) told.0)
-format_fault disk keys p old new before after (Some (fault.StashFull rows)) told store output = inr (ap (λ (x : Fault). status_of (Some x)) told.0)
-format_fault disk keys p old new before after (Some (fault.Worn number)) told store output = inr (ap (λ (x : Fault). status_of (Some x)) told.0)
-format_fault disk keys p old new before after (Some fault.SourceFault) told store output = inr (ap (λ (x : Fault). status_of (Some x)) told.0)
+-- a watch that was whole and has broken: its sink's count rose
+rose_added : (text : List ℕ) (t u : Trace) → AddsOnly text t u → t.broken ≡ false → u.broken ≡ true → Rose t.faults u.faults
+rose_added text t u adds whole broken = subst (λ (b : Bool). BreaksOnly false b t.faults u.faults) broken (subst (λ (b : Bool). BreaksOnly b u.broken t.faults u.faults) whole adds.breaks)
+
+format_fault : {S : Type 0} (disk : S → Disk) (keys : Keys) (p : Params) (old new : S) (before after : Outside) (t u : Trace) (f : Option RunErr) → FormatTold ring_kind ring_lives disk keys p old new before.output after.output t u f
+    → (Rose (disk old).faults (disk new).faults → ⊥) → (Rose before.output.faults after.output.faults → ⊥) → (t.broken ≡ false) → (Rose t.faults u.faults → ⊥) → (status_of (told_fault f) ≡ 0) ⊎ (status_of (told_fault f) ≡ 9)
+format_fault disk keys p old new before after t u None told store output whole watch = inl refl
+format_fault disk keys p old new before after t u (Some failed.Unwatched) told store output whole watch = absurd (watch (rose_added (lines_of (ring_kind.format_notes p)) t u told.2.0 whole told.2.1))
+format_fault disk keys p old new before after t u (Some (failed.Fault fault.SinkFault)) told store output whole watch = absurd (output told.1)
+format_fault disk keys p old new before after t u (Some (failed.Fault (fault.StoreFault unsure))) told store output whole watch = absurd (store told.1)
+format_fault disk keys p old new before after t u (Some (failed.Fault fault.Memory)) told store output whole watch = inr refl
+format_fault disk keys p old new before after t u (Some (failed.Fault fault.Usage)) told store output whole watch = inr (ap (λ (x : Fault). status_of (Some x)) told.0)
+format_fault disk keys p old new before after t u (Some (failed.Fault (fault.BadScript line))) told store output whole watch = inr (ap (λ (x : Fault). status_of (Some x)) told.0)
+format_fault disk keys p old new before after t u (Some (failed.Fault (fault.BadParams field))) told store output whole watch = inr (ap (λ (x : Fault). status_of (Some x)) told.0)
+format_fault disk keys p old new before after t u (Some (failed.Fault fault.NotStore)) told store output whole watch = inr (ap (λ (x : Fault). status_of (Some x)) told.0)
+format_fault disk keys p old new before after t u (Some (failed.Fault (fault.Damaged cell check kept computed))) told store output whole watch = inr (ap (λ (x : Fault). status_of (Some x)) told.0)
+format_fault disk keys p old new before after t u (Some (failed.Fault (fault.StashFull rows))) told store output whole watch = inr (ap (λ (x : Fault). status_of (Some x)) told.0)
+format_fault disk keys p old new before after t u (Some (failed.Fault (fault.Worn number))) told store output whole watch = inr (ap (λ (x : Fault). status_of (Some x)) told.0)
+format_fault disk keys p old new before after t u (Some (failed.Fault fault.SourceFault)) told store output whole watch = inr (ap (λ (x : Fault). status_of (Some x)) told.0)
 
 -- ---- run
 
 keys_few : (p : Params) → p.keys ≤ 2 ^ 32
 keys_few p = omega (arith, p.in_range.few_keys)
 
-module _ (store : StoreKind) (laws : AreStandingLaws store) (life : LifeWords store) {S : Type 0} (disk : S → Disk) (words : List (List ℕ)) (text : Option (Bor (List ℕ))) (old new : S) (before after : Outside) (script : Scripts)
-    (can : CanRun words text (disk old) (disk new) before after store script) where
+module _ (store : StoreKind) (laws : AreStandingLaws store) (life : LifeWords store) {S : Type 0} (disk : S → Disk) (words : List (List ℕ)) (text : Option (Bor (List ℕ))) (old new : S) {W : Type 0} (flow : W → Flow) (was is : Option W) (before after : Outside) (script : Scripts)
+    (can : CanRun flow words text (disk old) (disk new) was is before after store script) where
   input_is : (input : List ℕ) → IsInput before.input.bytes limit input → input ≡ take (limit + 1) can.bytes
   input_is input is = subst (λ (b : Option (List ℕ)). IsInput b limit input) can.told is
 
@@ -93,11 +107,13 @@ module _ (store : StoreKind) (laws : AreStandingLaws store) (life : LifeWords st
   by_memory f (inl is) holds = absurd (holds is)
   by_memory f (inr is) holds = ap (λ (x : Fault). status_of (Some x)) is
 
-  early : (most : ℕ) (f : Fault) → EndsEarly store life can.keys most (disk old) (disk new) disk before.input after.input f → status_of (Some f) ≡ 9
-  early most f (inl head) =
+  early : (most : ℕ) (t u : Trace) (f : RunErr) → t.broken ≡ false → (Rose t.faults u.faults → ⊥) → EndsEarly store life can.keys most (disk old) (disk new) t u disk before.input after.input f → status_of (told_fault (Some f)) ≡ 9
+  early most t u failed.Unwatched whole watch (inl head) = absurd (watch (rose_added (lines_of (note.Read 0 ∷ [])) t u head.shown whole head.broken))
+  early most t u failed.Unwatched whole watch (inr opening) = absurd (watch (rose_added (lines_of (begin_notes store opening.p opening.found opening.start)) t u opening.shown whole opening.broken))
+  early most t u (failed.Fault f) whole watch (inl head) =
       absurd (can.store_holds (head.cause (laws.reads_head can.keys can.p ((disk old).cells 0) f (laws.has_head can.keys can.p can.generation (disk old).cells can.at can.stands) head.kind (head.read can.tells))))
-  early most f (inr (inl input)) = input_told input.p.keys f (many_keys input.p input.head) input.refused
-  early most f (inr (inr opening)) =
+  early most t u (failed.Fault f) whole watch (inr (inl input)) = input_told input.p.keys f (many_keys input.p input.head) input.refused
+  early most t u (failed.Fault f) whole watch (inr (inr opening)) =
       by_memory f (laws.opens can.keys can.p can.generation (disk old).cells can.at (length script.txns) f can.stands can.lasts opening.kind
       (subst (λ (q : Params). store.refuses can.keys q (disk old).cells f) (one_p opening.p opening.head) (opening.read can.tells))) (λ is. can.store_holds (opening.cause is))
 
@@ -107,19 +123,21 @@ module _ (store : StoreKind) (laws : AreStandingLaws store) (life : LifeWords st
     pub may : store.may_stop can.p told
     pub status_is : status ≡ status_of (Some told)
     pub records : List (EpochRecord ℕ)
-    pub ran : Ran store life disk by drawn can.keys old new before after records (Some told)
+    pub first : Trace
+    pub last : Trace
+    pub ran : Ran store life disk by drawn can.keys old new before after first last records (Some (failed.Fault told))
 
-  module _ (by : Manner) (drawn : List ℕ) (records : List (EpochRecord ℕ)) where
-    ran_keys : (f : Option Fault) (r : Ran store life disk by drawn can.keys old new before after records f) → r.p.keys ≡ can.p.keys
+  module _ (by : Manner) (drawn : List ℕ) (records : List (EpochRecord ℕ)) (t u : Trace) (whole : t.broken ≡ false) (watch : Rose t.faults u.faults → ⊥) where
+    ran_keys : (f : Option RunErr) (r : Ran store life disk by drawn can.keys old new before after t u records f) → r.p.keys ≡ can.p.keys
     ran_keys f r = many_keys r.p r.opened.head
 
-    ran_epoch : (f : Option Fault) (r : Ran store life disk by drawn can.keys old new before after records f) → store.epoch r.found ≡ can.at.epoch
+    ran_epoch : (f : Option RunErr) (r : Ran store life disk by drawn can.keys old new before after t u records f) → store.epoch r.found ≡ can.at.epoch
     ran_epoch f r = laws.finds can.keys can.p can.generation (disk old).cells can.at r.found can.stands (subst (λ (q : Params). store.finds can.keys q (disk old).cells r.found) (one_p r.p r.opened.head) (r.opened.finds can.tells))
 
-    ran_script : (f : Option Fault) (r : Ran store life disk by drawn can.keys old new before after records f) → r.script ≡ script
+    ran_script : (f : Option RunErr) (r : Ran store life disk by drawn can.keys old new before after t u records f) → r.script ≡ script
     ran_script f r = came_one r.p.keys r.script (ran_keys f r) r.opened.came
 
-    ran_few : (f : Option Fault) (r : Ran store life disk by drawn can.keys old new before after records f) → length records ≤ length script.txns
+    ran_few : (f : Option RunErr) (r : Ran store life disk by drawn can.keys old new before after t u records f) → length records ≤ length script.txns
     ran_few f r =
         let served = r.is_served.served in
         let epochs = few_epochs records served.some in
@@ -127,22 +145,22 @@ module _ (store : StoreKind) (laws : AreStandingLaws store) (life : LifeWords st
         subst (λ (s : Scripts). length records ≤ length s.txns) (ran_script f r) (omega (arith, epochs, txns))
 
     -- what stands was opened, so its map was found
-    ran_map : (f : Option Fault) (r : Ran store life disk by drawn can.keys old new before after records f) → store.is_map can.keys can.p (disk r.between) r.found can.at.content
+    ran_map : (f : Option RunErr) (r : Ran store life disk by drawn can.keys old new before after t u records f) → store.is_map can.keys can.p (disk r.between) r.found can.at.content
     ran_map f r =
         let same = one_p r.p r.opened.head in
         subst (λ (q : Params). store.is_map can.keys q (disk r.between) r.found can.at.content) same
         (r.stood can.at can.tells (can.generation, subst (λ (q : Params). store.stands can.keys q can.generation (disk old).cells can.at) (sym same) can.stands)).content
 
     -- a fault of the kind is one that may stop it even so
-    may_stop : (f : Fault) (r : Ran store life disk by drawn can.keys old new before after records (Some f)) (h : store.Hidden) (so_far : List Shape) (call : Option VaultCall)
+    may_stop : (f : Fault) (r : Ran store life disk by drawn can.keys old new before after t u records (Some (failed.Fault f))) (h : store.Hidden) (so_far : List Shape) (call : Option VaultCall)
         → store.causes can.keys r.p r.found (disk r.between) (disk new) h so_far (length records) call drawn f → store.may_stop can.p f
     may_stop f r h so_far call cause =
         laws.serves can.keys can.p can.generation (length script.txns) (length records) r.found (disk r.between) (disk new) h so_far call drawn f can.at.content
-        (subst (λ e. store.lasts can.p can.generation e (length script.txns)) (sym (ran_epoch (Some f) r)) can.lasts) (ran_few (Some f) r) (ran_map (Some f) r)
+        (subst (λ e. store.lasts can.p can.generation e (length script.txns)) (sym (ran_epoch (Some (failed.Fault f)) r)) can.lasts) (ran_few (Some (failed.Fault f)) r) (ran_map (Some (failed.Fault f)) r)
         (subst (λ (q : Params). store.causes can.keys q r.found (disk r.between) (disk new) h so_far (length records) call drawn f) (one_p r.p r.opened.head) cause)
 
-    ran_fault : (f : Fault) (r : Ran store life disk by drawn can.keys old new before after records (Some f)) (h : store.Hidden) (so_far : List Shape) (call : Option VaultCall)
-        → EndsFor store can.keys r.p r.found (disk r.between) h so_far (length records) call drawn (disk old) (disk new) before.output after.output (Some f)
+    ran_fault : (f : Fault) (r : Ran store life disk by drawn can.keys old new before after t u records (Some (failed.Fault f))) (h : store.Hidden) (so_far : List Shape) (call : Option VaultCall)
+        → EndsFor store can.keys r.p r.found (disk r.between) h so_far (length records) call drawn (disk old) (disk new) before.output after.output t u (Some (failed.Fault f))
         → (status_of (Some f) ≡ 9) ⊎ store.may_stop can.p f
     ran_fault fault.Memory r h so_far call cause = inl refl
     ran_fault fault.SinkFault r h so_far call cause = absurd (can.output_holds cause)
@@ -160,83 +178,113 @@ module _ (store : StoreKind) (laws : AreStandingLaws store) (life : LifeWords st
     abbrev pub Answers : ℕ → Type 0
     Answers status = (status ≡ 0) ⊎ ((status ≡ 9) ⊎ StopsFor by drawn status)
 
-    by_fault : (status : ℕ) (f : Fault) → status ≡ status_of (Some f) → Ran store life disk by drawn can.keys old new before after records (Some f) → (status_of (Some f) ≡ 9) ⊎ store.may_stop can.p f → Answers status
+    by_fault : (status : ℕ) (f : Fault) → status ≡ status_of (Some f) → Ran store life disk by drawn can.keys old new before after t u records (Some (failed.Fault f)) → (status_of (Some f) ≡ 9) ⊎ store.may_stop can.p f → Answers status
     by_fault status f is ran (inl nine) = inr (inl (is ∙ nine))
-    by_fault status f is ran (inr may) = inr (inr (record { told = f; may = may; status_is = is; records = records; ran = ran }))
+    by_fault status f is ran (inr may) = inr (inr (record { told = f; may = may; status_is = is; records = records; first = t; last = u; ran = ran }))
 
-    answers : (status : ℕ) (f : Option Fault) → status ≡ status_of f → Went store life disk by drawn can.keys old new before after records f → Answers status
+    answers : (status : ℕ) (f : Option RunErr) → status ≡ status_of (told_fault f) → Went store life disk by drawn can.keys old new before after t u records f → Answers status
     answers status None is ran = inl is
-    answers status (Some f) is (inl (none, ended, lives)) = inr (inl (is ∙ early by.lanes f ended))
-    answers status (Some f) is (inr ran) = by_fault status f is ran (ran_fault f ran ran.traced.behind (shapes (calls ran.is_served.served.acts)) (refused (calls ran.is_served.served.acts)) ran.cause)
+    answers status (Some f) is (inl (none, ended, lives)) = inr (inl (is ∙ early by.lanes t u f whole watch ended))
+    answers status (Some (failed.Fault f)) is (inr ran) = by_fault status f is ran (ran_fault f ran ran.traced.behind (shapes (calls ran.is_served.served.acts)) (refused (calls ran.is_served.served.acts)) ran.cause)
+    answers status (Some failed.Unwatched) is (inr ran) = absurd (watch ran.cause)
 
-  pub run_answers : (by : Manner) (drawn : List ℕ) (status : ℕ) → RunDone store life disk by drawn can.keys old new before after status → (status ≡ 0) ⊎ ((status ≡ 9) ⊎ StopsFor by drawn status)
-  run_answers by drawn status d = answers by drawn d.records status d.fault d.status_is d.went
+  pub run_answers : (by : Manner) (drawn : List ℕ) (status : ℕ) (t u : Trace) → t.broken ≡ false → (Rose t.faults u.faults → ⊥) → RunDone store life disk by drawn can.keys old new before after t u status → (status ≡ 0) ⊎ ((status ≡ 9) ⊎ StopsFor by drawn status)
+  run_answers by drawn status t u whole watch d = answers by drawn d.records t u whole watch status d.err d.status_is d.went
+
+-- ---- the trace
+
+no_rise : Rose 0 0 → ⊥
+no_rise rose = omega (arith, rose)
+
+none_isnt : {A : Type 0} (x : Option A) (y : A) → x ≡ None → x ≡ Some y → ⊥
+none_isnt x y none some = let both : None ≡ Some y = sym none ∙ some in cc both
+
+module _ {W : Type 0} (flow : W → Flow) (was is : Option W) (first : List ℕ) where
+  -- the count of its sink rose
+  sink_rose : (w v : W) (t u : Trace) → was ≡ Some w → is ≡ Some v → (has : HasTrace flow first was is t u) → Rose has.start.faults u.faults → Rose (flow w).faults (flow v).faults
+  sink_rose w v t u was_is is_is has rose =
+      subst (λ (x : W). Rose (flow x).faults (flow v).faults) (same_Some has.before w (sym has.was_is ∙ was_is))
+      (subst (λ (x : W). Rose (flow has.before).faults (flow x).faults) (same_Some has.after v (sym has.is_is ∙ is_is))
+      (subst (λ n. Rose (flow has.before).faults n) (sym has.told.1) (subst (λ n. Rose n u.faults) (sym has.tells.1) rose)))
+
+module _ {S W : Type 0} (flow : W → Flow) (was is : Option W) (before after : Outside) (status : ℕ) (first : List ℕ) where
+  -- where a trace holds, what was done was under a watch that never broke
+  of_trace : (trace : Option (List ℕ)) (Done : Trace → Trace → Type 0) (old new : S) → TraceHolds flow was is trace → ByTrace flow was is before after status trace first Done old new
+      → (A : Type 0) → ((t u : Trace) → t.broken ≡ false → (Rose t.faults u.faults → ⊥) → Done t u → A) → A
+  of_trace None Done old new holds (kept, done) A so = so blind blind refl no_rise done
+  of_trace (Some file) Done old new (w, v, was_is, is_is, holds) (inl (none, kept, same, told)) A so = absurd (none_isnt was w none was_is)
+  of_trace (Some file) Done old new (w, v, was_is, is_is, holds) (inr (t, u, has, inl (broken, same, kept, told))) A so =
+      absurd (holds (sink_rose flow was is first w v t u was_is is_is has (subst (λ (x : Trace). Rose has.start.faults x.faults) (sym same) (rose_added first has.start t has.line has.whole broken))))
+  of_trace (Some file) Done old new (w, v, was_is, is_is, holds) (inr (t, u, has, inr (whole, done))) A so =
+      so t u whole (λ rose. holds (sink_rose flow was is first w v t u was_is is_is has (rose_later has.start.faults t.faults u.faults has.line.faults rose))) done
 
 -- ---- both
 
-module _ {S : Type 0} (disk : S → Disk) (beat : BeatKind) (drawn : List ℕ) (words : List (List ℕ)) (text : Option (Bor (List ℕ))) (old new : S) (before after : Outside) (status : ℕ) where
+module _ {S W : Type 0} (disk : S → Disk) (flow : W → Flow) (beat : BeatKind) (drawn : List ℕ) (words : List (List ℕ)) (text : Option (Bor (List ℕ))) (old new : S) (was is : Option W) (before after : Outside) (status : ℕ) where
   abbrev pub Tell : Fault → Type 0
-  Tell f = (new ≡ old) × IsOnlyTold f before after status
+  Tell f = ((new ≡ old) × (is ≡ was)) × IsOnlyTold f before after status
 
   -- what is told of keys
   abbrev pub KeysTell : Type 0
   KeysTell = (f : Fault) × IsKeysRefused text f × Tell f
 
-  abbrev pub FormatTells : List (List ℕ) → Type 0
-  FormatTells numbers = Tell fault.Memory ⊎ (((field : Field) × IsBadNumber numbers field × Tell (fault.BadParams field))
-      ⊎ ((p : Params) × AreParams numbers p × (KeysTell ⊎ ((keys : Keys) × HasKeys text keys × FormatDone ring_kind ring_lives disk keys p old new before after status))))
+  abbrev pub FormatTells : List (List ℕ) → Option (List ℕ) → Type 0
+  FormatTells numbers trace = Tell fault.Memory ⊎ (((field : Field) × IsBadNumber numbers field × Tell (fault.BadParams field))
+      ⊎ ((p : Params) × AreParams numbers p × (KeysTell ⊎ ((keys : Keys) × HasKeys text keys × ByTrace flow was is before after status trace (start_line p) (λ t u. FormatDone ring_kind ring_lives disk keys p old new before after t u status) old new))))
 
-  abbrev pub RunTells : Option (List ℕ) → Bool → Type 0
-  RunTells lanes turns = Tell fault.Memory ⊎ ((AreBadLanes lanes × Tell (fault.BadParams LANES))
-      ⊎ ((k : ℕ) × AreLanes lanes k × (KeysTell ⊎ ((keys : Keys) × HasKeys text keys × RunDone ring_kind ring_lives disk (manner beat (not turns) k) drawn keys old new before after status))))
+  abbrev pub RunTells : Option (List ℕ) → Bool → Option (List ℕ) → Type 0
+  RunTells lanes turns trace = Tell fault.Memory ⊎ ((AreBadLanes lanes × Tell (fault.BadParams LANES))
+      ⊎ ((k : ℕ) × AreLanes lanes k × (KeysTell ⊎ ((keys : Keys) × HasKeys text keys × ByTrace flow was is before after status trace open_line (λ t u. RunDone ring_kind ring_lives disk (manner beat (not turns) k) drawn keys old new before after t u status) old new))))
 
-  format_whole : (can : CanFormat words text (disk old) (disk new) before after) → FormatTells can.numbers → (status ≡ 0) ⊎ (status ≡ 9)
+  format_whole : (can : CanFormat flow words text (disk old) (disk new) was is before after) → FormatTells can.numbers can.trace → (status ≡ 0) ⊎ (status ≡ 9)
   format_whole can (inl (kept, told)) = inr told.status_is
   format_whole can (inr (inl (field, bad, (kept, told)))) = absurd (no_bad_number can.numbers can.p field can.params bad)
   format_whole can (inr (inr (p, are, inl (f, refused, (kept, told))))) = absurd (keys_stand text can.keys f can.has refused)
-  format_whole can (inr (inr (p, are, inr (keys, has, d)))) = ⊎_elim (λ none. inl (d.status_is ∙ none)) (λ nine. inr (d.status_is ∙ nine)) (format_fault disk keys p old new before after d.fault d.told can.store_holds can.output_holds)
+  format_whole can (inr (inr (p, are, inr (keys, has, by)))) = of_trace flow was is before after status (start_line p) can.trace (λ t u. FormatDone ring_kind ring_lives disk keys p old new before after t u status) old new can.trace_holds by ((status ≡ 0) ⊎ (status ≡ 9))
+      (λ t u whole watch d. ⊎_elim (λ none. inl (d.status_is ∙ none)) (λ nine. inr (d.status_is ∙ nine)) (format_fault disk keys p old new before after t u d.err d.told can.store_holds can.output_holds whole watch))
 
-  module _ (script : Scripts) (can : CanRun words text (disk old) (disk new) before after ring_kind script) where
+  module _ (script : Scripts) (can : CanRun flow words text (disk old) (disk new) was is before after ring_kind script) where
     abbrev by : Manner
     by = manner beat (not can.turns) can.k
 
     abbrev Full : Type 0
-    Full = StopsFull disk beat drawn words text before after status by can.keys can.p old new
+    Full = StopsFull disk flow beat drawn words text was is before after status by can.keys can.p old new
 
-    by_stop : (f : Fault) → RingMayStop can.p f → status ≡ status_of (Some f) → (records : List (EpochRecord ℕ)) → Ran ring_kind ring_lives disk by drawn can.keys old new before after records (Some f) → Full
-    by_stop (fault.StashFull rows) (past, few) is records ran = record { status_is = is; fewer = omega (arith, past, few); records = records; rows = rows; ran = ran }
-    by_stop fault.Memory may is records ran = absurd may
-    by_stop fault.Usage may is records ran = absurd may
-    by_stop (fault.BadScript line) may is records ran = absurd may
-    by_stop (fault.BadParams field) may is records ran = absurd may
-    by_stop fault.NotStore may is records ran = absurd may
-    by_stop (fault.Damaged cell check kept computed) may is records ran = absurd may
-    by_stop (fault.StoreFault unsure) may is records ran = absurd may
-    by_stop (fault.Worn number) may is records ran = absurd may
-    by_stop fault.SourceFault may is records ran = absurd may
-    by_stop fault.SinkFault may is records ran = absurd may
+    by_stop : (f : Fault) → RingMayStop can.p f → status ≡ status_of (Some f) → (records : List (EpochRecord ℕ)) (t u : Trace) → Ran ring_kind ring_lives disk by drawn can.keys old new before after t u records (Some (failed.Fault f)) → Full
+    by_stop (fault.StashFull rows) (past, few) is records t u ran = record { status_is = is; fewer = omega (arith, past, few); records = records; rows = rows; first = t; last = u; ran = ran }
+    by_stop fault.Memory may is records t u ran = absurd may
+    by_stop fault.Usage may is records t u ran = absurd may
+    by_stop (fault.BadScript line) may is records t u ran = absurd may
+    by_stop (fault.BadParams field) may is records t u ran = absurd may
+    by_stop fault.NotStore may is records t u ran = absurd may
+    by_stop (fault.Damaged cell check kept computed) may is records t u ran = absurd may
+    by_stop (fault.StoreFault unsure) may is records t u ran = absurd may
+    by_stop (fault.Worn number) may is records t u ran = absurd may
+    by_stop fault.SourceFault may is records t u ran = absurd may
+    by_stop fault.SinkFault may is records t u ran = absurd may
 
     abbrev Stopped : Type 0
-    Stopped = StopsFor ring_kind ring_keeps ring_lives disk words text old new before after script can by drawn status
+    Stopped = StopsFor ring_kind ring_keeps ring_lives disk words text old new flow was is before after script can by drawn status
 
     by_answer : (status ≡ 0) ⊎ ((status ≡ 9) ⊎ Stopped) → (status ≡ 0) ⊎ ((status ≡ 9) ⊎ Full)
     by_answer (inl none) = inl none
     by_answer (inr (inl nine)) = inr (inl nine)
-    by_answer (inr (inr s)) = inr (inr (by_stop s.told s.may s.status_is s.records s.ran))
+    by_answer (inr (inr s)) = inr (inr (by_stop s.told s.may s.status_is s.records s.first s.last s.ran))
 
-    run_whole : RunTells can.lanes can.turns → (status ≡ 0) ⊎ ((status ≡ 9) ⊎ Full)
+    run_whole : RunTells can.lanes can.turns can.trace → (status ≡ 0) ⊎ ((status ≡ 9) ⊎ Full)
     run_whole (inl (kept, told)) = inr (inl told.status_is)
     run_whole (inr (inl (bad, (kept, told)))) = absurd (no_bad_lanes can.lanes can.k can.in_range bad)
     run_whole (inr (inr (k, are, inl (f, refusal, (kept, told))))) = absurd (keys_stand text can.keys f can.has refusal)
-    run_whole (inr (inr (k, are, inr (keys, has, d)))) =
-        by_answer (run_answers ring_kind ring_keeps ring_lives disk words text old new before after script can by drawn status
-        (subst (λ (k : Keys). RunDone ring_kind ring_lives disk by drawn k old new before after status) (one_keys text keys can.keys has can.has)
-        (subst (λ m. RunDone ring_kind ring_lives disk (manner beat (not can.turns) m) drawn keys old new before after status) (one_lanes can.lanes k can.k are can.in_range) d)))
+    run_whole (inr (inr (k, are, inr (keys, has, done)))) = of_trace flow was is before after status open_line can.trace (λ t u. RunDone ring_kind ring_lives disk (manner beat (not can.turns) k) drawn keys old new before after t u status) old new can.trace_holds done
+        ((status ≡ 0) ⊎ ((status ≡ 9) ⊎ Full)) (λ t u whole watch d.
+        by_answer (run_answers ring_kind ring_keeps ring_lives disk words text old new flow was is before after script can by drawn status t u whole watch
+        (subst (λ (k : Keys). RunDone ring_kind ring_lives disk by drawn k old new before after t u status) (one_keys text keys can.keys has can.has)
+        (subst (λ m. RunDone ring_kind ring_lives disk (manner beat (not can.turns) m) drawn keys old new before after t u status) (one_lanes can.lanes k can.k are can.in_range) d))))
 
-  pub completes : ((store keys : List ℕ) (numbers : List (List ℕ)) → asked_by words ≡ Some (format_asked store keys numbers) → FormatTells numbers)
-      → ((store keys : List ℕ) (lanes : Option (List ℕ)) (turns : Bool) → asked_by words ≡ Some (run_asked store keys lanes turns) → RunTells lanes turns)
-      → DoesWhatItCan disk beat drawn words text before after status old new
+  pub completes : ((store keys : List ℕ) (numbers : List (List ℕ)) (trace : Option (List ℕ)) → asked_by words ≡ Some (format_asked store keys numbers trace) → FormatTells numbers trace)
+      → ((store keys : List ℕ) (lanes : Option (List ℕ)) (turns : Bool) (trace : Option (List ℕ)) → asked_by words ≡ Some (run_asked store keys lanes turns trace) → RunTells lanes turns trace)
+      → DoesWhatItCan disk flow beat drawn words text was is before after status old new
   completes format run = (
-    λ can. format_whole can (format can.store_path can.keys_path can.numbers can.asked),
-    λ script can. run_whole script can (run can.store_path can.keys_path can.lanes can.turns can.asked),
+    λ can. format_whole can (format can.store_path can.keys_path can.numbers can.trace can.asked),
+    λ script can. run_whole script can (run can.store_path can.keys_path can.lanes can.turns can.trace can.asked),
   )

@@ -11,6 +11,7 @@ use Rattle.ob_recover.specs.declared.found.Found.{Found}
 use Rattle.ob_seal.specs.declared.keys.Keys.{Keys}
 use Rattle.ob_start.specs.Heads.{numbers_of}
 use Rattle.ob_store.specs.Calls.{GoesOn, IsStoreFault}
+use Rattle.ob_store.specs.declared.watch.Note.{Note}
 use Rattle.ob_store.specs.Disk.{Clock, Disk, Image, NotAfter}
 use Rattle.ob_serial.specs.Vaults.{VaultCall, Fetch, End, VaultAnswer, Values, Ended, RefusedBy, DoubtBy, VaultCounts, VaultState, IsAnswer, counts_of}
 use Rattle.std.specs.Ordering.{nat_cmp}
@@ -39,11 +40,12 @@ use Rattle.ob_outcomes.proofs.Counting.{few_epochs, few_txns}
 use Rattle.ob_drill.specs.Reading.{ChangesNone, IsRefusal}
 use Rattle.ob_top.specs.Drilling.{DrillFails, IsWant, no_output}
 use Rattle.ob_top.specs.Drills.{drill_numbers}
+use Rattle.ob_top.specs.Outside.{blind}
 use Rattle.ob_top.proofs.Lent.{IsLent, rest_same, serves_lent}
 use Rattle.ob_top.proofs.RingServing.{at_rest, at_stop, tells}
 use Rattle.ob_top.proofs.SelfTest.{holds_behind, its, its_length, keys_are, reads_called}
 use Rattle.ob_top.proofs.Serving.{behind, counted_ends}
-use Rattle.ob_top.proofs.Wanting.{call_wants, chained, few_ended, reads_answered, run_wants}
+use Rattle.ob_top.proofs.Wanting.{blind_chain, call_wants, chained, few_ended, reads_answered, run_wants}
 
 ended_join : (xs ys : List (VaultCall × VaultAnswer)) → length (ended_of (xs ++ ys)) ≤ length (ended_of xs) + length ys
 ended_join [] ys = let f = few_ended ys in omega (arith, f)
@@ -79,38 +81,40 @@ module _ {V S : Type 0} (k : Kind V) (counts : V → VaultCounts) (agrees : (x :
   refused_behind : (steps : List (VaultCall × VaultAnswer)) (mid : V) → AllCalled k first steps mid → AreAnswered steps → length (ended_of steps) ≤ 20000 → (call : VaultCall) (answer : VaultAnswer) (last : V) (fault : Fault) → Called k mid call answer last → ChangesNone call → IsRefusal fault answer
       → (fault ≡ Memory) ⊎ IsStoreFault fault
   refused_behind steps mid chain all few call answer last fault one none_changed is =
+      let noted = blind_chain k first steps mid chain in
       let b = behind k ring_kind disk (λ v. (runs v).store) keys 4 p f first At (λ v. (runs v).drawn) (ring_does k disk runs words keys 4 p f opened) (tells k disk counts_now only_now runs words keys 4 p f first) ring_lives (at_rest k disk counts_now only_now runs words keys 4 p f first)
-      (at_stop k disk counts_now only_now runs words keys 4 p f first) (ring_public p f) (ring_hidden f) [] 0 first steps mid begun chain all in
+      (at_stop k disk counts_now only_now runs words keys 4 p f first) (ring_public p f) (ring_hidden f) [] 0 first blind steps noted.0 mid blind begun noted.1 all in
       let does = ring_does k disk runs words keys 4 p f opened _ b.kept ([] ++ shapes steps) (0 + length (ended_of steps)) mid call answer last b.at one in
       let (u, holds, serving) = b.at.held empty is_map in
-      by_call _ u.content b.kept ([] ++ shapes steps) (0 + length (ended_of steps)) (omega (arith, few)) call answer none_changed is does (one.answered u holds)
+      by_call one.notes _ u.content b.kept ([] ++ shapes steps) (0 + length (ended_of steps)) (omega (arith, few)) call answer none_changed is does (one.answered u holds)
     where
-      by_call : (q : RingPublic) (m : Map nat_cmp) (h : RingHidden) (so_far : List Shape) (n : ℕ) → n ≤ 20000 → (call : VaultCall) (answer : VaultAnswer) → ChangesNone call → IsRefusal fault answer
-          → IsCallOfKind ring_kind keys 4 p f opened At (disk (runs mid).store) (disk (runs last).store) (runs last).drawn last q h so_far n call answer → IsAnswer m call answer → (fault ≡ Memory) ⊎ IsStoreFault fault
-      by_call q m h so_far n few (Fetch asks) (RefusedBy other) none_changed is does right = subst (λ (x : Fault). (x ≡ Memory) ⊎ IsStoreFault x) is (call_wants p numbers keys f opened (disk (runs last).store) begins is_map h so_far n (Fetch asks) (runs last).drawn other few does.why)
-      by_call q m h so_far n few (End writes) (RefusedBy other) none_changed is does right = subst (λ (x : Fault). (x ≡ Memory) ⊎ IsStoreFault x) is (call_wants p numbers keys f opened (disk (runs last).store) begins is_map h so_far n (End writes) (runs last).drawn other few does.why)
-      by_call q m h so_far n few (End writes) (DoubtBy other) none_changed is does right = subst (λ (x : Fault). (x ≡ Memory) ⊎ IsStoreFault x) is (call_wants p numbers keys f opened (disk (runs last).store) begins is_map h so_far n (End writes) (runs last).drawn other few does.why)
-      by_call q m h so_far n few (Fetch asks) (DoubtBy other) none_changed is does right = absurd right
-      by_call q m h so_far n few (Fetch asks) (Values values) none_changed is does right = absurd is
-      by_call q m h so_far n few (Fetch asks) Ended none_changed is does right = absurd is
-      by_call q m h so_far n few (End writes) (Values values) none_changed is does right = absurd is
-      by_call q m h so_far n few (End writes) Ended none_changed is does right = absurd is
+      by_call : (notes : List Note) (q : RingPublic) (m : Map nat_cmp) (h : RingHidden) (so_far : List Shape) (n : ℕ) → n ≤ 20000 → (call : VaultCall) (answer : VaultAnswer) → ChangesNone call → IsRefusal fault answer
+          → IsCallOfKind ring_kind keys 4 p f opened At (disk (runs mid).store) (disk (runs last).store) (runs last).drawn last notes q h so_far n call answer → IsAnswer m call answer → (fault ≡ Memory) ⊎ IsStoreFault fault
+      by_call notes q m h so_far n few (Fetch asks) (RefusedBy other) none_changed is does right = subst (λ (x : Fault). (x ≡ Memory) ⊎ IsStoreFault x) is (call_wants p numbers keys f opened (disk (runs last).store) begins is_map h so_far n (Fetch asks) (runs last).drawn other few does.why)
+      by_call notes q m h so_far n few (End writes) (RefusedBy other) none_changed is does right = subst (λ (x : Fault). (x ≡ Memory) ⊎ IsStoreFault x) is (call_wants p numbers keys f opened (disk (runs last).store) begins is_map h so_far n (End writes) (runs last).drawn other few does.why)
+      by_call notes q m h so_far n few (End writes) (DoubtBy other) none_changed is does right = subst (λ (x : Fault). (x ≡ Memory) ⊎ IsStoreFault x) is (call_wants p numbers keys f opened (disk (runs last).store) begins is_map h so_far n (End writes) (runs last).drawn other few does.why)
+      by_call notes q m h so_far n few (Fetch asks) (DoubtBy other) none_changed is does right = absurd right
+      by_call notes q m h so_far n few (Fetch asks) (Values values) none_changed is does right = absurd is
+      by_call notes q m h so_far n few (Fetch asks) Ended none_changed is does right = absurd is
+      by_call notes q m h so_far n few (End writes) (Values values) none_changed is does right = absurd is
+      by_call notes q m h so_far n few (End writes) Ended none_changed is does right = absurd is
 
   module _ (beat : BeatKind) (n : ℕ) (few : n ≤ 10000) (script : Scripts) (script_is : script ≡ drill_script n) (runners : List ScriptRunner) (are : AreRunners script runners) where
     many_txns : length script.txns ≡ n
     many_txns = ap (λ (s : Scripts). length s.txns) script_is ∙ its_length n
 
     pub drill_wants : (last : V) (fault : Fault) → DrillFails k counts beat p script runners first last fault → (fault ≡ Memory) ⊎ IsStoreFault fault
-    drill_wants last fault (inl (at, err, run, same)) =
-        let s = serves_lent first k beat true p script run.before runners no_output last at run.ran no_output (Err err) _ _ (run.desk, run.by) run.whole (subst AreSound (sym script_is) (drill_sound n)) are disk counts_now only_now runs words lent keys 4 found f f.run goes run_is refl epoch_is left_is
+    drill_wants last fault (inl (err, run, same)) =
+        let s = serves_lent first k beat true p script blind runners no_output last blind run.ran no_output (Err err) _ _ (run.desk, run.by) refl (subst AreSound (sym script_is) (drill_sound n)) are disk counts_now only_now runs words lent keys 4 found f f.run goes run_is refl epoch_is left_is
         (omega (arith, begins)) (omega (arith, left)) lanes (omega arith, omega arith) has none in
         let epochs = few_epochs s.records s.is_served.served.some in
         let txns = few_txns script.txns s.records s.is_served.served.first in
-        subst (λ (x : Fault). (x ≡ Memory) ⊎ IsStoreFault x) (sym same) (run_wants p numbers keys f opened (disk (runs last).store) begins is_map s.traced.behind (shapes (calls s.is_served.served.acts)) (length s.records) (refused (calls s.is_served.served.acts)) (runs last).drawn opened (fault_of err) (omega (arith, epochs, txns, many_txns, few)) s.cause)
-    drill_wants last fault (inr (mid, at, after, run, inl (memory, reads))) = inl memory
-    drill_wants last fault (inr (mid, at, after, run, inr r)) =
-        let i = its k counts agrees p numbers n few beat script script_is first (epoch_is ∙ ap (λ (x : Run). x.epoch) run_is ∙ begins) (left_is ∙ ap (λ (x : Run). x.left) run_is ∙ left) runners are (held_with f.run empty) held refl mid at run in
-        let read = reads_called k mid at r.behind.steps r.mid r.at r.behind.chain in
+        subst (λ (x : Fault). (x ≡ Memory) ⊎ IsStoreFault x) (sym same) (run_wants p numbers keys f opened (disk (runs last).store) begins is_map s.traced.behind (shapes (calls s.is_served.served.acts)) (length s.records)
+        (refused (calls s.is_served.served.acts)) (runs last).drawn opened err (omega (arith, epochs, txns, many_txns, few)) s.cause)
+    drill_wants last fault (inr (mid, run, inl (memory, reads))) = inl memory
+    drill_wants last fault (inr (mid, run, inr r)) =
+        let i = its k counts agrees p numbers n few beat script script_is first (epoch_is ∙ ap (λ (x : Run). x.epoch) run_is ∙ begins) (left_is ∙ ap (λ (x : Run). x.left) run_is ∙ left) runners are (held_with f.run empty) held refl mid run in
+        let read = reads_called k mid blind r.behind.steps r.mid r.at r.behind.chain in
         let ends = counted_ends (ended_of (calls i.acts)) (records i.acts) i.wrote in
         let joined = ended_join (calls i.acts) r.behind.steps in
         let short = r.behind.few in

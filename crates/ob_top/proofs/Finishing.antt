@@ -17,22 +17,24 @@ use Rattle.ob_report.specs.Faults.{fault_line, status_of}
 use Rattle.ob_report.specs.Sizes.{size_line}
 use Rattle.ob_store.specs.Disk.{Disk}
 use Rattle.ob_store.specs.Images.{LeavesOnly}
-use Rattle.ob_store.specs.Calls.{NotesFirst, IsStoreFault}
+use Rattle.ob_store.specs.Lines.{Trace}
+use Rattle.ob_conduct.specs.declared.run_err.RunErr.{RunErr}
+use Rattle.ob_conduct.specs.declared.run_err.RunErr.TheVariants as failed
 use Rattle.ob_store.proofs.Serving.{rose_later}
 use Rattle.ob_serial.specs.Serial.{EpochRecord}
 use Rattle.ob_serial.specs.Vaults.{VaultCall}
-use Rattle.ob_top.specs.Outside.{Outside, LineTold, IsFinished}
+use Rattle.ob_top.specs.Outside.{Outside, ErrTold, IsEnded}
 use Rattle.ob_top.specs.Formats.{FormatEnds, FormatTold, FormatDone}
 use Rattle.ob_vault.specs.Kinds.{StoreKind}
 use Rattle.ob_vault.specs.KindLives.{LifeWords}
 use Rattle.ob_vault.specs.Shapes.{Shape, refused, shapes}
 use Rattle.ob_conduct.specs.Acts.{calls}
-use Rattle.ob_top.specs.Endings.{LinesStand}
+use Rattle.ob_top.specs.Endings.{LinesStand, told_fault}
 use Rattle.ob_top.specs.Runs.{Manner, EndsEarly, EndsFor, Ran, Went, RunOn, RunDone}
 use Rattle.ob_top.proofs.Lines.{cut_printed}
 use Rattle.ob_top.specs.Sound.{StandsOn}
 use Rattle.ob_top.proofs.Running.{IsQuiet}
-use Rattle.ob_top.proofs.Sounding.{formatted_sound, none_at_0}
+use Rattle.ob_top.proofs.Sounding.{formatted_sound, none_told_at_0}
 
 -- a text behind one that is whole
 behind : (before mid after : Flow) (text more : List ℕ) → mid.bytes ≡ appended before.bytes text → before.faults ≤ mid.faults → IsPrinted mid after more → IsPrinted before after (text ++ more)
@@ -56,20 +58,14 @@ front before after text more p rose = record {
 }
 
 module _ (store : StoreKind) (quiet : IsQuiet store) (life : LifeWords store) where
-  -- a store that failed while it was made
-  pub format_failed : {S : Type 0} (disk : S → Disk) (keys : Keys) (p : Params) (old new : S) (before : Flow) (fault : Fault) → fault ≡ StoreFault None → (IsStoreFault fault → Rose (disk old).faults (disk new).faults) → NotesFirst (store.format_order p) (disk old).seen (disk new).seen
-      → FormatEnds store life disk keys p old new before before (Some fault)
-  format_failed disk keys p old new before fault is cause seen =
-      subst (λ (f : Fault). FormatEnds store life disk keys p old new before before (Some f)) (sym is) (refl, cause (subst IsStoreFault (sym is) tt), seen, refl)
+  module _ {S : Type 0} (disk : S → Disk) (by : Manner) (words : List ℕ) (keys : Keys) (old new : S) (before mid after : Outside) (t u : Trace) (input : after.input ≡ mid.input) where
+    early_on : (err : RunErr) → EndsEarly store life keys by.lanes (disk old) (disk new) t u disk before.input mid.input err → EndsEarly store life keys by.lanes (disk old) (disk new) t u disk before.input after.input err
+    early_on err early = subst (λ (f : Flow). EndsEarly store life keys by.lanes (disk old) (disk new) t u disk before.input f err) (sym input) early
 
-  module _ {S : Type 0} (disk : S → Disk) (by : Manner) (words : List ℕ) (keys : Keys) (old new : S) (before mid after : Outside) (input : after.input ≡ mid.input) where
-    early_on : (fault : Fault) → EndsEarly store life keys by.lanes (disk old) (disk new) disk before.input mid.input fault → EndsEarly store life keys by.lanes (disk old) (disk new) disk before.input after.input fault
-    early_on fault early = subst (λ (f : Flow). EndsEarly store life keys by.lanes (disk old) (disk new) disk before.input f fault) (sym input) early
-
-    ran_on : (records : List (EpochRecord ℕ)) (fault : Option Fault) (r : Ran store life disk by words keys old new before mid records fault) → EndsFor store keys r.p r.found (disk r.between) r.traced.behind (shapes (calls r.is_served.served.acts))
-        (length records) (refused (calls r.is_served.served.acts)) words (disk old) (disk new) before.output after.output
-        fault → Ran store life disk by words keys old new before after records fault
-    ran_on records fault r cause = record {
+    ran_on : (records : List (EpochRecord ℕ)) (err : Option RunErr) (r : Ran store life disk by words keys old new before mid t u records err) → EndsFor store keys r.p r.found (disk r.between) r.traced.behind (shapes (calls r.is_served.served.acts))
+        (length records) (refused (calls r.is_served.served.acts)) words (disk old) (disk new) before.output after.output t u
+        err → Ran store life disk by words keys old new before after t u records err
+    ran_on records err r cause = record {
       p = r.p;
       script = r.script;
       found = r.found;
@@ -83,6 +79,11 @@ module _ (store : StoreKind) (quiet : IsQuiet store) (life : LifeWords store) wh
       seen = r.seen;
       opening_seen = r.opening_seen;
       serving_seen = r.serving_seen;
+      midway = r.midway;
+      opening_shown = r.opening_shown;
+      whole_midway = r.whole_midway;
+      shown = r.shown;
+      watched = r.watched;
       opens = r.opens;
       tells = r.tells;
       stood = r.stood;
@@ -93,11 +94,11 @@ module _ (store : StoreKind) (quiet : IsQuiet store) (life : LifeWords store) wh
     }
 
     module _ (status : ℕ) where
-      done_whole : (r : RunOn store life disk by words keys old new before mid None) → IsFinished mid.output after.output None status → RunDone store life disk by words keys old new before after status
+      done_whole : (r : RunOn store life disk by words keys old new before mid t u None) → IsEnded mid.output after.output None status → RunDone store life disk by words keys old new before after t u status
       done_whole r f =
           let bytes : after.output.bytes ≡ appended before.output.bytes (report decimal r.records) = ap (λ (o : Flow). o.bytes) f.line ∙ r.lines.0.bytes in
           record {
-            fault = None;
+            err = None;
             status_is = f.status_is;
             records = r.records;
             output_is = whole before.output after.output (report decimal r.records ++ []) (bytes ∙ ap (λ (l : List ℕ). appended before.output.bytes l) (sym (append-nil (report decimal r.records))));
@@ -110,19 +111,19 @@ module _ (store : StoreKind) (quiet : IsQuiet store) (life : LifeWords store) wh
             sound = r.sound;
           }
 
-      sink_rose : (records : List (EpochRecord ℕ)) → Went store life disk by words keys old new before mid records (Some SinkFault) → Rose before.output.faults mid.output.faults
+      sink_rose : (records : List (EpochRecord ℕ)) → Went store life disk by words keys old new before mid t u records (Some (failed.Fault SinkFault)) → Rose before.output.faults mid.output.faults
       sink_rose records (inl (none, inl head, lives)) = absurd (quiet.head head.kind)
       sink_rose records (inl (none, inr (inl input), lives)) = absurd input.refused
       sink_rose records (inl (none, inr (inr opening), lives)) = absurd (quiet.opening opening.kind)
       sink_rose records (inr ran) = ran.cause
 
-      sink_went : (records : List (EpochRecord ℕ)) → after.output ≡ mid.output → Went store life disk by words keys old new before mid records (Some SinkFault) → Went store life disk by words keys old new before after records (Some SinkFault)
-      sink_went records same (inl (none, early, lives)) = inl (none, early_on SinkFault early, lives)
-      sink_went records same (inr ran) = inr (ran_on records (Some SinkFault) ran (subst (λ (f : Flow). Rose before.output.faults f.faults) (sym same) ran.cause))
+      sink_went : (records : List (EpochRecord ℕ)) → after.output ≡ mid.output → Went store life disk by words keys old new before mid t u records (Some (failed.Fault SinkFault)) → Went store life disk by words keys old new before after t u records (Some (failed.Fault SinkFault))
+      sink_went records same (inl (none, early, lives)) = inl (none, early_on (failed.Fault SinkFault) early, lives)
+      sink_went records same (inr ran) = inr (ran_on records (Some (failed.Fault SinkFault)) ran (subst (λ (f : Flow). Rose before.output.faults f.faults) (sym same) ran.cause))
 
-      done_sink : (r : RunOn store life disk by words keys old new before mid (Some SinkFault)) → IsFinished mid.output after.output (Some SinkFault) status → RunDone store life disk by words keys old new before after status
+      done_sink : (r : RunOn store life disk by words keys old new before mid t u (Some (failed.Fault SinkFault))) → IsEnded mid.output after.output (Some (failed.Fault SinkFault)) status → RunDone store life disk by words keys old new before after t u status
       done_sink r f = record {
-        fault = Some SinkFault;
+        err = Some (failed.Fault SinkFault);
         status_is = f.status_is;
         records = r.records;
         output_is = subst (λ (o : Flow). IsPrinted before.output o (report decimal r.records ++ fault_line (Some SinkFault))) (sym f.line)
@@ -136,19 +137,19 @@ module _ (store : StoreKind) (quiet : IsQuiet store) (life : LifeWords store) wh
         sound = r.sound;
       }
         where
-          no_fault : Some SinkFault ≡ None → ⊥
+          no_fault : ◌≡◌ {A = Option RunErr} (Some (failed.Fault SinkFault)) None → ⊥
           no_fault is = cc is
 
-      -- any other fault, behind the whole report
-      done_other : (fault : Fault) (records : List (EpochRecord ℕ)) (whole : ℕ) → LinesStand (Some fault) records whole before.output mid.output → LineTold mid.output after.output (Some fault)
-          → mid.output.bytes ≡ appended before.output.bytes (report decimal records) → before.output.faults ≤ mid.output.faults → IsPrinted mid.output after.output (fault_line (Some fault)) → status ≡ status_of (Some fault)
-          → Went store life disk by words keys old new before after records (Some fault) → StandsOn store disk keys old new → RunDone store life disk by words keys old new before after status
-      done_other fault records whole lines told bytes later line status_is went sound = record {
-        fault = Some fault;
+      -- anything else, behind the whole report
+      done_other : (err : RunErr) (records : List (EpochRecord ℕ)) (whole : ℕ) → LinesStand (Some err) records whole before.output mid.output → ErrTold mid.output after.output (Some err)
+          → mid.output.bytes ≡ appended before.output.bytes (report decimal records) → before.output.faults ≤ mid.output.faults → IsPrinted mid.output after.output (fault_line (told_fault (Some err))) → status ≡ status_of (told_fault (Some err))
+          → Went store life disk by words keys old new before after t u records (Some err) → StandsOn store disk keys old new → RunDone store life disk by words keys old new before after t u status
+      done_other err records whole lines told bytes later line status_is went sound = record {
+        err = Some err;
         status_is = status_is;
         records = records;
-        output_is = behind before.output mid.output after.output (report decimal records) (fault_line (Some fault)) bytes later line;
-        all_written = λ is. absurd (no_fault is);
+        output_is = behind before.output mid.output after.output (report decimal records) (fault_line (told_fault (Some err))) bytes later line;
+        all_written = λ is. absurd (no_err is);
         whole = whole;
         written = mid.output;
         lines = lines;
@@ -157,63 +158,71 @@ module _ (store : StoreKind) (quiet : IsQuiet store) (life : LifeWords store) wh
         sound = sound;
       }
         where
-          no_fault : Some fault ≡ None → ⊥
-          no_fault is = cc is
+          no_err : ◌≡◌ {A = Option RunErr} (Some err) None → ⊥
+          no_err is = cc is
 
-      went_other : (fault : Fault) (records : List (EpochRecord ℕ)) → ((p : Params) (found : store.Found) (opened : Disk) (h : store.Hidden) (so_far : List Shape) (n : ℕ) (call : Option VaultCall)
-          → EndsFor store keys p found opened h so_far n call words (disk old) (disk new) before.output mid.output (Some fault)
-          → EndsFor store keys p found opened h so_far n call words (disk old) (disk new) before.output after.output (Some fault))
-          → Went store life disk by words keys old new before mid records (Some fault) → Went store life disk by words keys old new before after records (Some fault)
-      went_other fault records same (inl (none, early, lives)) = inl (none, early_on fault early, lives)
-      went_other fault records same (inr ran) = inr (ran_on records (Some fault) ran (same ran.p ran.found (disk ran.between) ran.traced.behind (shapes (calls ran.is_served.served.acts)) (length records) (refused (calls ran.is_served.served.acts)) ran.cause))
+      went_other : (err : RunErr) (records : List (EpochRecord ℕ)) → ((p : Params) (found : store.Found) (opened : Disk) (h : store.Hidden) (so_far : List Shape) (n : ℕ) (call : Option VaultCall)
+          → EndsFor store keys p found opened h so_far n call words (disk old) (disk new) before.output mid.output t u (Some err)
+          → EndsFor store keys p found opened h so_far n call words (disk old) (disk new) before.output after.output t u (Some err))
+          → Went store life disk by words keys old new before mid t u records (Some err) → Went store life disk by words keys old new before after t u records (Some err)
+      went_other err records same (inl (none, early, lives)) = inl (none, early_on err early, lives)
+      went_other err records same (inr ran) = inr (ran_on records (Some err) ran (same ran.p ran.found (disk ran.between) ran.traced.behind (shapes (calls ran.is_served.served.acts)) (length records) (refused (calls ran.is_served.served.acts)) ran.cause))
 
-      pub run_done : (fault : Option Fault) → RunOn store life disk by words keys old new before mid fault → IsFinished mid.output after.output fault status → RunDone store life disk by words keys old new before after status
+      pub run_done : (err : Option RunErr) → RunOn store life disk by words keys old new before mid t u err → IsEnded mid.output after.output err status → RunDone store life disk by words keys old new before after t u status
       run_done None r f = done_whole r f
-      run_done (Some SinkFault) r f = done_sink r f
-      run_done (Some Memory) r f = done_other Memory r.records r.whole r.lines f.line r.lines.0.bytes r.lines.0.later f.line f.status_is (went_other Memory r.records (λ p found opened h so_far n call cause. cause) r.went) r.sound
-      run_done (Some Usage) r f = done_other Usage r.records r.whole r.lines f.line r.lines.0.bytes r.lines.0.later f.line f.status_is (went_other Usage r.records (λ p found opened h so_far n call cause. cause) r.went) r.sound
-      run_done (Some (BadScript line)) r f = done_other (BadScript line) r.records r.whole r.lines f.line r.lines.0.bytes r.lines.0.later f.line f.status_is (went_other (BadScript line) r.records (λ p found opened h so_far n call cause. cause) r.went) r.sound
-      run_done (Some (BadParams field)) r f = done_other (BadParams field) r.records r.whole r.lines f.line r.lines.0.bytes r.lines.0.later f.line f.status_is (went_other (BadParams field) r.records (λ p found opened h so_far n call cause. cause) r.went) r.sound
-      run_done (Some NotStore) r f = done_other NotStore r.records r.whole r.lines f.line r.lines.0.bytes r.lines.0.later f.line f.status_is (went_other NotStore r.records (λ p found opened h so_far n call cause. cause) r.went) r.sound
-      run_done (Some (Damaged cell check kept computed)) r f = done_other (Damaged cell check kept computed) r.records r.whole r.lines f.line r.lines.0.bytes r.lines.0.later f.line f.status_is
-          (went_other (Damaged cell check kept computed) r.records (λ p found opened h so_far n call cause. cause) r.went) r.sound
-      run_done (Some (StoreFault unsure)) r f = done_other (StoreFault unsure) r.records r.whole r.lines f.line r.lines.0.bytes r.lines.0.later f.line f.status_is (went_other (StoreFault unsure) r.records (λ p found opened h so_far n call cause. cause) r.went) r.sound
-      run_done (Some (StashFull rows)) r f = done_other (StashFull rows) r.records r.whole r.lines f.line r.lines.0.bytes r.lines.0.later f.line f.status_is (went_other (StashFull rows) r.records (λ p found opened h so_far n call cause. cause) r.went) r.sound
-      run_done (Some (Worn number)) r f = done_other (Worn number) r.records r.whole r.lines f.line r.lines.0.bytes r.lines.0.later f.line f.status_is (went_other (Worn number) r.records (λ p found opened h so_far n call cause. cause) r.went) r.sound
-      run_done (Some SourceFault) r f = done_other SourceFault r.records r.whole r.lines f.line r.lines.0.bytes r.lines.0.later f.line f.status_is (went_other SourceFault r.records (λ p found opened h so_far n call cause. cause) r.went) r.sound
+      run_done (Some (failed.Fault SinkFault)) r f = done_sink r f
+      run_done (Some failed.Unwatched) r f = done_other failed.Unwatched r.records r.whole r.lines f.line r.lines.0.bytes r.lines.0.later f.line f.status_is (went_other failed.Unwatched r.records (λ p found opened h so_far n call cause. cause) r.went) r.sound
+      run_done (Some (failed.Fault Memory)) r f = done_other (failed.Fault Memory) r.records r.whole r.lines f.line r.lines.0.bytes r.lines.0.later f.line f.status_is (went_other (failed.Fault Memory) r.records (λ p found opened h so_far n call cause. cause) r.went) r.sound
+      run_done (Some (failed.Fault Usage)) r f = done_other (failed.Fault Usage) r.records r.whole r.lines f.line r.lines.0.bytes r.lines.0.later f.line f.status_is (went_other (failed.Fault Usage) r.records (λ p found opened h so_far n call cause. cause) r.went) r.sound
+      run_done (Some (failed.Fault (BadScript line))) r f = done_other (failed.Fault (BadScript line)) r.records r.whole r.lines f.line r.lines.0.bytes r.lines.0.later f.line f.status_is
+          (went_other (failed.Fault (BadScript line)) r.records (λ p found opened h so_far n call cause. cause) r.went) r.sound
+      run_done (Some (failed.Fault (BadParams field))) r f = done_other (failed.Fault (BadParams field)) r.records r.whole r.lines f.line r.lines.0.bytes r.lines.0.later f.line f.status_is
+          (went_other (failed.Fault (BadParams field)) r.records (λ p found opened h so_far n call cause. cause) r.went) r.sound
+      run_done (Some (failed.Fault NotStore)) r f = done_other (failed.Fault NotStore) r.records r.whole r.lines f.line r.lines.0.bytes r.lines.0.later f.line f.status_is (went_other (failed.Fault NotStore) r.records (λ p found opened h so_far n call cause. cause) r.went) r.sound
+      run_done (Some (failed.Fault (Damaged cell check kept computed))) r f = done_other (failed.Fault (Damaged cell check kept computed)) r.records r.whole r.lines f.line r.lines.0.bytes r.lines.0.later f.line f.status_is
+          (went_other (failed.Fault (Damaged cell check kept computed)) r.records (λ p found opened h so_far n call cause. cause) r.went) r.sound
+      run_done (Some (failed.Fault (StoreFault unsure))) r f = done_other (failed.Fault (StoreFault unsure)) r.records r.whole r.lines f.line r.lines.0.bytes r.lines.0.later f.line f.status_is
+          (went_other (failed.Fault (StoreFault unsure)) r.records (λ p found opened h so_far n call cause. cause) r.went) r.sound
+      run_done (Some (failed.Fault (StashFull rows))) r f = done_other (failed.Fault (StashFull rows)) r.records r.whole r.lines f.line r.lines.0.bytes r.lines.0.later f.line f.status_is
+          (went_other (failed.Fault (StashFull rows)) r.records (λ p found opened h so_far n call cause. cause) r.went) r.sound
+      run_done (Some (failed.Fault (Worn number))) r f = done_other (failed.Fault (Worn number)) r.records r.whole r.lines f.line r.lines.0.bytes r.lines.0.later f.line f.status_is (went_other (failed.Fault (Worn number)) r.records (λ p found opened h so_far n call cause. cause) r.went) r.sound
+      run_done (Some (failed.Fault SourceFault)) r f = done_other (failed.Fault SourceFault) r.records r.whole r.lines f.line r.lines.0.bytes r.lines.0.later f.line f.status_is (went_other (failed.Fault SourceFault) r.records (λ p found opened h so_far n call cause. cause) r.went) r.sound
 
-  module _ {S : Type 0} (disk : S → Disk) (keys : Keys) (p : Params) (old new : S) (before mid after : Flow) where
+  module _ {S : Type 0} (disk : S → Disk) (keys : Keys) (p : Params) (old new : S) (before mid after : Flow) (t u : Trace) where
     -- a format that did nothing
-    nothing_told : (refused : Fault) → store.format_fault refused × (new ≡ old) × (mid ≡ before) → IsPrinted mid after (fault_line (Some refused)) → store.format_fault refused × (new ≡ old) × IsPrinted before after (fault_line (Some refused))
-    nothing_told refused (kind, same, quiet) printed = (kind, same, subst (λ (o : Flow). IsPrinted o after (fault_line (Some refused))) quiet printed)
+    nothing_told : (refused : Fault) → store.format_fault refused × (new ≡ old) × (mid ≡ before) × (u ≡ t) → IsPrinted mid after (fault_line (Some refused)) → store.format_fault refused × (new ≡ old) × IsPrinted before after (fault_line (Some refused)) × (u ≡ t)
+    nothing_told refused (kind, same, quiet, still) printed = (kind, same, subst (λ (o : Flow). IsPrinted o after (fault_line (Some refused))) quiet printed, still)
 
-    format_told : (fault : Option Fault) → FormatEnds store life disk keys p old new before mid fault → LineTold mid after fault → FormatTold store life disk keys p old new before after fault
-    format_told None (formatted, bytes) line = (formatted, ap (λ (o : Flow). o.bytes) line ∙ bytes)
-    format_told (Some SinkFault) (formatted, rose, printed) line = (
+    format_told : (err : Option RunErr) → FormatEnds store life disk keys p old new before mid t u err → ErrTold mid after err → FormatTold store life disk keys p old new before after t u err
+    format_told None (formatted, bytes, shown) line = (formatted, ap (λ (o : Flow). o.bytes) line ∙ bytes, shown)
+    format_told (Some failed.Unwatched) (formatted, same, shown) line = (formatted, subst (λ (o : Flow). IsPrinted o after (fault_line (Some SinkFault))) same line, shown)
+    format_told (Some (failed.Fault SinkFault)) (formatted, rose, printed, shown) line = (
       formatted,
       subst (λ (o : Flow). Rose before.faults o.faults) (sym line) rose,
       subst (λ (o : Flow). IsPrinted before o (size_line (store.cells p))) (sym line) printed,
+      shown,
     )
-    format_told (Some (StoreFault unsure)) (which, rose, seen, same) line = (which, rose, seen, subst (λ (o : Flow). IsPrinted o after (fault_line (Some (StoreFault None)))) same (subst (λ (u : Option ℕ). IsPrinted mid after (fault_line (Some (StoreFault u)))) which line))
-    format_told (Some Memory) ends line = nothing_told Memory ends line
-    format_told (Some Usage) ends line = nothing_told Usage ends line
-    format_told (Some (BadScript bad)) ends line = nothing_told (BadScript bad) ends line
-    format_told (Some (BadParams field)) ends line = nothing_told (BadParams field) ends line
-    format_told (Some NotStore) ends line = nothing_told NotStore ends line
-    format_told (Some (Damaged cell check kept computed)) ends line = nothing_told (Damaged cell check kept computed) ends line
-    format_told (Some (StashFull rows)) ends line = nothing_told (StashFull rows) ends line
-    format_told (Some (Worn number)) ends line = nothing_told (Worn number) ends line
-    format_told (Some SourceFault) ends line = nothing_told SourceFault ends line
+    format_told (Some (failed.Fault (StoreFault unsure))) (which, rose, seen, same, first) line =
+        (which, rose, seen, subst (λ (o : Flow). IsPrinted o after (fault_line (Some (StoreFault None)))) same (subst (λ (u : Option ℕ). IsPrinted mid after (fault_line (Some (StoreFault u)))) which line), first)
+    format_told (Some (failed.Fault Memory)) ends line = nothing_told Memory ends line
+    format_told (Some (failed.Fault Usage)) ends line = nothing_told Usage ends line
+    format_told (Some (failed.Fault (BadScript bad))) ends line = nothing_told (BadScript bad) ends line
+    format_told (Some (failed.Fault (BadParams field))) ends line = nothing_told (BadParams field) ends line
+    format_told (Some (failed.Fault NotStore)) ends line = nothing_told NotStore ends line
+    format_told (Some (failed.Fault (Damaged cell check kept computed))) ends line = nothing_told (Damaged cell check kept computed) ends line
+    format_told (Some (failed.Fault (StashFull rows))) ends line = nothing_told (StashFull rows) ends line
+    format_told (Some (failed.Fault (Worn number))) ends line = nothing_told (Worn number) ends line
+    format_told (Some (failed.Fault SourceFault)) ends line = nothing_told SourceFault ends line
 
-  pub format_done : {S : Type 0} (disk : S → Disk) (keys : Keys) (p : Params) (old new : S) (before mid after : Outside) (status : ℕ) (fault : Option Fault) → FormatEnds store life disk keys p old new before.output mid.output fault
+  pub format_done : {S : Type 0} (disk : S → Disk) (keys : Keys) (p : Params) (old new : S) (before mid after : Outside) (t u : Trace) (status : ℕ) (err : Option RunErr) → FormatEnds store life disk keys p old new before.output mid.output t u err
       → ((disk old).tells → LeavesOnly (disk old) (disk new) (store.format_leaves keys p (disk old))) → mid.input ≡ before.input → after.input ≡ mid.input
-      → IsFinished mid.output after.output fault status → FormatDone store life disk keys p old new before after status
-  format_done disk keys p old new before mid after status fault ends leaves first second f = record {
-    fault = fault;
+      → IsEnded mid.output after.output err status → FormatDone store life disk keys p old new before after t u status
+  format_done disk keys p old new before mid after t u status err ends leaves first second f = record {
+    err = err;
     status_is = f.status_is;
     untouched = second ∙ first;
-    told = format_told disk keys p old new before.output mid.output after.output fault ends f.line;
+    told = format_told disk keys p old new before.output mid.output after.output t u err ends f.line;
     left = leaves;
     sound = λ zero tells.
-        formatted_sound store life disk keys p old new (subst (λ (x : Option Fault). FormatEnds store life disk keys p old new before.output mid.output x) (none_at_0 fault (sym f.status_is ∙ zero)) ends).0 tells;
+        formatted_sound store life disk keys p old new (subst (λ (x : Option RunErr). FormatEnds store life disk keys p old new before.output mid.output t u x) (none_told_at_0 err (sym f.status_is ∙ zero)) ends).0 tells;
   }

@@ -38,7 +38,7 @@ use Rattle.ob_conduct.specs.Scenes.{RunnerKind, run_state, runner_kind, scene}
 use Rattle.ob_run.specs.Threaded.{RunsBy}
 use Rattle.ob_outcomes.proofs.Whole.{RunsScripts}
 use Rattle.ob_conduct.specs.Records.{AreAnswered}
-use Rattle.ob_top.specs.Endings.{fault_by}
+use Rattle.ob_top.specs.Endings.{err_of}
 use Rattle.ob_top.specs.Runs.{manner, ServedOver}
 use Rattle.ob_top.proofs.Opens.{may_open}
 use Rattle.ob_top.proofs.RingServing.{IsRingLender, ring_serves}
@@ -119,12 +119,12 @@ module _ {V S : Type 0} (k : Kind V) (disk : S → Disk) (counts_now : (x : S) (
 pub serves_lent : {V S : Type 0} (first : V) (k : Kind V) (beat : BeatKind) (threads : Bool) (p : Params) (script : Scripts) (trace : Trace) (runners : List ScriptRunner)
     (before : Flow) (last : V) (seen : Trace) (ran : List ScriptRunner) (after : Flow) (result : Result (Unit {0}) RunErr) (epoch left : ℕ)
     → ((new : DeskState) × RunsBy threads k script_kind beat (run_state (scene (new_desk (record { params = p }) (suc epoch) left script.clients) first trace) runners before) (run_state (scene new last seen) ran after) result)
-    → seen.broken ≡ false → AreSound script → AreRunners script runners
+    → trace.broken ≡ false → AreSound script → AreRunners script runners
     → (disk : S → Disk) (counts_now : (x : S) (t : Clock) (c : Image) → NotAfter t (disk x).moment → (disk x).may_leave c → (disk x).left_since t c)
     (only_now : (x : S) (c : Image) → (disk x).left_since (disk x).moment c → (disk x).may_leave c) (runs : V → Running S) → HasRingWords k disk runs → IsLent k disk runs
     → (keys : Keys) (most : ℕ) (found : Found) (f : RingFound) (start : Run) → GoesOnFrom keys p found f → (runs first).run ≡ start → f.run ≡ start → epoch ≡ (runs first).run.epoch → left ≡ (runs first).run.left
     → start.epoch < 2 ^ 62 → start.left ≤ p.batches → (runs first).lanes ≡ most → (1 ≤ most) × (most ≤ 16) → HasPlanned f.run f.content f.records → (runs first).drawn ≡ []
-    → ServedOver ring_kind ring_lives disk (manner beat threads most) keys p f f.run.sealer script (runs last).drawn (runs first).store (runs last).store before after (fault_by result)
+    → ServedOver ring_kind ring_lives disk (manner beat threads most) keys p f f.run.sealer script (runs last).drawn (runs first).store (runs last).store before after trace seen (err_of result)
 serves_lent first k beat threads p script trace runners before last seen ran after result epoch left done unbroken sound are disk counts_now only_now runs words lent keys most found f start goes is same epoch_is left_is small few lanes many has none =
     let (new, run) = done in
     let run_is : (runs first).run ≡ f.run = is ∙ sym same in

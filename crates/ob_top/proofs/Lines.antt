@@ -1,5 +1,5 @@
 -- What stands of a run's lines, and the epoch whose end was refused, as its last act tells.
-use Rattle.std.proofs.Common.{Bool, true, false, ◌≡◌, ◌∙◌, ◌+◌, ◌++◌, ◌∷◌, [], ℕ, suc, List, Option, Some, None, sym, refl, ap, subst, arith, inl, inr, length, Ok, Err, Result, decimal}
+use Rattle.std.proofs.Common.{◌≡◌, ◌∙◌, ◌+◌, ◌++◌, ◌∷◌, [], ℕ, suc, List, Option, Some, None, sym, refl, ap, subst, arith, inl, inr, length, Ok, Err, Result, decimal}
 use Rattle.std.proofs.lemmas.List.{length-append}
 use Rattle.std.proofs.lemmas.Option.{same_Some}
 use Rattle.ob_base.specs.declared.fault.Fault.{Fault}
@@ -12,26 +12,25 @@ use Rattle.ob_serial.specs.VaultViews.{IsFetchFault, IsEndFault}
 use Rattle.ob_serial.specs.VaultKinds.{Kind}
 use Rattle.ob_serial.specs.declared.vault.EndErr.{EndErr}
 use Rattle.ob_serial.specs.declared.vault.EndErr.TheVariants.{Before, Unsure}
-use Rattle.ob_conduct.specs.Acts.{Act, Says, Halts, Rests as Looked, Takes, Delivers, DeliverFails, FetchFails, RestUnwatched, Closes, Publishes, Refuses, Unprinted, Unwatched, records, fault_in, fault_of as fault_for, fault_told}
+use Rattle.ob_conduct.specs.Acts.{Act, Says, Halts, Rests as Looked, Takes, Delivers, DeliverFails, FetchFails, RestUnwatched, Closes, Publishes, Refuses, Unprinted, Unwatched, records, fault_in, fault_told}
 use Rattle.ob_conduct.specs.declared.run_err.RunErr.{RunErr}
 use Rattle.ob_conduct.specs.declared.run_err.RunErr.TheVariants as failed
 use Rattle.ob_conduct.specs.Scenes.{Scene, RunState}
-use Rattle.ob_store.specs.Lines.{Trace}
 use Rattle.ob_conduct.specs.Records.{IsWritten, IsCutShort, Makes}
 use Rattle.ob_conduct.specs.Moves.{AreLines, Failure, IsReason}
 use Rattle.ob_conduct.specs.Conducted.{RunEnds}
 use Rattle.ob_conduct.specs.Left.{IsNextOf}
 use Rattle.ob_conduct.proofs.Acting.{one_text, written_none}
 use Rattle.ob_conduct.proofs.Going.{printed_then}
-use Rattle.ob_top.specs.Endings.{IsNextBy, LinesStand, fault_by}
+use Rattle.ob_top.specs.Endings.{IsNextBy, LinesStand, err_of}
 
 module _ (told : List (EpochRecord ℕ)) (before after : Flow) where
   -- how many records' lines stand, and that they do
-  abbrev pub Stand : Option Fault → Type 0
-  Stand fault = (whole : ℕ) × LinesStand fault told whole before after
+  abbrev pub Stand : Option RunErr → Type 0
+  Stand err = (whole : ℕ) × LinesStand err told whole before after
 
   -- all of them, where the fault isn't the output's
-  pub stand_unless : (fault : Fault) → (fault ≡ SinkFault → ⊥) → IsWritten (report decimal told) before after → Stand (Some fault)
+  pub stand_unless : (fault : Fault) → (fault ≡ SinkFault → ⊥) → IsWritten (report decimal told) before after → Stand (Some (failed.Fault fault))
   stand_unless SinkFault other written = absurd (other refl)
   stand_unless Memory other written = (length told, (written, refl))
   stand_unless Usage other written = (length told, (written, refl))
@@ -44,8 +43,12 @@ module _ (told : List (EpochRecord ℕ)) (before after : Flow) where
   stand_unless (Worn number) other written = (length told, (written, refl))
   stand_unless SourceFault other written = (length told, (written, refl))
 
+  -- so where the watch broke
+  pub stand_all : IsWritten (report decimal told) before after → Stand (Some failed.Unwatched)
+  stand_all written = (length told, (written, refl))
+
   -- all but the last one's, where it is
-  stand_cut : IsCutShort told before after → Stand (Some SinkFault)
+  stand_cut : IsCutShort told before after → Stand (Some (failed.Fault SinkFault))
   stand_cut cut = (length cut.whole, (cut, one_more))
     where
       one_more : suc (length cut.whole) ≡ length told
@@ -73,52 +76,22 @@ no_memory fault memory is = memory_isnt (sym memory ∙ is)
     memory_isnt : Memory ≡ SinkFault → ⊥
     memory_isnt same = cc same
 
--- what is whole hasn't broken
-pub still_whole : (b : Bool) → b ≡ false → b ≡ true → ⊥
-still_whole true whole broken = cc whole
-still_whole false whole broken = cc broken
+module _ {V : Type 0} (k : Kind V) (old new : Scene V) (acts : List Act) (before after : Flow) (err : RunErr) (f : Failure k old new acts before after err) where
+  given_is : (act : Act) (given : RunErr) → f.act ≡ act → fault_told act ≡ Some given → given ≡ err
+  given_is act given is tells = same_Some given err (sym tells ∙ ap fault_told (sym is) ∙ f.told)
 
-fault_isnt : (fault : Fault) → ◌≡◌ {A = Option RunErr} (Some (failed.Fault fault)) (Some failed.Unwatched) → ⊥
-fault_isnt fault is = cc is
+  told_as : (act : Act) (given : RunErr) → f.act ≡ act → fault_told act ≡ Some given → Stand (records acts) before after (Some given) → Stand (records acts) before after (Some err)
+  told_as act given is tells stand = subst (λ (x : RunErr). Stand (records acts) before after (Some x)) (given_is act given is tells) stand
 
-none_isnt : ◌≡◌ {A = Option RunErr} None (Some failed.Unwatched) → ⊥
-none_isnt is = cc is
-
--- no act tells of a broken watch where it is whole
-pub none_unwatched : {V : Type 0} (k : Kind V) (old : Scene V) (front : List Act) (act : Act) (trace : Trace) → trace.broken ≡ false → IsReason k old front act trace → fault_told act ≡ Some failed.Unwatched → ⊥
-none_unwatched k old front (Halts fault) trace whole reason told = fault_isnt fault told
-none_unwatched k old front (DeliverFails keys fault) trace whole reason told = fault_isnt fault told
-none_unwatched k old front (FetchFails look batches keys fault) trace whole reason told = fault_isnt fault told
-none_unwatched k old front (Refuses writes refused) trace whole reason told = fault_isnt (fault_in refused) told
-none_unwatched k old front Unprinted trace whole reason told = fault_isnt SinkFault told
-none_unwatched k old front (RestUnwatched look batches) trace whole reason told = still_whole trace.broken whole reason
-none_unwatched k old front Unwatched trace whole reason told = still_whole trace.broken whole reason
-none_unwatched k old front (Says client steps) trace whole reason told = none_isnt told
-none_unwatched k old front (Looked look) trace whole reason told = none_isnt told
-none_unwatched k old front (Takes look keys) trace whole reason told = none_isnt told
-none_unwatched k old front (Delivers batch) trace whole reason told = none_isnt told
-none_unwatched k old front (Closes look batches writes) trace whole reason told = none_isnt told
-none_unwatched k old front (Publishes writes left record_told) trace whole reason told = none_isnt told
-
-module _ {V : Type 0} (k : Kind V) (old new : Scene V) (acts : List Act) (before after : Flow) (err : RunErr) (f : Failure k old new acts before after err) (whole : new.trace.broken ≡ false) where
-  abbrev fault : Fault
-  fault = fault_for err
-
-  given_is : (act : Act) (given : Fault) → f.act ≡ act → fault_told act ≡ Some (failed.Fault given) → given ≡ fault
-  given_is act given is tells = ap fault_for (same_Some (failed.Fault given) err (sym tells ∙ ap fault_told (sym is) ∙ f.told))
-
-  told_as : (act : Act) (given : Fault) → f.act ≡ act → fault_told act ≡ Some (failed.Fault given) → Stand (records acts) before after (Some given) → Stand (records acts) before after (Some fault)
-  told_as act given is tells stand = subst (λ (x : Fault). Stand (records acts) before after (Some x)) (given_is act given is tells) stand
-
-  stand_by : (act : Act) → f.act ≡ act → IsReason k old f.front act new.trace → AreLines act (records acts) before after → Stand (records acts) before after (Some fault)
-  stand_by (Halts given) is reason lines = told_as (Halts given) given is refl (stand_unless (records acts) before after given (no_memory given reason) lines)
-  stand_by Unprinted is reason lines = told_as Unprinted SinkFault is refl (stand_cut (records acts) before after lines)
-  stand_by (DeliverFails keys given) is reason lines = told_as (DeliverFails keys given) given is refl (stand_unless (records acts) before after given (no_fetch given reason) lines)
-  stand_by (FetchFails look batches keys given) is reason lines = told_as (FetchFails look batches keys given) given is refl (stand_unless (records acts) before after given (no_fetch given reason) lines)
+  stand_by : (act : Act) → f.act ≡ act → IsReason k old f.front act new.trace → AreLines act (records acts) before after → Stand (records acts) before after (Some err)
+  stand_by (Halts given) is reason lines = told_as (Halts given) (failed.Fault given) is refl (stand_unless (records acts) before after given (no_memory given reason) lines)
+  stand_by Unprinted is reason lines = told_as Unprinted (failed.Fault SinkFault) is refl (stand_cut (records acts) before after lines)
+  stand_by (DeliverFails keys given) is reason lines = told_as (DeliverFails keys given) (failed.Fault given) is refl (stand_unless (records acts) before after given (no_fetch given reason) lines)
+  stand_by (FetchFails look batches keys given) is reason lines = told_as (FetchFails look batches keys given) (failed.Fault given) is refl (stand_unless (records acts) before after given (no_fetch given reason) lines)
   stand_by (Refuses writes refused) is reason lines =
-      told_as (Refuses writes refused) (fault_in refused) is refl (stand_unless (records acts) before after (fault_in refused) (no_end (old.desk.running.epoch + length (records f.front)) refused reason.is_fault) lines)
-  stand_by (RestUnwatched look batches) is reason lines = absurd (still_whole new.trace.broken whole reason)
-  stand_by Unwatched is reason lines = absurd (still_whole new.trace.broken whole reason)
+      told_as (Refuses writes refused) (failed.Fault (fault_in refused)) is refl (stand_unless (records acts) before after (fault_in refused) (no_end (old.desk.running.epoch + length (records f.front)) refused reason.is_fault) lines)
+  stand_by (RestUnwatched look batches) is reason lines = told_as (RestUnwatched look batches) failed.Unwatched is refl (stand_all (records acts) before after lines)
+  stand_by Unwatched is reason lines = told_as Unwatched failed.Unwatched is refl (stand_all (records acts) before after lines)
   stand_by (Says client steps) is reason lines = absurd reason
   stand_by (Looked look) is reason lines = absurd reason
   stand_by (Takes look keys) is reason lines = absurd reason
@@ -128,12 +101,12 @@ module _ {V : Type 0} (k : Kind V) (old new : Scene V) (acts : List Act) (before
 
 module _ {V U : Type 0} (k : Kind V) (old new : RunState V U) (acts : List Act) where
   -- so it is however a run ends
-  pub lines_stand : (result : Result (Unit {0}) RunErr) → new.scene.trace.broken ≡ false → RunEnds k old new acts result → Stand (records acts) old.output new.output (fault_by result)
-  lines_stand (Ok done) unbroken (answered, over, written, still) = (length (records acts), (written, refl))
-  lines_stand (Err err) unbroken (inl short) =
-      stand_unless (records acts) old.output new.output (fault_for err) (no_memory (fault_for err) (ap fault_for short.fault_is))
-      (subst (λ (o : Flow). IsWritten (report decimal (records acts)) old.output o) (sym short.silent) (subst (λ (xs : List Act). IsWritten (report decimal (records xs)) old.output old.output) (sym short.none) (written_none old.output)))
-  lines_stand (Err err) unbroken (inr f) = stand_by k old.scene new.scene acts old.output new.output err f unbroken f.act refl f.reason f.lines
+  pub lines_stand : (result : Result (Unit {0}) RunErr) → RunEnds k old new acts result → Stand (records acts) old.output new.output (err_of result)
+  lines_stand (Ok done) (answered, over, written, still) = (length (records acts), (written, refl))
+  lines_stand (Err err) (inl short) = subst (λ (e : RunErr). Stand (records acts) old.output new.output (Some e)) (sym short.fault_is)
+      (stand_unless (records acts) old.output new.output Memory (no_memory Memory refl)
+      (subst (λ (o : Flow). IsWritten (report decimal (records acts)) old.output o) (sym short.silent) (subst (λ (xs : List Act). IsWritten (report decimal (records xs)) old.output old.output) (sym short.none) (written_none old.output))))
+  lines_stand (Err err) (inr f) = stand_by k old.scene new.scene acts old.output new.output err f f.act refl f.reason f.lines
 
   -- the epoch whose end was refused is the one that the desk had closed
   pub next_by_acts : (result : Result (Unit {0}) RunErr) (next : Option (EpochRecord ℕ)) → IsNextOf k old new acts result next → IsNextBy old.scene.desk acts next

@@ -1,5 +1,5 @@
 -- The head's read, the opening and the vault's calls, as acts of the store's life.
-use Rattle.std.proofs.Common.{◌⊎◌, ℕ, suc, List, [], inl, inr, subst, sym}
+use Rattle.std.proofs.Common.{◌⊎◌, ℕ, suc, List, [], ◌∷◌, inl, inr, refl, subst, sym}
 use Rattle.ob_store.specs.Disk.{Disk, Image}
 use Rattle.ob_store.specs.Images.{LeavesOnly, Same, Passes}
 use Rattle.ob_store.specs.Calls.{GoesOn}
@@ -7,7 +7,7 @@ use Rattle.ob_store.proofs.Moments.{leaves_of}
 use Rattle.ob_seal.specs.declared.keys.Keys.{Keys}
 use Rattle.ob_seal.specs.Sealing.{Sealing}
 use Rattle.ob_serial.specs.Vaults.{VaultAnswer}
-use Rattle.ob_pads.specs.Lives.{IsAtGeneration, LeavesUnopened, LivesOn, Opens}
+use Rattle.ob_pads.specs.Lives.{IsAtGeneration, LeavesUnopened, LivesOn, Opened, Opens}
 use Rattle.ob_pads.proofs.Chains.{unopened_lives, runs_join}
 use Rattle.ob_top.specs.Runs.{IsReadAndOpened, LivesBehind}
 
@@ -37,6 +37,19 @@ module _ {S : Type 0} (disk : S → Disk) (only : (store : S) (c : Image) → (d
       head = λ tells. read_lives (on.told tells);
       opens = act;
     }
+
+-- an opening behind which no call was made
+opened_lives : {S : Type 0} (disk : S → Disk) (keys : Keys) (old new : S) (sealing : Sealing) → Opens keys (disk old) (disk new) sealing → LivesOn disk keys old new []
+opened_lives disk keys old new sealing opens = record {
+  acts = Opened new sealing ∷ [];
+  uncrashed = tt;
+  answers_are = refl;
+  life = λ at here. (subst (λ x. Opens keys (disk x) (disk new) sealing) (sym here) opens, tt);
+  ends = λ at here. refl;
+}
+
+pub open_lives : {S : Type 0} (disk : S → Disk) (keys : Keys) (old new : S) (sealing : Sealing) → IsReadAndOpened disk keys old new sealing → (disk new).tells → LivesOn disk keys old new []
+open_lives disk keys old new sealing o tells = runs_join disk keys old o.read new [] [] (o.head tells) (opened_lives disk keys o.read new sealing (o.opens tells))
 
 -- the calls behind both
 pub whole_lives : {S : Type 0} (disk : S → Disk) (keys : Keys) (old between new : S) (sealing : Sealing) (answers : List VaultAnswer) → GoesOn (disk between) (disk new) → IsReadAndOpened disk keys old between sealing → LivesBehind disk keys sealing between new answers

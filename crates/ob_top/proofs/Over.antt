@@ -26,21 +26,21 @@ use Rattle.ob_top.specs.Over.{OverStore, WithoutStore}
 use Rattle.ob_top.proofs.Commands.{one_asked, nothing_asked, usage_done, audit_told, drill_told, format_does, run_does, no_store_usage, no_store_audit, no_store_drill, no_store_format, no_store_run}
 use Rattle.ob_top.proofs.Completing.{Tell, FormatTells, RunTells}
 
-not_format : (words : List (List ℕ)) (store keys : List ℕ) (numbers : List (List ℕ)) → asked_by words ≡ Some audit_asked → asked_by words ≡ Some (format_asked store keys numbers) → ⊥
-not_format words store keys numbers first second = let same : audit_asked ≡ format_asked store keys numbers = one_asked words audit_asked (format_asked store keys numbers) first second in cc
+not_format : (words : List (List ℕ)) (store keys : List ℕ) (numbers : List (List ℕ)) (trace : Option (List ℕ)) → asked_by words ≡ Some audit_asked → asked_by words ≡ Some (format_asked store keys numbers trace) → ⊥
+not_format words store keys numbers trace first second = let same : audit_asked ≡ format_asked store keys numbers trace = one_asked words audit_asked (format_asked store keys numbers trace) first second in cc
 
-not_run : (words : List (List ℕ)) (store keys : List ℕ) (lanes : Option (List ℕ)) (turns : Bool) → asked_by words ≡ Some audit_asked → asked_by words ≡ Some (run_asked store keys lanes turns) → ⊥
-not_run words store keys lanes turns first second = let same : audit_asked ≡ run_asked store keys lanes turns = one_asked words audit_asked (run_asked store keys lanes turns) first second in cc
+not_run : (words : List (List ℕ)) (store keys : List ℕ) (lanes : Option (List ℕ)) (turns : Bool) (trace : Option (List ℕ)) → asked_by words ≡ Some audit_asked → asked_by words ≡ Some (run_asked store keys lanes turns trace) → ⊥
+not_run words store keys lanes turns trace first second = let same : audit_asked ≡ run_asked store keys lanes turns trace = one_asked words audit_asked (run_asked store keys lanes turns trace) first second in cc
 
 -- an audit is no self-test, and neither is anything else
 not_audit : (words : List (List ℕ)) (word : List ℕ) → asked_by words ≡ Some (drill_asked word) → asked_by words ≡ Some audit_asked → ⊥
 not_audit words word first second = let same : drill_asked word ≡ audit_asked = one_asked words (drill_asked word) audit_asked first second in cc
 
-drill_not_format : (words : List (List ℕ)) (word store keys : List ℕ) (numbers : List (List ℕ)) → asked_by words ≡ Some (drill_asked word) → asked_by words ≡ Some (format_asked store keys numbers) → ⊥
-drill_not_format words word store keys numbers first second = let same : drill_asked word ≡ format_asked store keys numbers = one_asked words (drill_asked word) (format_asked store keys numbers) first second in cc
+drill_not_format : (words : List (List ℕ)) (word store keys : List ℕ) (numbers : List (List ℕ)) (trace : Option (List ℕ)) → asked_by words ≡ Some (drill_asked word) → asked_by words ≡ Some (format_asked store keys numbers trace) → ⊥
+drill_not_format words word store keys numbers trace first second = let same : drill_asked word ≡ format_asked store keys numbers trace = one_asked words (drill_asked word) (format_asked store keys numbers trace) first second in cc
 
-drill_not_run : (words : List (List ℕ)) (word store keys : List ℕ) (lanes : Option (List ℕ)) (turns : Bool) → asked_by words ≡ Some (drill_asked word) → asked_by words ≡ Some (run_asked store keys lanes turns) → ⊥
-drill_not_run words word store keys lanes turns first second = let same : drill_asked word ≡ run_asked store keys lanes turns = one_asked words (drill_asked word) (run_asked store keys lanes turns) first second in cc
+drill_not_run : (words : List (List ℕ)) (word store keys : List ℕ) (lanes : Option (List ℕ)) (turns : Bool) (trace : Option (List ℕ)) → asked_by words ≡ Some (drill_asked word) → asked_by words ≡ Some (run_asked store keys lanes turns trace) → ⊥
+drill_not_run words word store keys lanes turns trace first second = let same : drill_asked word ≡ run_asked store keys lanes turns trace = one_asked words (drill_asked word) (run_asked store keys lanes turns trace) first second in cc
 
 same_word : (words : List (List ℕ)) (a b : List ℕ) → asked_by words ≡ Some (drill_asked a) → asked_by words ≡ Some (drill_asked b) → a ≡ b
 same_word words a b first second = let same : drill_asked a ≡ drill_asked b = one_asked words (drill_asked a) (drill_asked b) first second in cc
@@ -111,70 +111,70 @@ drill_low Kept before after status word n count (inr (inr (m, is, kept, done))) 
 
 -- ---- with a store
 
-module _ {S : Type 0} (disk : S → Disk) (beat : BeatKind) (drawn : List ℕ) (words : List (List ℕ)) (text : Option (Bor (List ℕ))) (old new : S) (before after : Outside) (status : ℕ) where
-  pub usage_over : OverStore disk beat drawn words text old new before after status → asked_by words ≡ None
-      → Tell disk beat drawn words text old new before after status Usage ⊎ Tell disk beat drawn words text old new before after status Memory
+module _ {S W : Type 0} (disk : S → Disk) (flow : W → Flow) (beat : BeatKind) (drawn : List ℕ) (words : List (List ℕ)) (text : Option (Bor (List ℕ))) (old new : S) (was is : Option W) (before after : Outside) (status : ℕ) where
+  pub usage_over : OverStore disk flow beat drawn words text old new before after was is status → asked_by words ≡ None
+      → Tell disk flow beat drawn words text old new was is before after status Usage ⊎ Tell disk flow beat drawn words text old new was is before after status Memory
   usage_over (inl (kept, inl (asked, done))) nothing = absurd (nothing_asked words audit_asked nothing asked)
   usage_over (inl (kept, inr (word, n, asked, count, done))) nothing = absurd (nothing_asked words (drill_asked word) nothing asked)
-  usage_over (inr (mid, fault, does, input, done)) nothing = usage_done before mid after status input disk beat drawn words text old new fault does done nothing
+  usage_over (inr (mid, err, does, input, done)) nothing = usage_done before mid after status input disk flow beat drawn words text old new was is err does done nothing
 
-  pub audit_over : OverStore disk beat drawn words text old new before after status → asked_by words ≡ Some audit_asked
-      → Tell disk beat drawn words text old new before after status Memory ⊎ ((new ≡ old) × AuditDone before after status)
+  pub audit_over : OverStore disk flow beat drawn words text old new before after was is status → asked_by words ≡ Some audit_asked
+      → Tell disk flow beat drawn words text old new was is before after status Memory ⊎ (((new ≡ old) × (is ≡ was)) × AuditDone before after status)
   audit_over (inl (kept, inl (asked, done))) asks = inr (kept, done)
   audit_over (inl (kept, inr (word, n, asked, count, done))) asks = absurd (not_audit words word asked asks)
-  audit_over (inr (mid, fault, does, input, done)) asks = inl (audit_told before mid after status input disk beat drawn words text old new fault does done asks)
+  audit_over (inr (mid, err, does, input, done)) asks = inl (audit_told before mid after status input disk flow beat drawn words text old new was is err does done asks)
 
-  pub drill_over : OverStore disk beat drawn words text old new before after status → (word : List ℕ) → asked_by words ≡ Some (drill_asked word)
-      → Tell disk beat drawn words text old new before after status Memory ⊎ ((IsBadCount word × Tell disk beat drawn words text old new before after status (BadParams COUNT)) ⊎ ((n : ℕ) × IsCount word n × (new ≡ old) × DrillDone n before after status))
+  pub drill_over : OverStore disk flow beat drawn words text old new before after was is status → (word : List ℕ) → asked_by words ≡ Some (drill_asked word)
+      → Tell disk flow beat drawn words text old new was is before after status Memory ⊎ ((IsBadCount word × Tell disk flow beat drawn words text old new was is before after status (BadParams COUNT)) ⊎ ((n : ℕ) × IsCount word n × ((new ≡ old) × (is ≡ was)) × DrillDone n before after status))
   drill_over (inl (kept, inl (asked, done))) word asks = absurd (not_audit words word asks asked)
   drill_over (inl (kept, inr (other, n, asked, count, done))) word asks = inr (inr (n, subst (λ (w : List ℕ). IsCount w n) (same_word words other word asked asks) count, kept, done))
-  drill_over (inr (mid, fault, does, input, done)) word asks = ⊎_elim (λ memory. inl memory) (λ bad. inr (inl bad)) (drill_told before mid after status input disk beat drawn words text old new fault does done word asks)
+  drill_over (inr (mid, err, does, input, done)) word asks = ⊎_elim (λ memory. inl memory) (λ bad. inr (inl bad)) (drill_told before mid after status input disk flow beat drawn words text old new was is err does done word asks)
 
-  pub format_over : OverStore disk beat drawn words text old new before after status → (store keys : List ℕ) (numbers : List (List ℕ)) → asked_by words ≡ Some (format_asked store keys numbers)
-      → FormatTells disk beat drawn words text old new before after status numbers
-  format_over (inl (kept, inl (asked, done))) store keys numbers asks = absurd (not_format words store keys numbers asked asks)
-  format_over (inl (kept, inr (word, n, asked, count, done))) store keys numbers asks = absurd (drill_not_format words word store keys numbers asked asks)
-  format_over (inr (mid, fault, does, input, done)) store keys numbers asks = format_does before mid after status input disk beat drawn words text old new fault does done store keys numbers asks
+  pub format_over : OverStore disk flow beat drawn words text old new before after was is status → (store keys : List ℕ) (numbers : List (List ℕ)) (trace : Option (List ℕ)) → asked_by words ≡ Some (format_asked store keys numbers trace)
+      → FormatTells disk flow beat drawn words text old new was is before after status numbers trace
+  format_over (inl (kept, inl (asked, done))) store keys numbers trace asks = absurd (not_format words store keys numbers trace asked asks)
+  format_over (inl (kept, inr (word, n, asked, count, done))) store keys numbers trace asks = absurd (drill_not_format words word store keys numbers trace asked asks)
+  format_over (inr (mid, err, does, input, done)) store keys numbers trace asks = format_does before mid after status input disk flow beat drawn words text old new was is err does done store keys numbers trace asks
 
-  pub run_over : OverStore disk beat drawn words text old new before after status → (store keys : List ℕ) (lanes : Option (List ℕ)) (turns : Bool) → asked_by words ≡ Some (run_asked store keys lanes turns)
-      → RunTells disk beat drawn words text old new before after status lanes turns
-  run_over (inl (kept, inl (asked, done))) store keys lanes turns asks = absurd (not_run words store keys lanes turns asked asks)
-  run_over (inl (kept, inr (word, n, asked, count, done))) store keys lanes turns asks = absurd (drill_not_run words word store keys lanes turns asked asks)
-  run_over (inr (mid, fault, does, input, done)) store keys lanes turns asks = run_does before mid after status input disk beat drawn words text old new fault does done store keys lanes turns asks
+  pub run_over : OverStore disk flow beat drawn words text old new before after was is status → (store keys : List ℕ) (lanes : Option (List ℕ)) (turns : Bool) (trace : Option (List ℕ)) → asked_by words ≡ Some (run_asked store keys lanes turns trace)
+      → RunTells disk flow beat drawn words text old new was is before after status lanes turns trace
+  run_over (inl (kept, inl (asked, done))) store keys lanes turns trace asks = absurd (not_run words store keys lanes turns trace asked asks)
+  run_over (inl (kept, inr (word, n, asked, count, done))) store keys lanes turns trace asks = absurd (drill_not_run words word store keys lanes turns trace asked asks)
+  run_over (inr (mid, err, does, input, done)) store keys lanes turns trace asks = run_does before mid after status input disk flow beat drawn words text old new was is err does done store keys lanes turns trace asks
 
 -- ---- without one
 
-module _ (words : List (List ℕ)) (text : Option (Bor (List ℕ))) (before after : Outside) (status : ℕ) where
+module _ (Kept : Type 0) (kept : Kept) (words : List (List ℕ)) (text : Option (Bor (List ℕ))) (before after : Outside) (status : ℕ) where
   abbrev Alone : Fault → Type 0
-  Alone f = Unit {0} × IsOnlyTold f before after status
+  Alone f = (Unit {0} × Kept) × IsOnlyTold f before after status
 
   abbrev NoneAlone : Type 0
-  NoneAlone = ((f : Fault) × IsKeysRefused text f × Alone f) ⊎ ((keys : Keys) × HasKeys text keys × IsOnlyTold (StoreFault None) before after status)
+  NoneAlone = ((f : Fault) × IsKeysRefused text f × Alone f) ⊎ ((keys : Keys) × HasKeys text keys × (Kept × IsOnlyTold (StoreFault None) before after status))
 
   pub usage_alone : WithoutStore words text before after status → asked_by words ≡ None → Alone Usage ⊎ Alone Memory
   usage_alone (inl (inl (asked, done))) nothing = absurd (nothing_asked words audit_asked nothing asked)
   usage_alone (inl (inr (word, n, asked, count, done))) nothing = absurd (nothing_asked words (drill_asked word) nothing asked)
-  usage_alone (inr (fault, refused, input, done)) nothing = no_store_usage before before after status input words text fault refl done refused nothing
+  usage_alone (inr (fault, refused, input, done)) nothing = no_store_usage before before after status input Kept kept words text fault refl done refused nothing
 
-  pub audit_without : WithoutStore words text before after status → asked_by words ≡ Some audit_asked → Alone Memory ⊎ (Unit {0} × AuditDone before after status)
-  audit_without (inl (inl (asked, done))) asks = inr (tt, done)
+  pub audit_without : WithoutStore words text before after status → asked_by words ≡ Some audit_asked → Alone Memory ⊎ ((Unit {0} × Kept) × AuditDone before after status)
+  audit_without (inl (inl (asked, done))) asks = inr ((tt, kept), done)
   audit_without (inl (inr (word, n, asked, count, done))) asks = absurd (not_audit words word asked asks)
-  audit_without (inr (fault, refused, input, done)) asks = inl (no_store_audit before before after status input words text fault refl done refused asks)
+  audit_without (inr (fault, refused, input, done)) asks = inl (no_store_audit before before after status input Kept kept words text fault refl done refused asks)
 
   pub drill_without : WithoutStore words text before after status → (word : List ℕ) → asked_by words ≡ Some (drill_asked word)
-      → Alone Memory ⊎ ((IsBadCount word × Alone (BadParams COUNT)) ⊎ ((n : ℕ) × IsCount word n × Unit {0} × DrillDone n before after status))
+      → Alone Memory ⊎ ((IsBadCount word × Alone (BadParams COUNT)) ⊎ ((n : ℕ) × IsCount word n × (Unit {0} × Kept) × DrillDone n before after status))
   drill_without (inl (inl (asked, done))) word asks = absurd (not_audit words word asks asked)
-  drill_without (inl (inr (other, n, asked, count, done))) word asks = inr (inr (n, subst (λ (w : List ℕ). IsCount w n) (same_word words other word asked asks) count, tt, done))
-  drill_without (inr (fault, refused, input, done)) word asks = ⊎_elim (λ memory. inl memory) (λ bad. inr (inl bad)) (no_store_drill before before after status input words text fault refl done refused word asks)
+  drill_without (inl (inr (other, n, asked, count, done))) word asks = inr (inr (n, subst (λ (w : List ℕ). IsCount w n) (same_word words other word asked asks) count, (tt, kept), done))
+  drill_without (inr (fault, refused, input, done)) word asks = ⊎_elim (λ memory. inl memory) (λ bad. inr (inl bad)) (no_store_drill before before after status input Kept kept words text fault refl done refused word asks)
 
-  pub format_alone : WithoutStore words text before after status → (store keys : List ℕ) (numbers : List (List ℕ)) → asked_by words ≡ Some (format_asked store keys numbers)
+  pub format_alone : WithoutStore words text before after status → (store keys : List ℕ) (numbers : List (List ℕ)) (trace : Option (List ℕ)) → asked_by words ≡ Some (format_asked store keys numbers trace)
       → Alone Memory ⊎ (((field : Field) × IsBadNumber numbers field × Alone (BadParams field)) ⊎ ((p : Params) × AreParams numbers p × NoneAlone))
-  format_alone (inl (inl (asked, done))) store keys numbers asks = absurd (not_format words store keys numbers asked asks)
-  format_alone (inl (inr (word, n, asked, count, done))) store keys numbers asks = absurd (drill_not_format words word store keys numbers asked asks)
-  format_alone (inr (fault, refused, input, done)) store keys numbers asks = no_store_format before before after status input words text fault refl done refused store keys numbers asks
+  format_alone (inl (inl (asked, done))) store keys numbers trace asks = absurd (not_format words store keys numbers trace asked asks)
+  format_alone (inl (inr (word, n, asked, count, done))) store keys numbers trace asks = absurd (drill_not_format words word store keys numbers trace asked asks)
+  format_alone (inr (fault, refused, input, done)) store keys numbers trace asks = no_store_format before before after status input Kept kept words text fault refl done refused store keys numbers trace asks
 
-  pub run_alone : WithoutStore words text before after status → (store keys : List ℕ) (lanes : Option (List ℕ)) (turns : Bool) → asked_by words ≡ Some (run_asked store keys lanes turns)
+  pub run_alone : WithoutStore words text before after status → (store keys : List ℕ) (lanes : Option (List ℕ)) (turns : Bool) (trace : Option (List ℕ)) → asked_by words ≡ Some (run_asked store keys lanes turns trace)
       → Alone Memory ⊎ ((AreBadLanes lanes × Alone (BadParams LANES)) ⊎ ((k : ℕ) × AreLanes lanes k × NoneAlone))
-  run_alone (inl (inl (asked, done))) store keys lanes turns asks = absurd (not_run words store keys lanes turns asked asks)
-  run_alone (inl (inr (word, n, asked, count, done))) store keys lanes turns asks = absurd (drill_not_run words word store keys lanes turns asked asks)
-  run_alone (inr (fault, refused, input, done)) store keys lanes turns asks = no_store_run before before after status input words text fault refl done refused store keys lanes turns asks
+  run_alone (inl (inl (asked, done))) store keys lanes turns trace asks = absurd (not_run words store keys lanes turns trace asked asks)
+  run_alone (inl (inr (word, n, asked, count, done))) store keys lanes turns trace asks = absurd (drill_not_run words word store keys lanes turns trace asked asks)
+  run_alone (inr (fault, refused, input, done)) store keys lanes turns trace asks = no_store_run before before after status input Kept kept words text fault refl done refused store keys lanes turns trace asks

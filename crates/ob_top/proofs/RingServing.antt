@@ -27,7 +27,7 @@ use Rattle.ob_conduct.specs.Scenes.{scene, RunState, run_state, RunnerKind}
 use Rattle.ob_run.specs.Threaded.{RunsBy}
 use Rattle.ob_outcomes.proofs.Whole.{RunsScripts}
 use Rattle.ob_desk.specs.Beats.{BeatKind}
-use Rattle.ob_top.specs.Endings.{fault_by}
+use Rattle.ob_top.specs.Endings.{err_of}
 use Rattle.ob_top.specs.Runs.{manner, ServedOver}
 use Rattle.ob_top.proofs.Serving.{IsLender, serves_on}
 
@@ -49,10 +49,10 @@ module _ {V S : Type 0} (k : Kind V) (disk : S → Disk) (counts_now : (x : S) (
 
   pub ring_serves : {U : Type 0} (beat : BeatKind) (threads : Bool) (kind : RunnerKind U (List ScriptTxn)) (means : RunsScripts kind) (script : Scripts) (sound : AreSound script)
       (may : MayOpen (record { params = p }) (suc (f.run).epoch) (f.run).left script.clients) (trace : Trace) (runners : List U) (before : Flow) (end : RunState V U) (result : Result (Unit {0}) RunErr) (epoch left : ℕ)
-      → end.scene.trace.broken ≡ false → map kind.client runners ≡ script.clients → All (λ u. kind.plan u ≡ asks_by (kind.client u) script.txns) runners → epoch ≡ (f.run).epoch → left ≡ (f.run).left
+      → trace.broken ≡ false → map kind.client runners ≡ script.clients → All (λ u. kind.plan u ≡ asks_by (kind.client u) script.txns) runners → epoch ≡ (f.run).epoch → left ≡ (f.run).left
       → RunsBy threads k kind beat (run_state (scene (new_desk (record { params = p }) (suc epoch) left script.clients) first trace) runners before) end result
       → IsRingLender → RingAt k disk runs keys most p f (disk (runs first).store) (ring_public p f) (ring_hidden f) 0 first
-      → ServedOver ring_kind ring_lives disk (manner beat threads most) keys p f (f.run).sealer script (runs end.scene.vault).drawn (runs first).store (runs end.scene.vault).store before end.output (fault_by result)
+      → ServedOver ring_kind ring_lives disk (manner beat threads most) keys p f (f.run).sealer script (runs end.scene.vault).drawn (runs first).store (runs end.scene.vault).store before end.output trace end.scene.trace (err_of result)
   ring_serves beat threads kind means script sound may trace runners before end result epoch left unbroken named planned epoch_is left_is run l begun =
       serves_on k ring_kind disk (λ v. (runs v).store) keys most p f first (RingBehind k disk runs words keys most p f (disk (runs first).store)) (λ v. (runs v).drawn) (ring_does k disk runs words keys most p f (disk (runs first).store)) tells ring_lives at_rest at_stop
       beat threads kind means (f.run).sealer script sound may trace runners before end result epoch left unbroken named planned epoch_is left_is run l begun

@@ -1,6 +1,9 @@
 -- How what was begun and what was served join into a run.
-use Rattle.std.proofs.Common.{◌≤◌, ◌⊎◌, ℕ, List, [], length, map, Option, Some, None, refl, inl, inr, subst, arith}
+use Rattle.std.proofs.Common.{◌≡◌, false, true, ◌≤◌, ◌⊎◌, ℕ, List, [], length, map, Option, Some, None, refl, inl, inr, subst, arith}
 use Rattle.ob_base.specs.declared.params.Params.{Params}
+use Rattle.ob_conduct.specs.declared.run_err.RunErr.{RunErr}
+use Rattle.ob_conduct.specs.declared.run_err.RunErr.TheVariants as failed
+use Rattle.ob_store.specs.Lines.{Shows, Trace}
 use Rattle.ob_seal.specs.declared.keys.Keys.{Keys}
 use Rattle.ob_seal.specs.Sealing.{Sealing}
 use Rattle.ob_base.specs.declared.fault.Fault.{Fault}
@@ -25,8 +28,8 @@ use Rattle.ob_store.proofs.Serving.{rose_later}
 use Rattle.ob_serial.specs.Serial.{EpochRecord}
 use Rattle.ob_script.specs.Script.{Scripts}
 use Rattle.ob_top.specs.Outside.{Outside, outside}
-use Rattle.ob_top.specs.Runs.{Manner, EndsEarly, IsOpened, EndsFor, IsLeftOnDisk, LeftByWholeRun, IsReadAndOpened, ServedOver, Ran, Went, RunOn, begin_phases}
-use Rattle.ob_top.proofs.Lines.{Stand, stand_unless}
+use Rattle.ob_top.specs.Runs.{Manner, EndsEarly, IsOpened, EndsFor, begin_notes, IsLeftOnDisk, LeftByWholeRun, IsReadAndOpened, ServedOver, Ran, Went, RunOn, begin_phases}
+use Rattle.ob_top.proofs.Lines.{Stand, stand_all, stand_unless}
 use Rattle.ob_top.proofs.Living.{whole_lives}
 use Rattle.ob_top.proofs.Sounding.{early_sound, ran_sound}
 
@@ -37,53 +40,56 @@ pub record IsQuiet (store : StoreKind) : Type 0 where
 
 module _ (store : StoreKind) (quiet : IsQuiet store) (life : LifeWords store) where
   -- an early end isn't the output's
-  early_other : {S : Type 0} (disk : S → Disk) (keys : Keys) (most : ℕ) (old new : Disk) (before after : Flow) → EndsEarly store life keys most old new disk before after SinkFault → ⊥
-  early_other disk keys most old new before after (inl head) = quiet.head head.kind
-  early_other disk keys most old new before after (inr (inl input)) = input.refused
-  early_other disk keys most old new before after (inr (inr opening)) = quiet.opening opening.kind
+  early_other : {S : Type 0} (disk : S → Disk) (keys : Keys) (most : ℕ) (old new : Disk) (t u : Trace) (before after : Flow) → EndsEarly store life keys most old new t u disk before after (failed.Fault SinkFault) → ⊥
+  early_other disk keys most old new t u before after (inl head) = quiet.head head.kind
+  early_other disk keys most old new t u before after (inr (inl input)) = input.refused
+  early_other disk keys most old new t u before after (inr (inr opening)) = quiet.opening opening.kind
 
   -- so it has printed nothing, which is the report of no records
-  early_stand : {S : Type 0} (disk : S → Disk) (keys : Keys) (most : ℕ) (old new : Disk) (before after output : Flow) (fault : Fault) → EndsEarly store life keys most old new disk before after fault → Stand [] output output (Some fault)
-  early_stand disk keys most old new before after output fault early =
-      stand_unless [] output output fault (λ is. early_other disk keys most old new before after (subst (λ (f : Fault). EndsEarly store life keys most old new disk before after f) is early)) (record { bytes = appended-none output.bytes; later = omega arith })
+  early_stand : {S : Type 0} (disk : S → Disk) (keys : Keys) (most : ℕ) (old new : Disk) (t u : Trace) (before after output : Flow) (err : RunErr) → EndsEarly store life keys most old new t u disk before after err → Stand [] output output (Some err)
+  early_stand disk keys most old new t u before after output (failed.Fault refused) early =
+      stand_unless [] output output refused (λ is. early_other disk keys most old new t u before after (subst (λ (f : Fault). EndsEarly store life keys most old new t u disk before after (failed.Fault f)) is early)) (record { bytes = appended-none output.bytes; later = omega arith })
+  early_stand disk keys most old new t u before after output failed.Unwatched early = stand_all [] output output (record { bytes = appended-none output.bytes; later = omega arith })
 
   pub ended_early : (laws : AreStandingLaws store) {S : Type 0} (disk : S → Disk)
-      (counts_now : (x : S) (t : Clock) (c : Image) → NotAfter t (disk x).moment → (disk x).may_leave c → (disk x).left_since t c) (by : Manner) (words : List ℕ) (keys : Keys) (old new : S) (before after output : Flow) (fault : Fault) → EndsEarly store life keys by.lanes (disk old) (disk new) disk before after fault → ((disk new).tells → LivesOn disk keys old new [])
+      (counts_now : (x : S) (t : Clock) (c : Image) → NotAfter t (disk x).moment → (disk x).may_leave c → (disk x).left_since t c) (by : Manner) (words : List ℕ) (keys : Keys) (old new : S) (t u : Trace) (before after output : Flow) (err : RunErr)
+      → EndsEarly store life keys by.lanes (disk old) (disk new) t u disk before after err → ((disk new).tells → LivesOn disk keys old new [])
       → RunOn store life disk by words keys old new
-      (outside before output) (outside after output) (Some fault)
-  ended_early laws disk counts_now by words keys old new before after output fault early lives = record {
+      (outside before output) (outside after output) t u (Some err)
+  ended_early laws disk counts_now by words keys old new t u before after output err early lives = record {
     records = [];
-    whole = (early_stand disk keys by.lanes (disk old) (disk new) before after output fault early).0;
-    lines = (early_stand disk keys by.lanes (disk old) (disk new) before after output fault early).1;
+    whole = (early_stand disk keys by.lanes (disk old) (disk new) t u before after output err early).0;
+    lines = (early_stand disk keys by.lanes (disk old) (disk new) t u before after output err early).1;
     went = inl (refl, early, lives);
-    sound = early_sound store laws life disk counts_now keys old new by.lanes before after fault early;
+    sound = early_sound store laws life disk counts_now keys old new by.lanes t u before after err early;
   }
 
-  module _ (keys : Keys) (p : Params) (found : store.Found) (h : store.Hidden) (so_far : List Shape) (n : ℕ) (call : Option VaultCall) (words : List ℕ) (old mid new : Disk) (before after : Flow) (later : old.faults ≤ mid.faults) where
-    -- the store's count rose since an earlier moment too
-    pub cause_since : (fault : Option Fault) → EndsFor store keys p found mid h so_far n call words mid new before after fault → EndsFor store keys p found mid h so_far n call words old new before after fault
+  module _ (keys : Keys) (p : Params) (found : store.Found) (h : store.Hidden) (so_far : List Shape) (n : ℕ) (call : Option VaultCall) (words : List ℕ) (old mid new : Disk) (before after : Flow) (t midway u : Trace) (later : old.faults ≤ mid.faults) (watch_later : t.faults ≤ midway.faults) where
+    -- the store's count rose since an earlier moment too, and so did that of the watch's sink
+    pub cause_since : (err : Option RunErr) → EndsFor store keys p found mid h so_far n call words mid new before after midway u err → EndsFor store keys p found mid h so_far n call words old new before after t u err
     cause_since None cause = cause
-    cause_since (Some Memory) cause = cause
-    cause_since (Some SinkFault) cause = cause
-    cause_since (Some (StoreFault unsure)) (rose, which) = (rose_later old.faults mid.faults new.faults later rose, which)
-    cause_since (Some (Worn number)) cause = cause
-    cause_since (Some Usage) cause = cause
-    cause_since (Some (BadScript line)) cause = cause
-    cause_since (Some (BadParams field)) cause = cause
-    cause_since (Some NotStore) cause = cause
-    cause_since (Some (Damaged cell check kept computed)) cause = cause
-    cause_since (Some (StashFull rows)) cause = cause
-    cause_since (Some SourceFault) cause = cause
+    cause_since (Some failed.Unwatched) cause = rose_later t.faults midway.faults u.faults watch_later cause
+    cause_since (Some (failed.Fault Memory)) cause = cause
+    cause_since (Some (failed.Fault SinkFault)) cause = cause
+    cause_since (Some (failed.Fault (StoreFault unsure))) (rose, which) = (rose_later old.faults mid.faults new.faults later rose, which)
+    cause_since (Some (failed.Fault (Worn number))) cause = cause
+    cause_since (Some (failed.Fault Usage)) cause = cause
+    cause_since (Some (failed.Fault (BadScript line))) cause = cause
+    cause_since (Some (failed.Fault (BadParams field))) cause = cause
+    cause_since (Some (failed.Fault NotStore)) cause = cause
+    cause_since (Some (failed.Fault (Damaged cell check kept computed))) cause = cause
+    cause_since (Some (failed.Fault (StashFull rows))) cause = cause
+    cause_since (Some (failed.Fault SourceFault)) cause = cause
 
-  pub went_of : {S : Type 0} (disk : S → Disk) (by : Manner) (words : List ℕ) (keys : Keys) (old new : S) (before after : Outside) (records : List (EpochRecord ℕ)) (fault : Option Fault) → Ran store life disk by words keys old new before after records fault → Went store life
-      disk by words keys old new before after records fault
-  went_of disk by words keys old new before after records None ran = ran
-  went_of disk by words keys old new before after records (Some fault) ran = inr ran
+  pub went_of : {S : Type 0} (disk : S → Disk) (by : Manner) (words : List ℕ) (keys : Keys) (old new : S) (before after : Outside) (t u : Trace) (records : List (EpochRecord ℕ)) (err : Option RunErr) → Ran store life disk by words keys old new before after t u records err → Went store life
+      disk by words keys old new before after t u records err
+  went_of disk by words keys old new before after t u records None ran = ran
+  went_of disk by words keys old new before after t u records (Some err) ran = inr ran
 
   -- What a crash leaves of the opening and of the serving.
-  left_both : {S : Type 0} (disk : S → Disk) (keys : Keys) (old mid new : Disk) (p : Params) (found : store.Found) (at : Standing) (script : Scripts) (records : List (EpochRecord ℕ)) (fault : Option Fault) (acts : List Act)
-      → LeavesOnly old mid (StandsAsBefore store keys p old) → IsLeftOnDisk store keys p found at script records fault acts disk mid new → LeftByWholeRun store keys p found at script records fault acts disk old mid new
-  left_both disk keys old mid new p found at script records fault acts first l = record {
+  left_both : {S : Type 0} (disk : S → Disk) (keys : Keys) (old mid new : Disk) (p : Params) (found : store.Found) (at : Standing) (script : Scripts) (records : List (EpochRecord ℕ)) (err : Option RunErr) (acts : List Act)
+      → LeavesOnly old mid (StandsAsBefore store keys p old) → IsLeftOnDisk store keys p found at script records err acts disk mid new → LeftByWholeRun store keys p found at script records err acts disk old mid new
+  left_both disk keys old mid new p found at script records err acts first l = record {
     next = l.next;
     is_next = l.is_next;
     closed = l.closed;
@@ -98,7 +104,9 @@ module _ (store : StoreKind) (quiet : IsQuiet store) (life : LifeWords store) wh
 
   -- The script was run over the store that was opened.
   pub ran : (laws : AreStandingLaws store) {S : Type 0} (disk : S → Disk)
-      (counts_now : (x : S) (t : Clock) (c : Image) → NotAfter t (disk x).moment → (disk x).may_leave c → (disk x).left_since t c) (by : Manner) (words : List ℕ) (keys : Keys) (old between new : S) (input input_new output output_new : Flow) (p : Params) (script : Scripts) (found : store.Found) (start : store.Start) (sealing : Sealing) (fault : Option Fault)
+      (counts_now : (x : S) (t : Clock) (c : Image) → NotAfter t (disk x).moment → (disk x).may_leave c → (disk x).left_since t c) (by : Manner) (words : List ℕ) (keys : Keys) (old between new : S) (input input_new output output_new : Flow) (p : Params)
+      (script : Scripts) (found : store.Found) (start : store.Start) (sealing : Sealing) (t midway u : Trace) (err : Option RunErr)
+      → Shows (begin_notes store p found start) t midway → midway.broken ≡ false
       → (disk old).faults ≤ (disk between).faults
       → IsOpened store keys (disk old) input p script found start → ArePhasesMade by.lanes (begin_phases store p found start) (disk old).seen (disk between).seen
       → ((disk old).tells → (disk between).tells × IsSynced (disk between))
@@ -106,10 +114,10 @@ module _ (store : StoreKind) (quiet : IsQuiet store) (life : LifeWords store) wh
       → ((at : Standing) → (disk old).tells → Stands store keys p (disk old).cells at → AllStand store keys p (disk old) → LeavesOnly (disk old) (disk between) (StandsAsBefore store keys p (disk old)))
       → OpensStanding store disk keys p (disk old) (disk between)
       → IsReadAndOpened disk keys old between sealing → ((disk old).tells → life.begins keys p (disk old).cells found)
-      → ServedOver store life disk by keys p found sealing script words between new output output_new fault
-      → RunOn store life disk by words keys old new (outside input output) (outside input_new output_new) fault
-  ran laws disk counts_now by words keys old between new input input_new output output_new p script found start sealing fault later opened seen durable stood before opens begun found_so s =
-      let its : Ran store life disk by words keys old new (outside input output) (outside input_new output_new) s.records fault = record {
+      → ServedOver store life disk by keys p found sealing script words between new output output_new midway u err
+      → RunOn store life disk by words keys old new (outside input output) (outside input_new output_new) t u err
+  ran laws disk counts_now by words keys old between new input input_new output output_new p script found start sealing t midway u err shown whole later opened seen durable stood before opens begun found_so s =
+      let its : Ran store life disk by words keys old new (outside input output) (outside input_new output_new) t u s.records err = record {
         p = p;
         script = script;
         found = found;
@@ -117,17 +125,22 @@ module _ (store : StoreKind) (quiet : IsQuiet store) (life : LifeWords store) wh
         opened = opened;
         between = between;
         is_served = s.is_served;
-        cause = cause_since keys p found s.traced.behind (shapes (calls s.is_served.served.acts)) (length s.records) (refused (calls s.is_served.served.acts)) words (disk old) (disk between) (disk new) output output_new later fault s.cause;
+        cause = cause_since keys p found s.traced.behind (shapes (calls s.is_served.served.acts)) (length s.records) (refused (calls s.is_served.served.acts)) words (disk old) (disk between) (disk new) output output_new t midway u later shown.faults err s.cause;
         events = s.events;
         traced = s.traced;
         opening_seen = seen;
         serving_seen = s.seen;
         seen = joined seen.events s.events (disk old).seen (disk between).seen (disk new).seen seen.noted s.seen;
+        midway = midway;
+        opening_shown = shown;
+        whole_midway = whole;
+        shown = s.shown;
+        watched = s.watched;
         opens = opens;
         tells = λ none told. s.tells none (durable told).0;
         stood = stood;
         left = λ at tells stands all. let (told, settled) = durable tells in
-            left_both disk keys (disk old) (disk between) (disk new) p found at script s.records fault s.is_served.served.acts (before at tells stands all) (s.left at told settled (stood at tells stands));
+            left_both disk keys (disk old) (disk between) (disk new) p found at script s.records err s.is_served.served.acts (before at tells stands all) (s.left at told settled (stood at tells stands));
         lives = whole_lives disk keys old between new sealing (map (λ s. s.1) (calls s.is_served.served.acts)) s.goes begun s.lives;
         opens_life = found_so;
         goes_on = s.goes_on;
@@ -136,6 +149,6 @@ module _ (store : StoreKind) (quiet : IsQuiet store) (life : LifeWords store) wh
         records = s.records;
         whole = s.whole;
         lines = s.lines;
-        went = went_of disk by words keys old new (outside input output) (outside input_new output_new) s.records fault its;
-        sound = ran_sound store laws life disk counts_now keys old new by words (outside input output) (outside input_new output_new) s.records fault its;
+        went = went_of disk by words keys old new (outside input output) (outside input_new output_new) t u s.records err its;
+        sound = ran_sound store laws life disk counts_now keys old new by words (outside input output) (outside input_new output_new) t u s.records err its;
       }

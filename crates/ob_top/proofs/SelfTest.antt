@@ -52,6 +52,7 @@ use Rattle.ob_report.specs.Printed.{Prints}
 use Rattle.ob_report.specs.Summaries.{summary_text}
 use Rattle.ob_report.specs.declared.summary.Summary.{Summary}
 use Rattle.ob_top.specs.Drilling.{WasRun, IsOpenedEmpty, IsWant, script_runners, no_output}
+use Rattle.ob_top.specs.Outside.{blind}
 use Rattle.ob_top.specs.Drills.{counted_value, drill_digest, drill_numbers, drill_summary}
 use Rattle.ob_top.proofs.Lent.{runs_scripts}
 use Rattle.ob_top.proofs.Opens.{may_open}
@@ -225,12 +226,12 @@ module _ {V : Type 0} (k : Kind V) (p : Params) (numbers : numbers_of p ≡ dril
 -- the same of a run over a vault that tells of itself what it holds
 module _ {V : Type 0} (k : Kind V) (counts : V → VaultCounts) (agrees : (x : V) (u : VaultState) → k.holds x u → counts_of u ≡ counts x) (p : Params) (numbers : numbers_of p ≡ drill_numbers) (n : ℕ) (few : n ≤ 10000) (beat : BeatKind) (script : Scripts) (script_is : script ≡ drill_script n)
     (first : V) (begins : (counts first).epoch ≡ 0) (left : (counts first).left ≡ p.batches) (runners : List ScriptRunner) (are : AreRunners script runners) (v : VaultState) (held : k.holds first v) (none : v.content ≡ finite.empty)
-    (mid : V) (at : Trace) (run : WasRun k counts beat p script runners first mid at (Ok tt)) where
-  abbrev runs_it : WasRun k counts beat p (drill_script n) runners first mid at (Ok tt)
-  runs_it = subst (λ (s : Scripts). WasRun k counts beat p s runners first mid at (Ok tt)) script_is run
+    (mid : V) (run : WasRun k counts beat p script runners first mid (Ok tt)) where
+  abbrev runs_it : WasRun k counts beat p (drill_script n) runners first mid (Ok tt)
+  runs_it = subst (λ (s : Scripts). WasRun k counts beat p s runners first mid (Ok tt)) script_is run
 
-  pub its : Went k p numbers n few beat first runs_it.before (counts first).epoch (counts first).left (omega (arith, begins)) left runners (subst (λ (s : Scripts). AreRunners s runners) script_is are) v held none runs_it.desk mid at runs_it.ran runs_it.by
-  its = went k p numbers n few beat first runs_it.before (counts first).epoch (counts first).left (omega (arith, begins)) left runners (subst (λ (s : Scripts). AreRunners s runners) script_is are) v held none runs_it.desk mid at runs_it.ran runs_it.by
+  pub its : Went k p numbers n few beat first blind (counts first).epoch (counts first).left (omega (arith, begins)) left runners (subst (λ (s : Scripts). AreRunners s runners) script_is are) v held none runs_it.desk mid blind runs_it.ran runs_it.by
+  its = went k p numbers n few beat first blind (counts first).epoch (counts first).left (omega (arith, begins)) left runners (subst (λ (s : Scripts). AreRunners s runners) script_is are) v held none runs_it.desk mid blind runs_it.ran runs_it.by
 
   held_now : k.holds mid (after_calls v (calls its.acts))
   held_now = holds_behind k first (calls its.acts) mid v its.chain held
@@ -275,14 +276,14 @@ pub failed_goes : {V : Type 0} (k : Kind V) (most : ℕ) (first : V) (before : T
 failed_goes k most first before refused last after (inl (memory, r)) = reads_go k most first before last after r
 failed_goes k most first before refused last after (inr r) = goes_then (k.disk first) (k.disk r.mid) (k.disk last) (reads_go k most first before r.mid r.at r.behind) r.one.goes
 
-module _ {V : Type 0} (k : Kind V) (counts : V → VaultCounts) (beat : BeatKind) (p : Params) (script : Scripts) (runners : List ScriptRunner) (first mid : V) (at : Trace) where
-  pub run_goes : (result : Result (Unit {0}) RunErr) → WasRun k counts beat p script runners first mid at result → GoesOn (k.disk first) (k.disk mid)
-  run_goes result run = let (acts, d, shaped) = runs_shaped true k script_runners beat _ _ result run.by in all_go k first (calls acts) mid (called k first run.before (calls acts) d.notes mid at d.chain)
+module _ {V : Type 0} (k : Kind V) (counts : V → VaultCounts) (beat : BeatKind) (p : Params) (script : Scripts) (runners : List ScriptRunner) (first mid : V) where
+  pub run_goes : (result : Result (Unit {0}) RunErr) → WasRun k counts beat p script runners first mid result → GoesOn (k.disk first) (k.disk mid)
+  run_goes result run = let (acts, d, shaped) = runs_shaped true k script_runners beat _ _ result run.by in all_go k first (calls acts) mid (called k first blind (calls acts) d.notes mid blind d.chain)
 
   memory_alone : (refused : Fault) → refused ≡ fault.Memory → IsStoreFault refused → ⊥
   memory_alone refused is store = subst IsStoreFault is store
 
-  pub run_cause : (refused : Fault) (err : RunErr) → WasRun k counts beat p script runners first mid at (Err err) → refused ≡ fault_of err → IsStoreFault refused → Rose (k.disk first).faults (k.disk mid).faults
+  pub run_cause : (refused : Fault) (err : RunErr) → WasRun k counts beat p script runners first mid (Err err) → refused ≡ fault_of err → IsStoreFault refused → Rose (k.disk first).faults (k.disk mid).faults
   run_cause refused err run same store =
       let (acts, d, shaped) = runs_shaped true k script_runners beat _ _ (Err err) run.by in
       ⊎_elim (λ short. absurd (memory_alone refused (same ∙ ap fault_of short.fault_is) store)) (λ failed. failed.cause (subst IsStoreFault same store)) d.ends

@@ -1,6 +1,6 @@
 -- What serving a script does to the store that the vault was lent, whatever the kind of store.
 use Rattle.std.specs.List.{All}
-use Rattle.std.proofs.Common.{false, ◌≡◌, ◌+◌, ◌∙◌, ◌⊎◌, ℕ, suc, Bool, List, [], ◌∷◌, ◌++◌, length, map, Option, Some, None, Result, Ok, Err, refl, sym, ap, subst, inl, inr, arith, ⊎_elim}
+use Rattle.std.proofs.Common.{Bool, true, false, ◌≡◌, ◌+◌, ◌∙◌, ◌⊎◌, ℕ, suc, List, [], ◌∷◌, ◌++◌, length, map, Option, Some, None, Result, Ok, Err, refl, sym, ap, subst, inl, inr, arith, ⊎_elim}
 use Rattle.std.proofs.lemmas.List.{append-nil, append_assoc}
 use Rattle.std.proofs.lemmas.Option.{same_Some}
 use Rattle.std.specs.Ordering.{nat_cmp}
@@ -12,9 +12,10 @@ use Rattle.ob_io.specs.Streams.{Flow}
 use Rattle.ob_store.specs.declared.event.Event.{Event}
 use Rattle.ob_store.specs.Disk.{Disk, Image}
 use Rattle.ob_store.specs.Images.{IsImageOf, LeavesOnly, IsSynced}
-use Rattle.ob_store.specs.Lines.{Trace}
+use Rattle.ob_store.specs.Lines.{BreaksOnly, Shows, Trace}
+use Rattle.ob_store.specs.declared.watch.Note.{Note}
 use Rattle.ob_store.specs.Calls.{GoesOn, Notes, IsStoreFault}
-use Rattle.ob_store.proofs.Events.{joined, none_noted}
+use Rattle.ob_store.proofs.Events.{joined as joined_seen, none_noted}
 use Rattle.ob_store.proofs.Moments.{weakened}
 use Rattle.ob_store.proofs.Serving.{rose_later}
 use Rattle.ob_seal.specs.declared.keys.Keys.{Keys}
@@ -30,16 +31,16 @@ use Rattle.ob_recover.proofs.Dealing.{made_join, made_none}
 use Rattle.ob_vault.specs.Shapes.{Shape, Fetches, Ends, answered, shape_of, shapes, refused}
 use Rattle.ob_vault.specs.Kinds.{StoreKind, IsOpenedAt, opened_with}
 use Rattle.ob_vault.specs.KindLives.{LifeWords}
-use Rattle.ob_vault.specs.KindShown.{AreDrawn, IsSeenCut, public_behind, steps_phases}
+use Rattle.ob_vault.specs.KindShown.{AreDrawn, IsCutShown, IsSeenCut, public_behind, steps_notes, steps_phases}
 use Rattle.ob_vault.specs.Steps.{IsAnsweredCall, Stops, IsCallOfKind}
 use Rattle.ob_vault.specs.KindLaws.{AllAnswered}
 use Rattle.ob_vault.proofs.Shapes.{answered_join as answers_join, shapes_join, answered_not_refused, refused_last}
 use Rattle.ob_script.specs.Script.{ScriptTxn, Scripts, AreSound, asks_by}
 use Rattle.ob_desk.specs.Desk.{DeskState, MayOpen, Run, new_desk}
-use Rattle.ob_conduct.specs.Acts.{Act, Says, Halts, Rests as Looked, Takes, Delivers, DeliverFails, FetchFails, RestUnwatched, Closes, Publishes, Refuses, Unprinted, Unwatched, calls, history, vault_calls, rest_fetches, fault_in, fault_of as fault_for, fault_told, records as records_of_acts}
+use Rattle.ob_conduct.specs.Acts.{Act, Says, Halts, Rests as Looked, Takes, Delivers, DeliverFails, FetchFails, RestUnwatched, Closes, Publishes, Refuses, Unprinted, Unwatched, calls, history, vault_calls, rest_fetches, fault_in, fault_of as stop_fault, fault_told, records as records_of_acts}
 use Rattle.ob_conduct.specs.declared.run_err.RunErr.{RunErr}
 use Rattle.ob_conduct.specs.declared.run_err.RunErr.TheVariants as failed
-use Rattle.ob_conduct.specs.Scenes.{scene, RunState, run_state, RunnerKind}
+use Rattle.ob_conduct.specs.Scenes.{AllNoted, scene, RunState, run_state, RunnerKind}
 use Rattle.ob_conduct.specs.Records.{AreAnswered, AreWritten, HoldsMap, contents}
 use Rattle.ob_conduct.specs.Moves.{Failure, IsReason, AreLines}
 use Rattle.ob_conduct.specs.Conducted.{Conducted, RunEnds}
@@ -47,7 +48,7 @@ use Rattle.ob_run.specs.Threaded.{RunsBy, AreShaped}
 use Rattle.ob_run.proofs.Shapes.{runs_shaped}
 use Rattle.ob_conduct.specs.Left.{Rests, OnlyNow, IsLeftStanding, TellsDoubt, IsNextOf, IsThisOrNext, Stages, next_at}
 use Rattle.ob_conduct.proofs.Leaving.{run_leaves}
-use Rattle.ob_conduct.proofs.Moving.{goes_all, called}
+use Rattle.ob_conduct.proofs.Moving.{all_shown, goes_all, called}
 use Rattle.ob_conduct.proofs.Acting.{answered_rest}
 use Rattle.ob_conduct.proofs.Going.{answered_join}
 use Rattle.ob_conduct.proofs.Behind.{asks_before}
@@ -55,9 +56,9 @@ use Rattle.ob_conduct.proofs.Conducting.{due_epoch, due_in_order, due_one_by_one
 use Rattle.ob_outcomes.specs.Served.{IsServed, ClientsServedAll}
 use Rattle.ob_outcomes.proofs.Whole.{RunsScripts, is_served, its_acts, its_desk, all_served, next_served}
 use Rattle.ob_desk.specs.Beats.{BeatKind}
-use Rattle.ob_top.specs.Endings.{fault_by}
-use Rattle.ob_top.proofs.Lines.{lines_stand, next_by_acts, none_unwatched, still_whole}
-use Rattle.ob_top.specs.Runs.{Manner, manner, EndsWith, EndsFor, IsTraced, IsLeftOnDisk, StagedFrom, IsNextEpoch, ComesNext, ServedOver, LivesBehind}
+use Rattle.ob_top.specs.Endings.{err_of, told_fault}
+use Rattle.ob_top.proofs.Lines.{lines_stand, next_by_acts}
+use Rattle.ob_top.specs.Runs.{Manner, manner, EndsWith, EndsFor, IsShown, IsTraced, IsLeftOnDisk, StagedFrom, IsNextEpoch, ComesNext, ServedOver, LivesBehind}
 
 -- an end that was refused ended nothing
 none_ended : (writes : List (ℕ × Option (List ℕ))) (refused : EndErr) → ended_by (End writes, end_answer (Err refused)) ≡ []
@@ -71,6 +72,10 @@ counted_ends [] (r ∷ records) are = absurd are
 counted_ends (w ∷ written) [] are = absurd are
 counted_ends (w ∷ written) (r ∷ records) (one, are) = ap suc (counted_ends written records are)
 
+-- a watch that was whole and has broken: its sink's count rose
+rose_broken : (notes : List Note) (t u : Trace) → Shows notes t u → t.broken ≡ false → u.broken ≡ true → Rose t.faults u.faults
+rose_broken notes t u shows whole broken = subst (λ (b : Bool). BreaksOnly false b t.faults u.faults) broken (subst (λ (b : Bool). BreaksOnly b u.broken t.faults u.faults) whole shows.breaks)
+
 all_answered : (steps : List (VaultCall × VaultAnswer)) → AreAnswered steps → AllAnswered steps
 all_answered [] are = tt
 all_answered ((Fetch keys, Values values) ∷ steps) are = all_answered steps are
@@ -83,23 +88,24 @@ all_answered ((End writes, RefusedBy fault) ∷ steps) are = absurd are
 all_answered ((End writes, DoubtBy fault) ∷ steps) are = absurd are
 
 module _ {V S : Type 0} (k : Kind V) (store : StoreKind) (disk : S → Disk) (store_of : V → S) (under : Keys) (most : ℕ) (p : Params) (found : store.Found) (start : V) (At : store.Public → store.Hidden → List Shape → ℕ → V → Type 0) (tape_of : V → List ℕ)
-    (does : (q : store.Public) (h : store.Hidden) (so_far : List Shape) (n : ℕ) (v : V) (call : VaultCall) (answer : VaultAnswer) (w : V) → At q h so_far n v → Called k v call answer w
-    → IsCallOfKind store under most p found (disk (store_of start)) At (disk (store_of v)) (disk (store_of w)) (tape_of w) w q h so_far n call answer)
+    (does : (q : store.Public) (h : store.Hidden) (so_far : List Shape) (n : ℕ) (v : V) (call : VaultCall) (answer : VaultAnswer) (w : V) → At q h so_far n v → (one : Called k v call answer w)
+    → IsCallOfKind store under most p found (disk (store_of start)) At (disk (store_of v)) (disk (store_of w)) (tape_of w) w one.notes q h so_far n call answer)
     (tells : (q : store.Public) (h : store.Hidden) (so_far : List Shape) (n : ℕ) (v : V) → At q h so_far n v → (fault : Option Fault) → store.is_of_tape p h None (tape_of v) fault) (life : LifeWords store)
     (at_rest : (calls : List VaultCall) (taken : List (Shape × store.Drawn)) (q : store.Public) (h : store.Hidden) (so_far : List Shape) (n : ℕ) (v : V) → AreDrawn store p (store.hidden p found) calls taken h → At q h so_far n v
     → life.goes_on under p found (disk (store_of start)) calls taken h None (tape_of v) (disk (store_of v)))
     (at_stop : (calls : List VaultCall) (taken : List (Shape × store.Drawn)) (q : store.Public) (h : store.Hidden) (so_far : List Shape) (n : ℕ) (v : V) → AreDrawn store p (store.hidden p found) calls taken h → At q h so_far n v
     → (call : VaultCall) (answer : VaultAnswer) (w : V) → Called k v call answer w → life.goes_on under p found (disk (store_of start)) calls taken h (Some call) (tape_of w) (disk (store_of w))) where
   -- Behind calls that were all answered: what they drew, what was seen, and where the vault is.
-  pub record Behind (q : store.Public) (h : store.Hidden) (so_far : List Shape) (n : ℕ) (first : V) (steps : List (VaultCall × VaultAnswer)) (last : V) : Type 0 where
+  pub record Behind (q : store.Public) (h : store.Hidden) (so_far : List Shape) (n : ℕ) (first : V) (steps : List (VaultCall × VaultAnswer)) (notes : List Note) (last : V) : Type 0 where
     pub taken : List (Shape × store.Drawn)
     pub shapes_are : map (λ s. s.0) taken ≡ shapes steps
     pub kept : store.Hidden
     pub drawn : AreDrawn store p h (answered steps) taken kept
     pub at : At (public_behind store p q taken) kept (so_far ++ shapes steps) (n + length (ended_of steps)) last
     pub seen : ArePhasesMade most (steps_phases store p q taken) (disk (store_of first)).seen (disk (store_of last)).seen
+    pub shown : notes ≡ steps_notes store p q taken
 
-  stays : (q : store.Public) (h : store.Hidden) (so_far : List Shape) (n : ℕ) (v : V) → At q h so_far n v → Behind q h so_far n v [] v
+  stays : (q : store.Public) (h : store.Hidden) (so_far : List Shape) (n : ℕ) (v : V) → At q h so_far n v → Behind q h so_far n v [] [] v
   stays q h so_far n v at = record {
     taken = [];
     shapes_are = refl;
@@ -107,6 +113,7 @@ module _ {V S : Type 0} (k : Kind V) (store : StoreKind) (disk : S → Disk) (st
     drawn = refl;
     at = subst (λ (l : List Shape). At q h l (n + length {A = List (ℕ × Option (List ℕ))} []) v) (sym (append-nil so_far)) (subst (λ m. At q h so_far m v) (no_more n) at);
     seen = made_none most _ _ (none_noted _);
+    shown = refl;
   }
     where
       no_more : (m : ℕ) → m ≡ m + length {A = List (ℕ × Option (List ℕ))} []
@@ -115,10 +122,10 @@ module _ {V S : Type 0} (k : Kind V) (store : StoreKind) (disk : S → Disk) (st
   -- one call before them
   before_it : (q : store.Public) (h : store.Hidden) (so_far : List Shape) (n : ℕ) (first mid last : V) (call : VaultCall) (m : ℕ) (step : VaultCall × VaultAnswer) (steps : List (VaultCall × VaultAnswer)) → shapes (step ∷ steps) ≡ shape_of call ∷ shapes steps
       → answered (step ∷ steps) ≡ call ∷ answered steps
-      → m + length (ended_of steps) ≡ n + length (ended_of (step ∷ steps)) → (one : IsAnsweredCall store most p At (disk (store_of first)) (disk (store_of mid)) mid q h so_far call m)
-      → Behind (store.next p q (shape_of call) one.drawn) one.behind (so_far ++ shape_of call ∷ []) m mid steps last
-      → Behind q h so_far n first (step ∷ steps) last
-  before_it q h so_far n first mid last call m step steps is are counts one b = record {
+      → m + length (ended_of steps) ≡ n + length (ended_of (step ∷ steps)) → (own more : List Note) (one : IsAnsweredCall store most p At (disk (store_of first)) (disk (store_of mid)) mid q h so_far call m own)
+      → Behind (store.next p q (shape_of call) one.drawn) one.behind (so_far ++ shape_of call ∷ []) m mid steps more last
+      → Behind q h so_far n first (step ∷ steps) (own ++ more) last
+  before_it q h so_far n first mid last call m step steps is are counts own more one b = record {
     taken = (shape_of call, one.drawn) ∷ b.taken;
     shapes_are = ap (λ (l : List Shape). shape_of call ∷ l) b.shapes_are ∙ sym is;
     kept = b.kept;
@@ -126,60 +133,85 @@ module _ {V S : Type 0} (k : Kind V) (store : StoreKind) (disk : S → Disk) (st
     at = subst (λ (l : List Shape). At (public_behind store p q ((shape_of call, one.drawn) ∷ b.taken)) b.kept l (n + length (ended_of (step ∷ steps))) last) (append_assoc so_far (shape_of call ∷ []) (shapes steps) ∙ ap (λ (l : List Shape). so_far ++ l) (sym is))
         (subst (λ i. At (public_behind store p q ((shape_of call, one.drawn) ∷ b.taken)) b.kept ((so_far ++ shape_of call ∷ []) ++ shapes steps) i last) counts b.at);
     seen = made_join most (store.phases p q (shape_of call) one.drawn) (steps_phases store p (store.next p q (shape_of call) one.drawn) b.taken) _ _ _ one.seen b.seen;
+    shown = ap (λ (l : List Note). l ++ more) one.shown ∙ ap (λ (l : List Note). store.notes p q (shape_of call) one.drawn ++ l) b.shown;
   }
 
-  pub behind : (q : store.Public) (h : store.Hidden) (so_far : List Shape) (n : ℕ) (first : V) (steps : List (VaultCall × VaultAnswer)) (last : V) → At q h so_far n first → AllCalled k first steps last → AreAnswered steps → Behind q h so_far n first steps last
-  behind q h so_far n first [] last at chain all = subst (λ w. Behind q h so_far n first [] w) (sym chain) (stays q h so_far n first at)
-  behind q h so_far n first ((Fetch keys, Values values) ∷ steps) last at (mid, one, rest) all =
-      let goes = does q h so_far n first (Fetch keys) (Values values) mid at one in
-      before_it q h so_far n first mid last (Fetch keys) n (Fetch keys, Values values) steps refl refl refl goes (behind (store.next p q Fetches goes.drawn) goes.behind (so_far ++ Fetches ∷ []) n mid steps last goes.at rest all)
-  behind q h so_far n first ((End writes, Ended) ∷ steps) last at (mid, one, rest) all =
-      let goes = does q h so_far n first (End writes) Ended mid at one in
-      before_it q h so_far n first mid last (End writes) (suc n) (End writes, Ended) steps refl refl (one_more n (length (ended_of steps))) goes
-      (behind (store.next p q Ends goes.drawn) goes.behind (so_far ++ Ends ∷ []) (suc n) mid steps last goes.at rest all)
+  pub behind : (q : store.Public) (h : store.Hidden) (so_far : List Shape) (n : ℕ) (first : V) (t : Trace) (steps : List (VaultCall × VaultAnswer)) (notes : List Note) (last : V) (u : Trace) → At q h so_far n first → AllNoted k first t steps notes last u →
+      AreAnswered steps → Behind q h so_far n first steps notes last
+  behind q h so_far n first t [] notes last u at (same, none, still) all = subst (λ w. Behind q h so_far n first [] notes w) (sym same) (subst (λ (l : List Note). Behind q h so_far n first [] l first) (sym none) (stays q h so_far n first at))
+  behind q h so_far n first t ((Fetch keys, Values values) ∷ steps) notes last u at (mid, between, one, more, are, rest) all =
+      let goes = does q h so_far n first (Fetch keys) (Values values) mid at one.one in
+      subst (λ (l : List Note). Behind q h so_far n first ((Fetch keys, Values values) ∷ steps) l last) (sym are)
+      (before_it q h so_far n first mid last (Fetch keys) n (Fetch keys, Values values) steps refl refl refl one.one.notes more goes (behind (store.next p q Fetches goes.drawn) goes.behind (so_far ++ Fetches ∷ []) n mid between steps more last u goes.at rest all))
+  behind q h so_far n first t ((End writes, Ended) ∷ steps) notes last u at (mid, between, one, more, are, rest) all =
+      let goes = does q h so_far n first (End writes) Ended mid at one.one in
+      subst (λ (l : List Note). Behind q h so_far n first ((End writes, Ended) ∷ steps) l last) (sym are)
+      (before_it q h so_far n first mid last (End writes) (suc n) (End writes, Ended) steps refl refl (one_more n (length (ended_of steps))) one.one.notes more goes
+      (behind (store.next p q Ends goes.drawn) goes.behind (so_far ++ Ends ∷ []) (suc n) mid between steps more last u goes.at rest all))
     where
       one_more : (i j : ℕ) → suc i + j ≡ i + suc j
       one_more i j = omega arith
-  behind q h so_far n first ((Fetch keys, Ended) ∷ steps) last at chain all = absurd all
-  behind q h so_far n first ((Fetch keys, RefusedBy fault) ∷ steps) last at chain all = absurd all
-  behind q h so_far n first ((Fetch keys, DoubtBy fault) ∷ steps) last at chain all = absurd all
-  behind q h so_far n first ((End writes, Values values) ∷ steps) last at chain all = absurd all
-  behind q h so_far n first ((End writes, RefusedBy fault) ∷ steps) last at chain all = absurd all
-  behind q h so_far n first ((End writes, DoubtBy fault) ∷ steps) last at chain all = absurd all
+  behind q h so_far n first t ((Fetch keys, Ended) ∷ steps) notes last u at chain all = absurd all
+  behind q h so_far n first t ((Fetch keys, RefusedBy fault) ∷ steps) notes last u at chain all = absurd all
+  behind q h so_far n first t ((Fetch keys, DoubtBy fault) ∷ steps) notes last u at chain all = absurd all
+  behind q h so_far n first t ((End writes, Values values) ∷ steps) notes last u at chain all = absurd all
+  behind q h so_far n first t ((End writes, RefusedBy fault) ∷ steps) notes last u at chain all = absurd all
+  behind q h so_far n first t ((End writes, DoubtBy fault) ∷ steps) notes last u at chain all = absurd all
 
-  split : (first : V) (front : List (VaultCall × VaultAnswer)) (call : VaultCall) (answer : VaultAnswer) (last : V) → AllCalled k first (front ++ (call, answer) ∷ []) last → (mid : V) × AllCalled k first front mid × Called k mid call answer last
-  split first [] call answer last (end, one, same) = (first, refl, subst (λ w. Called k first call answer w) (sym same) one)
-  split first (step ∷ front) call answer last (next, one, rest) = let (mid, before, at) = split next front call answer last rest in (mid, (next, one, before), at)
+  -- a last call with these notes
+  abbrev CalledWith : V → VaultCall → VaultAnswer → V → List Note → Type 0
+  CalledWith mid call answer last own = (one : Called k mid call answer last) × (one.notes ≡ own)
+
+  split : (first : V) (t : Trace) (front : List (VaultCall × VaultAnswer)) (call : VaultCall) (answer : VaultAnswer) (notes : List Note) (last : V) (u : Trace) → AllNoted k first t (front ++ (call, answer) ∷ []) notes last u
+      → (mid : V) × (between : Trace) × (before : List Note) × (own : List Note) × AllNoted k first t front before mid between × CalledWith mid call answer last own × (notes ≡ before ++ own)
+  split first t [] call answer notes last u (end, between, one, more, are, (same, none, still)) =
+      (first, t, [], one.one.notes, (refl, refl, refl), subst (λ w. CalledWith first call answer w one.one.notes) (sym same) (one.one, refl), are ∙ ap (λ (l : List Note). one.one.notes ++ l) none ∙ append-nil one.one.notes)
+  split first t (step ∷ front) call answer notes last u (next, between, one, more, are, rest) =
+      let (mid, at, before, own, chain, last_one, joined) = split next between front call answer more last u rest in (
+        mid,
+        at,
+        one.one.notes ++ before,
+        own,
+        (next, between, one, before, refl, chain),
+        last_one,
+        are ∙ ap (λ (l : List Note). one.one.notes ++ l) joined ∙ sym (append_assoc one.one.notes before own),
+      )
 
   none_more : (front : List (VaultCall × VaultAnswer)) (call : VaultCall) (answer : VaultAnswer) → ended_by (call, answer) ≡ [] → ended_of (front ++ (call, answer) ∷ []) ≡ ended_of front
   none_more [] call answer none = append-nil (ended_by (call, answer)) ∙ none
   none_more (step ∷ front) call answer none = ap (λ l. ended_by step ++ l) (none_more front call answer none)
 
-  module _ (first last : V) (before after : Flow) (records : List (EpochRecord ℕ)) (begun : At (store.public p found) (store.hidden p found) [] 0 first) where
+  module _ (first last : V) (t u : Trace) (unbroken : t.broken ≡ false) (before after : Flow) (records : List (EpochRecord ℕ)) (begun : At (store.public p found) (store.hidden p found) [] 0 first) where
     abbrev old_disk : Disk
     old_disk = disk (store_of first)
 
     abbrev new_disk : Disk
     new_disk = disk (store_of last)
 
-    -- How it ended, after these calls: why, what was written, and what was seen.
-    pub record Ending (asked : List (VaultCall × VaultAnswer)) (fault : Option Fault) : Type 0 where
+    -- How it ended, after these calls: why, what was written, what was seen, and what was shown.
+    pub record Ending (asked : List (VaultCall × VaultAnswer)) (err : Option RunErr) : Type 0 where
       pub events : List Event
-      pub traced : IsTraced store most p (store.public p found) (store.hidden p found) (tape_of last) asked fault events
-      pub cause : EndsFor store under p found (disk (store_of start)) traced.behind (shapes asked) (length records) (refused asked) (tape_of last) (disk (store_of first)) (disk (store_of last)) before after fault
+      pub traced : IsTraced store most p (store.public p found) (store.hidden p found) (tape_of last) asked (told_fault err) events
+      pub shown : IsShown store most p (store.public p found) (store.hidden p found) (tape_of last) asked (told_fault err) events traced t u
+      pub cause : EndsFor store under p found (disk (store_of start)) traced.behind (shapes asked) (length records) (refused asked) (tape_of last) (disk (store_of first)) (disk (store_of last)) before after t u err
       pub seen : Notes events (disk (store_of first)).seen (disk (store_of last)).seen
       pub goes_on : life.goes_on under p found (disk (store_of start)) (answered asked) traced.steps traced.behind (refused asked) (tape_of last) (disk (store_of last))
 
-    none_cut : (q : store.Public) (h : store.Hidden) (one : Option VaultCall) (fault : Option Fault) → one ≡ None → IsSeenCut store most p q h one (tape_of last) fault []
-    none_cut q h one fault is = subst (λ (o : Option VaultCall). IsSeenCut store most p q h o (tape_of last) fault []) (sym is) refl
+    -- what was seen of a last call, and what was shown
+    abbrev Cut : (q : store.Public) (h : store.Hidden) (one : Option VaultCall) (fault : Option Fault) → List Event → List Note → Type 0
+    Cut q h one fault more own = (cut : IsSeenCut store most p q h one (tape_of last) fault more) × IsCutShown store most p q h one (tape_of last) fault more cut own
+
+    none_cut : (q : store.Public) (h : store.Hidden) (one : Option VaultCall) (fault : Option Fault) → one ≡ None → Cut q h one fault [] []
+    none_cut q h one fault is = subst (λ (o : Option VaultCall). Cut q h o fault [] []) (sym is) (refl, refl)
 
     -- no call was refused
-    ends_alone : (asked : List (VaultCall × VaultAnswer)) → AllCalled k first asked last → AreAnswered asked → (fault : Option Fault) →
-        ((h : store.Hidden) → EndsFor store under p found (disk (store_of start)) h (shapes asked) (length records) (refused asked) (tape_of last) (disk (store_of first)) (disk (store_of last)) before after fault)
-        → Ending asked fault
-    ends_alone asked chain all fault cause =
-        let b = behind (store.public p found) (store.hidden p found) [] 0 first asked last begun chain all in
+    ends_alone : (asked : List (VaultCall × VaultAnswer)) (notes : List Note) → AllNoted k first t asked notes last u → AreAnswered asked → (err : Option RunErr) →
+        ((h : store.Hidden) → EndsFor store under p found (disk (store_of start)) h (shapes asked) (length records) (refused asked) (tape_of last) (disk (store_of first)) (disk (store_of last)) before after t u err)
+        → Ending asked err
+    ends_alone asked notes chain all err cause =
+        let b = behind (store.public p found) (store.hidden p found) [] 0 first t asked notes last u begun chain all in
         let none : refused asked ≡ None = answered_not_refused asked (all_answered asked all) in
+        let cut = none_cut (public_behind store p (store.public p found) b.taken) b.kept (refused asked) (told_fault err) none in
         record {
           cause = cause b.kept;
           events = b.seen.events ++ [];
@@ -188,13 +220,18 @@ module _ {V S : Type 0} (k : Kind V) (store : StoreKind) (disk : S → Disk) (st
             shapes_are = b.shapes_are;
             behind = b.kept;
             drawn = b.drawn;
-            of_tape = subst (λ (o : Option VaultCall). store.is_of_tape p b.kept o (tape_of last) fault) (sym none)
-                (tells (public_behind store p (store.public p found) b.taken) b.kept (shapes asked) (0 + length (ended_of asked)) last b.at fault);
+            of_tape = subst (λ (o : Option VaultCall). store.is_of_tape p b.kept o (tape_of last) (told_fault err)) (sym none)
+                (tells (public_behind store p (store.public p found) b.taken) b.kept (shapes asked) (0 + length (ended_of asked)) last b.at (told_fault err));
             first = b.seen.events;
             dealt = b.seen.dealt;
             more = [];
-            cut = none_cut (public_behind store p (store.public p found) b.taken) b.kept (refused asked) fault none;
+            cut = cut.0;
             events_are = refl;
+          };
+          shown = record {
+            last = [];
+            cut = cut.1;
+            shows = subst (λ (l : List Note). Shows l t u) (b.shown ∙ sym (append-nil (steps_notes store p (store.public p found) b.taken))) (all_shown k first t asked notes last u chain);
           };
           goes_on = subst (λ (o : Option VaultCall). life.goes_on under p found (disk (store_of start)) (answered asked) b.taken b.kept o (tape_of last) (disk (store_of last))) (sym none)
               (at_rest (answered asked) b.taken (public_behind store p (store.public p found) b.taken) b.kept (shapes asked) (0 + length (ended_of asked)) last b.drawn b.at);
@@ -206,38 +243,39 @@ module _ {V S : Type 0} (k : Kind V) (store : StoreKind) (disk : S → Disk) (st
       rises rose = subst (λ n. Rose (disk (store_of first)).faults n) (faults last) (subst (λ n. Rose n (k.disk last).faults) (faults first) rose)
 
       -- the vault refused a call
-      cause_of : (so_far : List Shape) (n : ℕ) (call : VaultCall) (fault : Fault) (mid : V) (q : store.Public) (h : store.Hidden) → Stops store under most p found (disk (store_of start)) (disk (store_of mid)) (disk (store_of last)) (tape_of last) q h so_far n call
-          fault → so_far ≡ so_far → n ≡ length records
-          → (IsStoreFault fault → Rose (k.disk first).faults (k.disk last).faults) → EndsFor store under p found (disk (store_of start)) h so_far (length records) (Some call) (tape_of last) (disk (store_of first)) (disk (store_of last)) before after (Some fault)
-      cause_of so_far n call (StoreFault unsure) mid q h s same is rose = (rises (rose tt), subst (λ m. (unsure ≡ None) ⊎ (unsure ≡ Some (suc (store.epoch found + m)))) is s.why)
-      cause_of so_far n call Memory mid q h s same is rose = tt
-      cause_of so_far n call SinkFault mid q h s same is rose = absurd s.why
-      cause_of so_far n call (Worn number) mid q h s same is rose = subst (λ m. store.causes under p found (disk (store_of start)) (disk (store_of last)) h so_far m (Some call) (tape_of last) (Worn number)) is s.why
-      cause_of so_far n call Usage mid q h s same is rose = subst (λ m. store.causes under p found (disk (store_of start)) (disk (store_of last)) h so_far m (Some call) (tape_of last) Usage) is s.why
-      cause_of so_far n call (BadScript line) mid q h s same is rose = subst (λ m. store.causes under p found (disk (store_of start)) (disk (store_of last)) h so_far m (Some call) (tape_of last) (BadScript line)) is s.why
-      cause_of so_far n call (BadParams field) mid q h s same is rose = subst (λ m. store.causes under p found (disk (store_of start)) (disk (store_of last)) h so_far m (Some call) (tape_of last) (BadParams field)) is s.why
-      cause_of so_far n call NotStore mid q h s same is rose = subst (λ m. store.causes under p found (disk (store_of start)) (disk (store_of last)) h so_far m (Some call) (tape_of last) NotStore) is s.why
-      cause_of so_far n call (Damaged cell check kept computed) mid q h s same is rose = subst (λ m. store.causes under p found (disk (store_of start)) (disk (store_of last)) h so_far m (Some call) (tape_of last) (Damaged cell check kept computed)) is s.why
-      cause_of so_far n call (StashFull rows) mid q h s same is rose = subst (λ m. store.causes under p found (disk (store_of start)) (disk (store_of last)) h so_far m (Some call) (tape_of last) (StashFull rows)) is s.why
-      cause_of so_far n call SourceFault mid q h s same is rose = subst (λ m. store.causes under p found (disk (store_of start)) (disk (store_of last)) h so_far m (Some call) (tape_of last) SourceFault) is s.why
+      cause_of : (so_far : List Shape) (n : ℕ) (call : VaultCall) (fault : Fault) (mid : V) (q : store.Public) (h : store.Hidden) (own : List Note) → Stops store under most p found (disk (store_of start)) (disk (store_of mid)) (disk (store_of last)) (tape_of last) q h so_far n call
+          fault own → so_far ≡ so_far → n ≡ length records
+          → (IsStoreFault fault → Rose (k.disk first).faults (k.disk last).faults) → EndsFor store under p found (disk (store_of start)) h so_far (length records) (Some call) (tape_of last) (disk (store_of first)) (disk (store_of last)) before after t u (Some (failed.Fault fault))
+      cause_of so_far n call (StoreFault unsure) mid q h own s same is rose = (rises (rose tt), subst (λ m. (unsure ≡ None) ⊎ (unsure ≡ Some (suc (store.epoch found + m)))) is s.why)
+      cause_of so_far n call Memory mid q h own s same is rose = tt
+      cause_of so_far n call SinkFault mid q h own s same is rose = absurd s.why
+      cause_of so_far n call (Worn number) mid q h own s same is rose = subst (λ m. store.causes under p found (disk (store_of start)) (disk (store_of last)) h so_far m (Some call) (tape_of last) (Worn number)) is s.why
+      cause_of so_far n call Usage mid q h own s same is rose = subst (λ m. store.causes under p found (disk (store_of start)) (disk (store_of last)) h so_far m (Some call) (tape_of last) Usage) is s.why
+      cause_of so_far n call (BadScript line) mid q h own s same is rose = subst (λ m. store.causes under p found (disk (store_of start)) (disk (store_of last)) h so_far m (Some call) (tape_of last) (BadScript line)) is s.why
+      cause_of so_far n call (BadParams field) mid q h own s same is rose = subst (λ m. store.causes under p found (disk (store_of start)) (disk (store_of last)) h so_far m (Some call) (tape_of last) (BadParams field)) is s.why
+      cause_of so_far n call NotStore mid q h own s same is rose = subst (λ m. store.causes under p found (disk (store_of start)) (disk (store_of last)) h so_far m (Some call) (tape_of last) NotStore) is s.why
+      cause_of so_far n call (Damaged cell check kept computed) mid q h own s same is rose = subst (λ m. store.causes under p found (disk (store_of start)) (disk (store_of last)) h so_far m (Some call) (tape_of last) (Damaged cell check kept computed)) is s.why
+      cause_of so_far n call (StashFull rows) mid q h own s same is rose = subst (λ m. store.causes under p found (disk (store_of start)) (disk (store_of last)) h so_far m (Some call) (tape_of last) (StashFull rows)) is s.why
+      cause_of so_far n call SourceFault mid q h own s same is rose = subst (λ m. store.causes under p found (disk (store_of start)) (disk (store_of last)) h so_far m (Some call) (tape_of last) SourceFault) is s.why
 
       -- a last call was refused with this fault, behind others that were answered
-      cut_short : (front : List (VaultCall × VaultAnswer)) (call : VaultCall) (answer : VaultAnswer) (fault : Fault) → AllCalled k first (front ++ (call, answer) ∷ []) last → AreAnswered front → AreWritten (ended_of front) records
+      cut_short : (front : List (VaultCall × VaultAnswer)) (call : VaultCall) (answer : VaultAnswer) (fault : Fault) (notes : List Note) → AllNoted k first t (front ++ (call, answer) ∷ []) notes last u → AreAnswered front → AreWritten (ended_of front) records
           → refused ((call, answer) ∷ []) ≡ Some call → shapes ((call, answer) ∷ []) ≡ [] → answered ((call, answer) ∷ []) ≡ []
-          → ((q : store.Public) (h : store.Hidden) (so_far : List Shape) (n : ℕ) (v : V) (w : V) → At q h so_far n v → Called k v call answer w → Stops store under most p found (disk (store_of start)) (disk (store_of v)) (disk (store_of w)) (tape_of w) q h so_far n call fault)
-          → (IsStoreFault fault → Rose (k.disk first).faults (k.disk last).faults) → Ending (front ++ (call, answer) ∷ []) (Some fault)
-      cut_short front call answer fault chain all wrote is none none_answered stops cause =
-          let (mid, before_last, one) = split first front call answer last chain in
-          let b = behind (store.public p found) (store.hidden p found) [] 0 first front mid begun before_last all in
+          → ((q : store.Public) (h : store.Hidden) (so_far : List Shape) (n : ℕ) (v : V) (w : V) → At q h so_far n v → (one : Called k v call answer w) → Stops store under most p found (disk (store_of start)) (disk (store_of v)) (disk (store_of w)) (tape_of w) q h so_far n call fault one.notes)
+          → (IsStoreFault fault → Rose (k.disk first).faults (k.disk last).faults) → Ending (front ++ (call, answer) ∷ []) (Some (failed.Fault fault))
+      cut_short front call answer fault notes chain all wrote is none none_answered stops cause =
+          let (mid, between, front_notes, own, before_last, (one, own_is), joined) = split first t front call answer notes last u chain in
+          let b = behind (store.public p found) (store.hidden p found) [] 0 first t front front_notes mid between begun before_last all in
           let q = public_behind store p (store.public p found) b.taken in
           let s = stops q b.kept (shapes front) (0 + length (ended_of front)) mid last b.at one in
           let as_front : shapes (front ++ (call, answer) ∷ []) ≡ shapes front = shapes_join front ((call, answer) ∷ []) ∙ ap (λ (l : List Shape). shapes front ++ l) none ∙ append-nil (shapes front) in
           let was_cut : refused (front ++ (call, answer) ∷ []) ≡ Some call = refused_last front (call, answer) (all_answered front all) ∙ is in
           let calls_front : answered (front ++ (call, answer) ∷ []) ≡ answered front = answers_join front ((call, answer) ∷ []) ∙ ap (λ (l : List VaultCall). answered front ++ l) none_answered ∙ append-nil (answered front) in
+          let cut : Cut q b.kept (refused (front ++ (call, answer) ∷ [])) (Some fault) s.more one.notes = subst (λ (o : Option VaultCall). Cut q b.kept o (Some fault) s.more one.notes) (sym was_cut) (s.cut, s.shown) in
           record {
-            cause = subst (λ (l : List Shape). EndsFor store under p found (disk (store_of start)) b.kept l (length records) (refused (front ++ (call, answer) ∷ [])) (tape_of last) (disk (store_of first)) (disk (store_of last)) before after (Some fault)) (sym as_front)
-                (subst (λ (o : Option VaultCall). EndsFor store under p found (disk (store_of start)) b.kept (shapes front) (length records) o (tape_of last) (disk (store_of first)) (disk (store_of last)) before after (Some fault)) (sym was_cut)
-                (cause_of (shapes front) (0 + length (ended_of front)) call fault mid q b.kept s refl (none_before (length (ended_of front)) ∙ counted_ends (ended_of front) records wrote) cause));
+            cause = subst (λ (l : List Shape). EndsFor store under p found (disk (store_of start)) b.kept l (length records) (refused (front ++ (call, answer) ∷ [])) (tape_of last) (disk (store_of first)) (disk (store_of last)) before after t u (Some (failed.Fault fault))) (sym as_front)
+                (subst (λ (o : Option VaultCall). EndsFor store under p found (disk (store_of start)) b.kept (shapes front) (length records) o (tape_of last) (disk (store_of first)) (disk (store_of last)) before after t u (Some (failed.Fault fault))) (sym was_cut)
+                (cause_of (shapes front) (0 + length (ended_of front)) call fault mid q b.kept one.notes s refl (none_before (length (ended_of front)) ∙ counted_ends (ended_of front) records wrote) cause));
             events = b.seen.events ++ s.more;
             traced = record {
               steps = b.taken;
@@ -248,65 +286,74 @@ module _ {V S : Type 0} (k : Kind V) (store : StoreKind) (disk : S → Disk) (st
               first = b.seen.events;
               dealt = b.seen.dealt;
               more = s.more;
-              cut = subst (λ (o : Option VaultCall). IsSeenCut store most p q b.kept o (tape_of last) (Some fault) s.more) (sym was_cut) s.cut;
+              cut = cut.0;
               events_are = refl;
+            };
+            shown = record {
+              last = one.notes;
+              cut = cut.1;
+              shows = subst (λ (l : List Note). Shows l t u)
+                  (joined ∙ ap (λ (l : List Note). l ++ own) b.shown ∙ ap (λ (l : List Note). steps_notes store p (store.public p found) b.taken ++ l) (sym own_is))
+                  (all_shown k first t (front ++ (call, answer) ∷ []) notes last u chain);
             };
             goes_on = subst (λ (l : List VaultCall). life.goes_on under p found (disk (store_of start)) l b.taken b.kept (refused (front ++ (call, answer) ∷ [])) (tape_of last) (disk (store_of last))) (sym calls_front)
                 (subst (λ (o : Option VaultCall). life.goes_on under p found (disk (store_of start)) (answered front) b.taken b.kept o (tape_of last) (disk (store_of last))) (sym was_cut)
                 (at_stop (answered front) b.taken q b.kept (shapes front) (0 + length (ended_of front)) mid b.drawn b.at call answer last one));
-            seen = joined b.seen.events s.more _ _ _ b.seen.noted s.seen;
+            seen = joined_seen b.seen.events s.more _ _ _ b.seen.noted s.seen;
           }
         where
           none_before : (m : ℕ) → 0 + m ≡ m
           none_before m = omega arith
 
       -- a refused batch, and a refused end
-      by_fetch : (front : List (VaultCall × VaultAnswer)) (keys : List (Option ℕ)) (fault : Fault) → AllCalled k first (front ++ (Fetch keys, RefusedBy fault) ∷ []) last → AreAnswered front → AreWritten (ended_of front) records
-          → (IsStoreFault fault → Rose (k.disk first).faults (k.disk last).faults) → Ending (front ++ (Fetch keys, RefusedBy fault) ∷ []) (Some fault)
-      by_fetch front keys fault chain answered wrote cause = cut_short front (Fetch keys) (RefusedBy fault) fault chain answered wrote refl refl refl (λ q h so_far n v w at one. does q h so_far n v (Fetch keys) (RefusedBy fault) w at one) cause
+      by_fetch : (front : List (VaultCall × VaultAnswer)) (keys : List (Option ℕ)) (fault : Fault) (notes : List Note) → AllNoted k first t (front ++ (Fetch keys, RefusedBy fault) ∷ []) notes last u → AreAnswered front → AreWritten (ended_of front) records
+          → (IsStoreFault fault → Rose (k.disk first).faults (k.disk last).faults) → Ending (front ++ (Fetch keys, RefusedBy fault) ∷ []) (Some (failed.Fault fault))
+      by_fetch front keys fault notes chain answered wrote cause = cut_short front (Fetch keys) (RefusedBy fault) fault notes chain answered wrote refl refl refl (λ q h so_far n v w at one. does q h so_far n v (Fetch keys) (RefusedBy fault) w at one) cause
 
-      by_end : (front : List (VaultCall × VaultAnswer)) (writes : List (ℕ × Option (List ℕ))) (refusal : EndErr) → AllCalled k first (front ++ (End writes, end_answer (Err refusal)) ∷ []) last → AreAnswered front → AreWritten (ended_of front) records
-          → (IsStoreFault (fault_in refusal) → Rose (k.disk first).faults (k.disk last).faults) → Ending (front ++ (End writes, end_answer (Err refusal)) ∷ []) (Some (fault_in refusal))
-      by_end front writes (Before fault) chain answered wrote cause = cut_short front (End writes) (RefusedBy fault) fault chain answered wrote refl refl refl (λ q h so_far n v w at one. does q h so_far n v (End writes) (RefusedBy fault) w at one) cause
-      by_end front writes (Unsure fault) chain answered wrote cause = cut_short front (End writes) (DoubtBy fault) fault chain answered wrote refl refl refl (λ q h so_far n v w at one. does q h so_far n v (End writes) (DoubtBy fault) w at one) cause
+      by_end : (front : List (VaultCall × VaultAnswer)) (writes : List (ℕ × Option (List ℕ))) (refusal : EndErr) (notes : List Note) → AllNoted k first t (front ++ (End writes, end_answer (Err refusal)) ∷ []) notes last u → AreAnswered front → AreWritten (ended_of front) records
+          → (IsStoreFault (fault_in refusal) → Rose (k.disk first).faults (k.disk last).faults) → Ending (front ++ (End writes, end_answer (Err refusal)) ∷ []) (Some (failed.Fault (fault_in refusal)))
+      by_end front writes (Before fault) notes chain answered wrote cause = cut_short front (End writes) (RefusedBy fault) fault notes chain answered wrote refl refl refl (λ q h so_far n v w at one. does q h so_far n v (End writes) (RefusedBy fault) w at one) cause
+      by_end front writes (Unsure fault) notes chain answered wrote cause = cut_short front (End writes) (DoubtBy fault) fault notes chain answered wrote refl refl refl (λ q h so_far n v w at one. does q h so_far n v (End writes) (DoubtBy fault) w at one) cause
 
-      module _ (acts : List Act) (same : records_of_acts acts ≡ records) (chain : AllCalled k first (calls acts) last) (wrote : AreWritten (ended_of (calls acts)) records) where
-        module _ (d e : DeskState) (t u : Trace) (whole : u.broken ≡ false) (err : RunErr) (f : Failure k (scene d first t) (scene e last u) acts before after err) where
-          abbrev fault : Fault
-          fault = fault_for err
-
+      module _ (acts : List Act) (notes : List Note) (same : records_of_acts acts ≡ records) (chain : AllNoted k first t (calls acts) notes last u) (wrote : AreWritten (ended_of (calls acts)) records) where
+        module _ (d e : DeskState) (err : RunErr) (f : Failure k (scene d first t) (scene e last u) acts before after err) where
           its_calls : (act : Act) → f.act ≡ act → calls acts ≡ calls f.front ++ vault_calls act
           its_calls act is = asks_before acts f.front act f.behind (f.acts_are ∙ ap (λ (x : Act). f.front ++ x ∷ f.behind) is) f.says
 
-          told_by : (act : Act) (given : Fault) → f.act ≡ act → fault_told act ≡ Some (failed.Fault given) → fault ≡ given
-          told_by act given is tells = ap fault_for (same_Some err (failed.Fault given) (sym f.told ∙ ap fault_told is ∙ tells))
+          told_by : (act : Act) (given : RunErr) → f.act ≡ act → fault_told act ≡ Some given → err ≡ given
+          told_by act given is tells = same_Some err given (sym f.told ∙ ap fault_told is ∙ tells)
 
-          its_fault : (act : Act) (other : Fault) → f.act ≡ act → fault_told act ≡ Some (failed.Fault other) → Ending (calls acts) (Some other) → Ending (calls acts) (Some fault)
-          its_fault act other is tells = subst (λ (x : Fault). Ending (calls acts) (Some x)) (sym (told_by act other is tells))
+          its_err : (act : Act) (other : RunErr) → f.act ≡ act → fault_told act ≡ Some other → Ending (calls acts) (Some other) → Ending (calls acts) (Some err)
+          its_err act other is tells = subst (λ (x : RunErr). Ending (calls acts) (Some x)) (sym (told_by act other is tells))
 
           -- it asked the vault for nothing
           answered_all : (act : Act) → f.act ≡ act → vault_calls act ≡ [] → AreAnswered (calls acts)
           answered_all act is asks = subst AreAnswered (sym (its_calls act is ∙ ap (λ l. calls f.front ++ l) asks ∙ append-nil (calls f.front))) f.answered
 
           -- it was refused one call, behind these
-          by_last : (front : List (VaultCall × VaultAnswer)) (call : VaultCall) (answer : VaultAnswer) (given : Fault) → fault ≡ given → calls acts ≡ front ++ (call, answer) ∷ [] → ended_by (call, answer) ≡ []
-              → (AllCalled k first (front ++ (call, answer) ∷ []) last → AreWritten (ended_of front) records → (IsStoreFault given → Rose (k.disk first).faults (k.disk last).faults) → Ending (front ++ (call, answer) ∷ []) (Some given)) → Ending (calls acts) (Some fault)
-          by_last front call answer given fault_is are none so = subst (λ l. Ending l (Some fault)) (sym are) (subst (λ (x : Fault). Ending (front ++ (call, answer) ∷ []) (Some x)) (sym fault_is)
-              (so (subst (λ l. AllCalled k first l last) are chain) (subst (λ ws. AreWritten ws records) (ap ended_of are ∙ none_more front call answer none) wrote) (λ is. f.cause (subst IsStoreFault (sym fault_is) is))))
+          by_last : (front : List (VaultCall × VaultAnswer)) (call : VaultCall) (answer : VaultAnswer) (given : Fault) → err ≡ failed.Fault given → calls acts ≡ front ++ (call, answer) ∷ [] → ended_by (call, answer) ≡ []
+              → (AllNoted k first t (front ++ (call, answer) ∷ []) notes last u → AreWritten (ended_of front) records → (IsStoreFault given → Rose (k.disk first).faults (k.disk last).faults) → Ending (front ++ (call, answer) ∷ []) (Some (failed.Fault given))) → Ending (calls acts) (Some err)
+          by_last front call answer given err_is are none so = subst (λ l. Ending l (Some err)) (sym are) (subst (λ (x : RunErr). Ending (front ++ (call, answer) ∷ []) (Some x)) (sym err_is)
+              (so (subst (λ l. AllNoted k first t l notes last u) are chain) (subst (λ ws. AreWritten ws records) (ap ended_of are ∙ none_more front call answer none) wrote) (λ is. f.cause (subst (λ (x : RunErr). IsStoreFault (stop_fault x)) (sym err_is) is))))
 
-          by_act : (act : Act) → f.act ≡ act → IsReason k (scene d first t) f.front act u → AreLines act records before after → Ending (calls acts) (Some fault)
-          by_act (Halts given) is reason lines = its_fault (Halts given) Memory is (ap (λ (x : Fault). Some (failed.Fault x)) reason) (ends_alone (calls acts) chain (answered_all (Halts given) is refl) (Some Memory) (λ h. tt))
-          by_act Unprinted is reason lines = its_fault Unprinted SinkFault is refl
-              (ends_alone (calls acts) chain (answered_all Unprinted is refl) (Some SinkFault) (λ h. rose_later before.faults lines.mid.faults after.faults lines.written.later lines.rose))
-          by_act (DeliverFails keys given) is reason lines = by_last (calls f.front) (Fetch keys) (RefusedBy given) given (told_by (DeliverFails keys given) given is refl) (its_calls (DeliverFails keys given) is) refl
-              (λ c w cause. by_fetch (calls f.front) keys given c f.answered w cause)
-          by_act (FetchFails look batches keys given) is reason lines = by_last (calls f.front ++ rest_fetches batches) (Fetch keys) (RefusedBy given) given (told_by (FetchFails look batches keys given) given is refl)
+          -- it stopped for a watch that broke
+          by_watch : AreAnswered (calls acts) → u.broken ≡ true → Ending (calls acts) (Some failed.Unwatched)
+          by_watch all broken = ends_alone (calls acts) notes chain all (Some failed.Unwatched) (λ h. rose_broken notes t u (all_shown k first t (calls acts) notes last u chain) unbroken broken)
+
+          by_act : (act : Act) → f.act ≡ act → IsReason k (scene d first t) f.front act u → AreLines act records before after → Ending (calls acts) (Some err)
+          by_act (Halts given) is reason lines = its_err (Halts given) (failed.Fault Memory) is (ap (λ (x : Fault). Some (failed.Fault x)) reason) (ends_alone (calls acts) notes chain (answered_all (Halts given) is refl) (Some (failed.Fault Memory)) (λ h. tt))
+          by_act Unprinted is reason lines = its_err Unprinted (failed.Fault SinkFault) is refl
+              (ends_alone (calls acts) notes chain (answered_all Unprinted is refl) (Some (failed.Fault SinkFault)) (λ h. rose_later before.faults lines.mid.faults after.faults lines.written.later lines.rose))
+          by_act (DeliverFails keys given) is reason lines = by_last (calls f.front) (Fetch keys) (RefusedBy given) given (told_by (DeliverFails keys given) (failed.Fault given) is refl) (its_calls (DeliverFails keys given) is) refl
+              (λ c w cause. by_fetch (calls f.front) keys given notes c f.answered w cause)
+          by_act (FetchFails look batches keys given) is reason lines = by_last (calls f.front ++ rest_fetches batches) (Fetch keys) (RefusedBy given) given (told_by (FetchFails look batches keys given) (failed.Fault given) is refl)
               (its_calls (FetchFails look batches keys given) is ∙ sym (append_assoc (calls f.front) (rest_fetches batches) ((Fetch keys, RefusedBy given) ∷ []))) refl
-              (λ c w cause. by_fetch (calls f.front ++ rest_fetches batches) keys given c (answered_join (calls f.front) (rest_fetches batches) f.answered (subst AreAnswered (append-nil (rest_fetches batches)) (answered_rest batches [] tt))) w cause)
-          by_act (Refuses writes refusal) is reason lines = by_last (calls f.front) (End writes) (end_answer (Err refusal)) (fault_in refusal) (told_by (Refuses writes refusal) (fault_in refusal) is refl) (its_calls (Refuses writes refusal) is) (none_ended writes refusal)
-              (λ c w cause. by_end (calls f.front) writes refusal c f.answered w cause)
-          by_act (RestUnwatched look batches) is reason lines = absurd (still_whole u.broken whole reason)
-          by_act Unwatched is reason lines = absurd (still_whole u.broken whole reason)
+              (λ c w cause. by_fetch (calls f.front ++ rest_fetches batches) keys given notes c (answered_join (calls f.front) (rest_fetches batches) f.answered (subst AreAnswered (append-nil (rest_fetches batches)) (answered_rest batches [] tt))) w cause)
+          by_act (Refuses writes refusal) is reason lines = by_last (calls f.front) (End writes) (end_answer (Err refusal)) (fault_in refusal) (told_by (Refuses writes refusal) (failed.Fault (fault_in refusal)) is refl) (its_calls (Refuses writes refusal) is) (none_ended writes refusal)
+              (λ c w cause. by_end (calls f.front) writes refusal notes c f.answered w cause)
+          by_act (RestUnwatched look batches) is reason lines = its_err (RestUnwatched look batches) failed.Unwatched is refl
+              (by_watch (subst AreAnswered (sym (its_calls (RestUnwatched look batches) is)) (answered_join (calls f.front) (rest_fetches batches) f.answered (subst AreAnswered (append-nil (rest_fetches batches)) (answered_rest batches [] tt)))) reason)
+          by_act Unwatched is reason lines = its_err Unwatched failed.Unwatched is refl (by_watch (answered_all Unwatched is refl) reason)
           by_act (Says client steps) is reason lines = absurd reason
           by_act (Looked look) is reason lines = absurd reason
           by_act (Takes look keys) is reason lines = absurd reason
@@ -314,11 +361,11 @@ module _ {V S : Type 0} (k : Kind V) (store : StoreKind) (disk : S → Disk) (st
           by_act (Closes look batches writes) is reason lines = absurd reason
           by_act (Publishes writes left told) is reason lines = absurd reason
 
-        ending : {U : Type 0} (d e : DeskState) (t u : Trace) → u.broken ≡ false → (were are : List U) (result : Result (Unit {0}) RunErr) → RunEnds k (run_state (scene d first t) were before) (run_state (scene e last u) are after) acts result → Ending (calls acts) (fault_by result)
-        ending d e t u unbroken were are (Ok done) (answered, over, written, still) = ends_alone (calls acts) chain answered None (λ h. tt)
-        ending d e t u unbroken were are (Err err) (inl short) = subst (λ (f : Fault). Ending (calls acts) (Some f)) (sym (ap fault_for short.fault_is))
-            (ends_alone (calls acts) chain (subst (λ (xs : List Act). AreAnswered (calls xs)) (sym short.none) tt) (Some Memory) (λ h. tt))
-        ending d e t u unbroken were are (Err err) (inr f) = by_act d e t u unbroken err f f.act refl f.reason (subst (λ (rs : List (EpochRecord ℕ)). AreLines f.act rs before after) same f.lines)
+        ending : {U : Type 0} (d e : DeskState) (were are : List U) (result : Result (Unit {0}) RunErr) → RunEnds k (run_state (scene d first t) were before) (run_state (scene e last u) are after) acts result → Ending (calls acts) (err_of result)
+        ending d e were are (Ok done) (answered, over, written, still) = ends_alone (calls acts) notes chain answered None (λ h. tt)
+        ending d e were are (Err err) (inl short) = subst (λ (x : RunErr). Ending (calls acts) (Some x)) (sym short.fault_is)
+            (ends_alone (calls acts) notes chain (subst (λ (xs : List Act). AreAnswered (calls xs)) (sym short.none) tt) (Some (failed.Fault Memory)) (λ h. tt))
+        ending d e were are (Err err) (inr f) = by_act d e err f f.act refl f.reason (subst (λ (rs : List (EpochRecord ℕ)). AreLines f.act rs before after) same f.lines)
 
   -- what the lender knows of a vault's words
   pub record IsLender (sealing : Sealing) : Type 1 where
@@ -338,7 +385,7 @@ module _ {V S : Type 0} (k : Kind V) (store : StoreKind) (disk : S → Disk) (st
       (means : RunsScripts kind)
       (sealing : Sealing) (script : Scripts) (sound : AreSound script) (may : MayOpen (record { params = p }) (suc (store.epoch found)) (store.left p found) script.clients)
       (trace : Trace) (runners : List U) (before : Flow) (end : RunState V U) (result : Result (Unit {0}) RunErr)
-      (unbroken : end.scene.trace.broken ≡ false) (named : map kind.client runners ≡ script.clients) (planned : All (λ u. kind.plan u ≡ asks_by (kind.client u) script.txns) runners) where
+      (unbroken : trace.broken ≡ false) (named : map kind.client runners ≡ script.clients) (planned : All (λ u. kind.plan u ≡ asks_by (kind.client u) script.txns) runners) where
     abbrev base : DeskState
     base = new_desk (record { params = p }) (suc (store.epoch found)) (store.left p found) script.clients
 
@@ -366,8 +413,8 @@ module _ {V S : Type 0} (k : Kind V) (store : StoreKind) (disk : S → Disk) (st
             one_by_one = λ m of. due_one_by_one k kind p beat begin (record { params = p }) (suc (store.epoch found)) (store.left p found) script.clients refl acts end result d f.front writes refused f.behind is f.says u m (l.holds m of);
           })
 
-      doubt_told : (epoch n : ℕ) → epoch ≡ n → TellsDoubt epoch result → fault_by result ≡ Some (StoreFault (Some n))
-      doubt_told epoch n same told = ap fault_by told ∙ ap (λ (m : ℕ). Some (StoreFault (Some m))) same
+      doubt_told : (epoch n : ℕ) → epoch ≡ n → TellsDoubt epoch result → err_of result ≡ Some (failed.Fault (StoreFault (Some n)))
+      doubt_told epoch n same told = ap err_of told ∙ ap (λ (m : ℕ). Some (failed.Fault (StoreFault (Some m)))) same
 
       standing_in : {P Q : Standing → Type 0} (c : Image) → ((at : Standing) → P at → Q at) → StandsIn (k.stands start) P c → StandsIn (store.stands under p (store.generation found)) Q c
       standing_in c to (at, stands, is) = (at, l.stands c at stands, to at is)
@@ -377,12 +424,12 @@ module _ {V S : Type 0} (k : Kind V) (store : StoreKind) (disk : S → Disk) (st
           (λ c is. standing_in c (λ s x. x) is) (l.since from to (StandsIn (k.stands start) P) leaves)
 
       staged_stores : (at : Standing) (told : List (EpochRecord ℕ)) (next : Option (EpochRecord ℕ)) (from to : V) → Stages k (k.stands start) at told next from to
-          → StagedFrom store under p found at script records (fault_by result) disk at told next (disk (store_of from)) (disk (store_of to))
+          → StagedFrom store under p found at script records (err_of result) disk at told next (disk (store_of from)) (disk (store_of to))
       staged_stores at [] next from to leaves = as_stored (IsThisOrNext at next) from to leaves
       staged_stores at (r ∷ told) next from to (mid, leaves, rest) = (store_of mid, as_stored (IsThisOrNext at (Some r)) from mid leaves, staged_stores (next_at at r) told next mid to rest)
 
       left : (at : Standing) → (disk (store_of start)).tells → IsSynced (disk (store_of start)) → IsOpenedAt store under p at found (disk (store_of start))
-          → IsLeftOnDisk store under p found at script records (fault_by result) acts disk (disk (store_of start)) (disk (store_of last))
+          → IsLeftOnDisk store under p found at script records (err_of result) acts disk (disk (store_of start)) (disk (store_of last))
       left at tells settled opened =
           let v = opened_with p (store.left p found) at in
           let same : at.epoch ≡ store.epoch found = sym opened.epoch in
@@ -398,23 +445,30 @@ module _ {V S : Type 0} (k : Kind V) (store : StoreKind) (disk : S → Disk) (st
                 (λ s x. ⊎_elim (λ e. inl e) (λ (r, is, told, e). inr (r, is, doubt_told (suc (store.epoch found) + length records) (suc at.epoch + length records) (ap (λ e. suc e + length records) (sym same)) told, e)) x) (by.now c (l.now last c may));
           }
 
-      whole : (r : Result (Unit {0}) RunErr) → RunEnds k begin end acts r → r ≡ result → fault_by result ≡ None → ClientsServedAll script records
+      whole : (r : Result (Unit {0}) RunErr) → RunEnds k begin end acts r → r ≡ result → err_of result ≡ None → ClientsServedAll script records
       whole (Ok done) (answered, over, written, still) is none = all_served k beat kind means p (store.epoch found) (store.left p found) script sound may start trace runners before end acts result named planned d over
-      whole (Err err) ends is none = absurd (no_fault (fault_for err) (ap fault_by is ∙ none))
+      whole (Err err) ends is none = absurd (no_err err (ap err_of is ∙ none))
         where
-          no_fault : (f : Fault) → ◌≡◌ {A = Option Fault} (Some f) None → ⊥
-          no_fault f e = cc e
+          no_err : (f : RunErr) → ◌≡◌ {A = Option RunErr} (Some f) None → ⊥
+          no_err f e = cc e
+
+      watch_whole : (r : Result (Unit {0}) RunErr) → RunEnds k begin end acts r → err_of r ≡ None → end.scene.trace.broken ≡ false
+      watch_whole (Ok done) (answered, over, written, still) none = still
+      watch_whole (Err err) ends none = absurd (no_err none)
+        where
+          no_err : ◌≡◌ {A = Option RunErr} (Some err) None → ⊥
+          no_err e = cc e
 
       chain : AllCalled k start (calls acts) last
       chain = called k start trace (calls acts) d.notes last end.scene.trace d.chain
 
       -- without a fault all calls were answered
-      still_told : (r : Result (Unit {0}) RunErr) → RunEnds k begin end acts r → fault_by r ≡ None → (disk (store_of start)).tells → (disk (store_of last)).tells
+      still_told : (r : Result (Unit {0}) RunErr) → RunEnds k begin end acts r → err_of r ≡ None → (disk (store_of start)).tells → (disk (store_of last)).tells
       still_told (Ok done) (answered, over, written, still) none = l.told last (calls acts) chain answered
-      still_told (Err err) ends none = absurd (no_fault none)
+      still_told (Err err) ends none = absurd (no_err none)
         where
-          no_fault : ◌≡◌ {A = Option Fault} (Some (fault_for err)) None → ⊥
-          no_fault e = cc e
+          no_err : ◌≡◌ {A = Option RunErr} (Some err) None → ⊥
+          no_err e = cc e
 
       abbrev is_run : IsServed (AreShaped threads script.clients) beat p (store.epoch found) (store.left p found) script records
       is_run = is_served k beat kind means p (store.epoch found) (store.left p found) script sound may start trace runners before end acts result named planned d (AreShaped threads script.clients) rounds
@@ -425,36 +479,38 @@ module _ {V S : Type 0} (k : Kind V) (store : StoreKind) (disk : S → Disk) (st
       desk_is : end.scene.desk ≡ (is_served k beat kind means p (store.epoch found) (store.left p found) script sound may start trace runners before end acts result named planned d (AreShaped threads script.clients) rounds).desk
       desk_is = sym (its_desk k beat kind means p (store.epoch found) (store.left p found) script sound may start trace runners before end acts result named planned d (AreShaped threads script.clients) rounds)
 
-      ends_with : (r : Result (Unit {0}) RunErr) → RunEnds k begin end acts r → EndsWith (fault_by r) acts end.scene.desk
+      ends_with : (r : Result (Unit {0}) RunErr) → RunEnds k begin end acts r → EndsWith (err_of r) acts end.scene.desk
       ends_with (Ok done) (answered, over, written, still) = over
-      ends_with (Err err) (inl short) = inl (ap fault_for short.fault_is, short.none)
-      ends_with (Err (failed.Fault told)) (inr f) = inr (f.front, f.act, f.behind, f.acts_are, f.says, f.told)
-      ends_with (Err failed.Unwatched) (inr f) = absurd (none_unwatched k begin.scene f.front f.act end.scene.trace unbroken f.reason f.told)
+      ends_with (Err err) (inl short) = inl (short.fault_is, short.none)
+      ends_with (Err err) (inr f) = inr (f.front, f.act, f.behind, f.acts_are, f.says, f.told)
 
       -- the trace, what goes on in the life with its steps, and why it ended there
       abbrev TracesLife : List Act → List Event → Type 0
-      TracesLife xs events = (t : IsTraced store most p (store.public p found) (store.hidden p found) (tape_of last) (calls xs) (fault_by result) events)
+      TracesLife xs events = (t : IsTraced store most p (store.public p found) (store.hidden p found) (tape_of last) (calls xs) (told_fault (err_of result)) events)
+          × IsShown store most p (store.public p found) (store.hidden p found) (tape_of last) (calls xs) (told_fault (err_of result)) events t trace end.scene.trace
           × life.goes_on under p found (disk (store_of start)) (answered (calls xs)) t.steps t.behind (refused (calls xs)) (tape_of last) (disk (store_of last))
-          × EndsFor store under p found (disk (store_of start)) t.behind (shapes (calls xs)) (length records) (refused (calls xs)) (tape_of last) (disk (store_of start)) (disk (store_of last)) before after (fault_by result)
+          × EndsFor store under p found (disk (store_of start)) t.behind (shapes (calls xs)) (length records) (refused (calls xs)) (tape_of last) (disk (store_of start)) (disk (store_of last)) before after trace end.scene.trace (err_of result)
 
       -- what serving does
-      pub serves : At (store.public p found) (store.hidden p found) [] 0 start → ServedOver store life disk (manner beat threads most) under p found sealing script (tape_of last) (store_of start) (store_of last) before after (fault_by result)
+      pub serves : At (store.public p found) (store.hidden p found) [] 0 start → ServedOver store life disk (manner beat threads most) under p found sealing script (tape_of last) (store_of start) (store_of last) before after trace end.scene.trace (err_of result)
       serves begun =
-          let e = ending start last before after records begun l.faults acts refl chain d.wrote base end.scene.desk trace end.scene.trace unbroken runners end.runners result d.ends in
-          let told = subst (λ (xs : List Act). TracesLife xs e.events) acts_are (e.traced, e.goes_on, e.cause) in
-          let stand = lines_stand k begin end acts result unbroken d.ends in
+          let e = ending start last trace end.scene.trace unbroken before after records begun l.faults acts d.notes refl d.chain d.wrote base end.scene.desk runners end.runners result d.ends in
+          let told = subst (λ (xs : List Act). TracesLife xs e.events) acts_are (e.traced, e.shown, e.goes_on, e.cause) in
+          let stand = lines_stand k begin end acts result d.ends in
           record {
             records = records;
             is_served = record {
               served = is_run;
               all = whole result d.ends refl;
-              ends = subst (λ (x : DeskState). EndsWith (fault_by result) is_run.acts x) desk_is (subst (λ (xs : List Act). EndsWith (fault_by result) xs end.scene.desk) acts_are (ends_with result d.ends));
+              ends = subst (λ (x : DeskState). EndsWith (err_of result) is_run.acts x) desk_is (subst (λ (xs : List Act). EndsWith (err_of result) xs end.scene.desk) acts_are (ends_with result d.ends));
               opens = may;
               fed = λ m of. subst (λ (x : DeskState). Run m base (history is_run.acts) (contents m records) x) desk_is
                   (subst (λ (xs : List Act). Run m base (history xs) (contents m records) end.scene.desk) acts_are (d.serial m (l.holds m of)).0);
               one_by_one = λ m of. d.one_by_one m (l.holds m of);
             };
-            cause = told.2;
+            cause = told.3;
+            shown = told.1;
+            watched = watch_whole result d.ends;
             whole = stand.0;
             lines = stand.1;
             events = e.events;
@@ -462,9 +518,9 @@ module _ {V S : Type 0} (k : Kind V) (store : StoreKind) (disk : S → Disk) (st
             seen = e.seen;
             goes = l.goes start last (goes_all k start trace (calls acts) d.notes last end.scene.trace d.chain);
             tells = still_told result d.ends;
-            left = λ at tells settled opened. subst (λ (xs : List Act). IsLeftOnDisk store under p found at script records (fault_by result) xs disk (disk (store_of start)) (disk (store_of last))) acts_are (left at tells settled opened);
+            left = λ at tells settled opened. subst (λ (xs : List Act). IsLeftOnDisk store under p found at script records (err_of result) xs disk (disk (store_of start)) (disk (store_of last))) acts_are (left at tells settled opened);
             lives = subst (λ (xs : List Act). LivesBehind disk under sealing (store_of start) (store_of last) (map (λ s. s.1) (calls xs))) acts_are (l.lives last (calls acts) chain);
-            goes_on = told.1;
+            goes_on = told.2;
           }
 
   -- the same, from the epoch and the batches left that the vault tells
@@ -472,10 +528,10 @@ module _ {V S : Type 0} (k : Kind V) (store : StoreKind) (disk : S → Disk) (st
       (means : RunsScripts kind)
       (sealing : Sealing) (script : Scripts) (sound : AreSound script) (may : MayOpen (record { params = p }) (suc (store.epoch found)) (store.left p found) script.clients)
       (trace : Trace) (runners : List U) (before : Flow) (end : RunState V U) (result : Result (Unit {0}) RunErr) (epoch left : ℕ)
-      → end.scene.trace.broken ≡ false → map kind.client runners ≡ script.clients → All (λ u. kind.plan u ≡ asks_by (kind.client u) script.txns) runners → epoch ≡ store.epoch found → left ≡ store.left p found
+      → trace.broken ≡ false → map kind.client runners ≡ script.clients → All (λ u. kind.plan u ≡ asks_by (kind.client u) script.txns) runners → epoch ≡ store.epoch found → left ≡ store.left p found
       → RunsBy threads k kind beat (run_state (scene (new_desk (record { params = p }) (suc epoch) left script.clients) start trace) runners before) end result
       → IsLender sealing → At (store.public p found) (store.hidden p found) [] 0 start
-      → ServedOver store life disk (manner beat threads most) under p found sealing script (tape_of end.scene.vault) (store_of start) (store_of end.scene.vault) before end.output (fault_by result)
+      → ServedOver store life disk (manner beat threads most) under p found sealing script (tape_of end.scene.vault) (store_of start) (store_of end.scene.vault) before end.output trace end.scene.trace (err_of result)
   serves_on beat threads kind means sealing script sound may trace runners before end result epoch left unbroken named planned epoch_is left_is run l begun =
       let run_is = subst (λ n. RunsBy threads k kind beat (run_state (scene (new_desk (record { params = p }) (suc (store.epoch found)) n script.clients) start trace) runners before) end result) left_is
       (subst (λ e. RunsBy threads k kind beat (run_state (scene (new_desk (record { params = p }) (suc e) left script.clients) start trace) runners before) end result) epoch_is run) in
@@ -483,6 +539,6 @@ module _ {V S : Type 0} (k : Kind V) (store : StoreKind) (disk : S → Disk) (st
       serves beat threads kind means sealing script sound may trace runners before end result unbroken named planned acts d (subst (λ numbers. AreShaped threads numbers acts) named shaped) l begun
 
 -- the same by other names
-pub renamed : (store : StoreKind) (life : LifeWords store) {S : Type 0} (disk : S → Disk) (by : Manner) (keys : Keys) (p : Params) (found : store.Found) (was sealing : Sealing) (script : Scripts) (given words : List ℕ) (a old b new : S) (before after : Flow) (fault told : Option Fault)
-    → was ≡ sealing → given ≡ words → a ≡ old → new ≡ b → told ≡ fault → ServedOver store life disk by keys p found was script given a b before after fault → ServedOver store life disk by keys p found sealing script words old new before after told
-renamed store life disk by keys p found was sealing script given words a old b new before after fault told sealing_is words_are old_is new_is told_is s = rw (← sealing_is, ← words_are, ← old_is, new_is, told_is) s
+pub renamed : (store : StoreKind) (life : LifeWords store) {S : Type 0} (disk : S → Disk) (by : Manner) (keys : Keys) (p : Params) (found : store.Found) (was sealing : Sealing) (script : Scripts) (given words : List ℕ) (a old b new : S) (before after : Flow) (t u : Trace) (err : Option RunErr)
+    → was ≡ sealing → given ≡ words → a ≡ old → new ≡ b → ServedOver store life disk by keys p found was script given a b before after t u err → ServedOver store life disk by keys p found sealing script words old new before after t u err
+renamed store life disk by keys p found was sealing script given words a old b new before after t u err sealing_is words_are old_is new_is s = rw (← sealing_is, ← words_are, ← old_is, new_is) s

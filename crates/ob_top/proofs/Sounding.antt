@@ -1,6 +1,10 @@
 -- A store that stood stands behind each return.
 use Rattle.std.proofs.Common.{◌≡◌, ℕ, List, Option, Some, None, refl, sym, subst, inl, inr, arith}
 use Rattle.ob_base.specs.declared.params.Params.{Params}
+use Rattle.ob_conduct.specs.declared.run_err.RunErr.{RunErr}
+use Rattle.ob_conduct.specs.declared.run_err.RunErr.TheVariants as failed
+use Rattle.ob_store.specs.Lines.{Trace}
+use Rattle.ob_top.specs.Endings.{told_fault}
 use Rattle.ob_base.specs.declared.fault.Fault.{Fault}
 use Rattle.ob_base.specs.declared.fault.Fault.TheVariants.{Memory, Usage, BadScript, BadParams, NotStore, Damaged, StoreFault, StashFull, Worn, SourceFault, SinkFault}
 use Rattle.ob_io.specs.Streams.{Flow}
@@ -13,14 +17,14 @@ use Rattle.ob_store.specs.Images.{LeavesOnly, Passes, Same}
 use Rattle.ob_vault.specs.Formats.{beginning}
 use Rattle.ob_vault.specs.Keeping.{AreStandingLaws}
 use Rattle.ob_vault.specs.KindLives.{LifeWords}
-use Rattle.ob_vault.specs.Kinds.{StoreKind, Stands, StandsAsBefore}
+use Rattle.ob_vault.specs.Kinds.{AllStand, StoreKind, Stands, StandsAsBefore}
 use Rattle.ob_top.specs.Formats.{IsFormatted}
 use Rattle.ob_top.specs.Outside.{Outside}
 use Rattle.ob_top.specs.Runs.{EndsEarly, Manner, Ran}
 use Rattle.ob_top.specs.Sound.{IsSound, StandsOn}
 
 -- a status is 0 where there is no fault
-pub none_at_0 : (fault : Option Fault) → status_of fault ≡ 0 → fault ≡ None
+none_at_0 : (fault : Option Fault) → status_of fault ≡ 0 → fault ≡ None
 none_at_0 None is = refl
 none_at_0 (Some Memory) is = absurd (omega (arith, is))
 none_at_0 (Some Usage) is = absurd (omega (arith, is))
@@ -33,6 +37,14 @@ none_at_0 (Some (StashFull rows)) is = absurd (omega (arith, is))
 none_at_0 (Some (Worn number)) is = absurd (omega (arith, is))
 none_at_0 (Some SourceFault) is = absurd (omega (arith, is))
 none_at_0 (Some SinkFault) is = absurd (omega (arith, is))
+
+pub none_told_at_0 : (err : Option RunErr) → status_of (told_fault err) ≡ 0 → err ≡ None
+none_told_at_0 None is = refl
+none_told_at_0 (Some (failed.Fault fault)) is = absurd (some_isnt (none_at_0 (Some fault) is))
+  where
+    some_isnt : ◌≡◌ {A = Option Fault} (Some fault) None → ⊥
+    some_isnt same = cc same
+none_told_at_0 (Some failed.Unwatched) is = absurd (omega (arith, is))
 
 module _ (store : StoreKind) where
   -- a new store stands
@@ -75,18 +87,25 @@ module _ (store : StoreKind) where
         laws.one_head keys p q (old.cells 0) (laws.has_head keys p g old.cells at stands) (head tells)
 
   module _ (laws : AreStandingLaws store) (life : LifeWords store) {S : Type 0} (disk : S → Disk) (counts_now : (x : S) (t : Clock) (c : Image) → NotAfter t (disk x).moment → (disk x).may_leave c → (disk x).left_since t c) (keys : Keys) (old new : S) where
-    pub early_sound : (most : ℕ) (before after : Flow) (fault : Fault) → EndsEarly store life keys most (disk old) (disk new) disk before after fault → StandsOn store disk keys old new
-    early_sound most before after fault (inl head) p tells sound = read_sound keys p (disk old) (disk new) head.passes sound
-    early_sound most before after fault (inr (inl input)) p tells sound = read_sound keys p (disk old) (disk new) input.passes sound
-    early_sound most before after fault (inr (inr opening)) p tells sound =
-        let same : p ≡ opening.p = one_p laws keys p opening.p (disk old) tells sound opening.head in
+    -- one that was opened, as far as it came
+    opened_sound : (q : Params) → ((disk old).tells → store.is_head keys q ((disk old).cells 0)) →
+        ((at : Standing) → (disk old).tells → Stands store keys q (disk old).cells at → AllStand store keys q (disk old) → LeavesOnly (disk old) (disk new) (StandsAsBefore store keys q (disk old))) → StandsOn store disk keys old new
+    opened_sound q head leaves p tells sound =
+        let same : p ≡ q = one_p laws keys p q (disk old) tells sound head in
         let is = subst (λ (q : Params). IsSound store keys q (disk old)) same sound in
         let (at, stands) = is.cells tells in
-        let left = opening.left at tells stands is.images in
-        subst (λ (q : Params). IsSound store keys q (disk new)) (sym same) (left_sound keys opening.p (disk old) (disk new) (λ c may. counts_now new (disk old).moment c left.later may) left)
+        let left = leaves at tells stands is.images in
+        subst (λ (q : Params). IsSound store keys q (disk new)) (sym same) (left_sound keys q (disk old) (disk new) (λ c may. counts_now new (disk old).moment c left.later may) left)
 
-    pub ran_sound : (by : Manner) (words : List ℕ) (before after : Outside) (records : List (EpochRecord ℕ)) (fault : Option Fault) → Ran store life disk by words keys old new before after records fault → StandsOn store disk keys old new
-    ran_sound by words before after records fault r p tells sound =
+    pub early_sound : (most : ℕ) (t u : Trace) (before after : Flow) (err : RunErr) → EndsEarly store life keys most (disk old) (disk new) t u disk before after err → StandsOn store disk keys old new
+    early_sound most t u before after (failed.Fault refused) (inl head) p tells sound = read_sound keys p (disk old) (disk new) head.passes sound
+    early_sound most t u before after (failed.Fault refused) (inr (inl input)) p tells sound = read_sound keys p (disk old) (disk new) input.passes sound
+    early_sound most t u before after (failed.Fault refused) (inr (inr opening)) p tells sound = opened_sound opening.p opening.head opening.left p tells sound
+    early_sound most t u before after failed.Unwatched (inl head) p tells sound = read_sound keys p (disk old) (disk new) head.passes sound
+    early_sound most t u before after failed.Unwatched (inr opening) p tells sound = opened_sound opening.p opening.opened.head opening.left p tells sound
+
+    pub ran_sound : (by : Manner) (words : List ℕ) (before after : Outside) (t u : Trace) (records : List (EpochRecord ℕ)) (err : Option RunErr) → Ran store life disk by words keys old new before after t u records err → StandsOn store disk keys old new
+    ran_sound by words before after t u records err r p tells sound =
         let same : p ≡ r.p = one_p laws keys p r.p (disk old) tells sound r.opened.head in
         let is = subst (λ (q : Params). IsSound store keys q (disk old)) same sound in
         let (at, stands) = is.cells tells in

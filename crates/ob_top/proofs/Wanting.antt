@@ -12,6 +12,8 @@ use Rattle.ob_seal.specs.declared.keys.Keys.{Keys}
 use Rattle.ob_start.specs.Heads.{numbers_of}
 use Rattle.ob_store.specs.Calls.{IsStoreFault}
 use Rattle.ob_store.specs.Disk.{Disk}
+use Rattle.ob_store.specs.Lines.{Shows}
+use Rattle.ob_store.specs.declared.watch.Note.{Note}
 use Rattle.ob_serial.specs.Vaults.{VaultCall, Fetch, End, VaultAnswer, Values, Ended, RefusedBy, DoubtBy, VaultState}
 use Rattle.ob_serial.specs.VaultKinds.{AllCalled, Kind, ended_of}
 use Rattle.ob_vault.specs.Causes.{RingLasts, seals_an_epoch, words_an_epoch}
@@ -20,10 +22,15 @@ use Rattle.ob_vault.specs.RingKind.{IsRingMap, RingCauses, RingFound, RingMaySto
 use Rattle.ob_vault.specs.Shapes.{Shape}
 use Rattle.ob_vault.specs.Steps.{IsRefusalWhy}
 use Rattle.ob_vault.proofs.Standing.{ring_keeps}
+use Rattle.ob_conduct.specs.Acts.{fault_of}
 use Rattle.ob_conduct.specs.Records.{AreAnswered}
+use Rattle.ob_conduct.specs.Scenes.{AllNoted}
+use Rattle.ob_conduct.specs.declared.run_err.RunErr.{RunErr}
+use Rattle.ob_conduct.specs.declared.run_err.RunErr.TheVariants as failed
 use Rattle.ob_drill.specs.Reading.{IsReading}
 use Rattle.ob_top.specs.Drilling.{no_output}
 use Rattle.ob_top.specs.Drills.{drill_numbers}
+use Rattle.ob_top.specs.Outside.{blind}
 use Rattle.ob_top.specs.Runs.{EndsFor}
 
 -- ---- calls that read
@@ -61,6 +68,17 @@ few_ended ((Fetch keys, DoubtBy fault) ∷ steps) = let f = few_ended steps in o
 pub chained : {V : Type 0} (k : Kind V) (first : V) (xs : List (VaultCall × VaultAnswer)) (mid : V) (ys : List (VaultCall × VaultAnswer)) (last : V) → AllCalled k first xs mid → AllCalled k mid ys last → AllCalled k first (xs ++ ys) last
 chained k first [] mid ys last same rest = subst (λ x. AllCalled k x ys last) same rest
 chained k first (x ∷ xs) mid ys last (next, one, more) rest = (next, one, chained k next xs mid ys last more rest)
+
+-- whatever is shown to no watch
+none_shown : (notes : List Note) → Shows notes blind blind
+none_shown notes = record { anchors = refl; faults = omega arith; breaks = tt; lines = tt }
+
+-- the notes of calls that no watch was shown
+pub blind_chain : {V : Type 0} (k : Kind V) (first : V) (steps : List (VaultCall × VaultAnswer)) (last : V) → AllCalled k first steps last → (notes : List Note) × AllNoted k first blind steps notes last blind
+blind_chain k first [] last same = ([], (same, refl, refl))
+blind_chain k first (step ∷ steps) last (mid, one, rest) =
+    let (more, chain) = blind_chain k mid steps last rest in
+    (one.notes ++ more, (mid, blind, record { one = one; whole = refl; shown = none_shown one.notes }, more, refl, chain))
 
 -- ---- numbers
 
@@ -126,19 +144,20 @@ module _ (p : Params) (numbers : numbers_of p ≡ drill_numbers) where
         never refused (ring_keeps.serves keys p 0 20000 m f opened now h behind call words refused empty (subst (λ e. RingLasts p 0 e 20000) (sym begins) (lasts 20000 (omega arith))) few is_map cause)
 
     -- a run was
-    pub run_wants : (h : RingHidden) (behind : List Shape) (m : ℕ) (call : Option VaultCall) (words : List ℕ) (old : Disk) (refused : Fault) → m ≤ 20000 → EndsFor ring_kind keys p f opened h behind m call words old now no_output no_output (Some refused)
-        → (refused ≡ fault.Memory) ⊎ IsStoreFault refused
-    run_wants h behind m call words old fault.Memory few cause = inl refl
-    run_wants h behind m call words old (fault.StoreFault unsure) few cause = inr tt
-    run_wants h behind m call words old fault.SinkFault few cause = absurd (omega (arith, cause))
-    run_wants h behind m call words old fault.Usage few cause = absurd (stops h behind m call words fault.Usage few cause)
-    run_wants h behind m call words old (fault.BadScript line) few cause = absurd (stops h behind m call words (fault.BadScript line) few cause)
-    run_wants h behind m call words old (fault.BadParams field) few cause = absurd (stops h behind m call words (fault.BadParams field) few cause)
-    run_wants h behind m call words old fault.NotStore few cause = absurd (stops h behind m call words fault.NotStore few cause)
-    run_wants h behind m call words old (fault.Damaged cell check kept computed) few cause = absurd (stops h behind m call words (fault.Damaged cell check kept computed) few cause)
-    run_wants h behind m call words old (fault.StashFull rows) few cause = absurd (stops h behind m call words (fault.StashFull rows) few cause)
-    run_wants h behind m call words old (fault.Worn number) few cause = absurd (stops h behind m call words (fault.Worn number) few cause)
-    run_wants h behind m call words old fault.SourceFault few cause = absurd (stops h behind m call words fault.SourceFault few cause)
+    pub run_wants : (h : RingHidden) (behind : List Shape) (m : ℕ) (call : Option VaultCall) (words : List ℕ) (old : Disk) (err : RunErr) → m ≤ 20000 → EndsFor ring_kind keys p f opened h behind m call words old now no_output no_output blind blind (Some err)
+        → (fault_of err ≡ fault.Memory) ⊎ IsStoreFault (fault_of err)
+    run_wants h behind m call words old failed.Unwatched few cause = absurd (omega (arith, cause))
+    run_wants h behind m call words old (failed.Fault fault.Memory) few cause = inl refl
+    run_wants h behind m call words old (failed.Fault (fault.StoreFault unsure)) few cause = inr tt
+    run_wants h behind m call words old (failed.Fault fault.SinkFault) few cause = absurd (omega (arith, cause))
+    run_wants h behind m call words old (failed.Fault fault.Usage) few cause = absurd (stops h behind m call words fault.Usage few cause)
+    run_wants h behind m call words old (failed.Fault (fault.BadScript line)) few cause = absurd (stops h behind m call words (fault.BadScript line) few cause)
+    run_wants h behind m call words old (failed.Fault (fault.BadParams field)) few cause = absurd (stops h behind m call words (fault.BadParams field) few cause)
+    run_wants h behind m call words old (failed.Fault fault.NotStore) few cause = absurd (stops h behind m call words fault.NotStore few cause)
+    run_wants h behind m call words old (failed.Fault (fault.Damaged cell check kept computed)) few cause = absurd (stops h behind m call words (fault.Damaged cell check kept computed) few cause)
+    run_wants h behind m call words old (failed.Fault (fault.StashFull rows)) few cause = absurd (stops h behind m call words (fault.StashFull rows) few cause)
+    run_wants h behind m call words old (failed.Fault (fault.Worn number)) few cause = absurd (stops h behind m call words (fault.Worn number) few cause)
+    run_wants h behind m call words old (failed.Fault fault.SourceFault) few cause = absurd (stops h behind m call words fault.SourceFault few cause)
 
     -- and so was a call
     pub call_wants : (h : RingHidden) (behind : List Shape) (m : ℕ) (call : VaultCall) (words : List ℕ) (refused : Fault) → m ≤ 20000 → IsRefusalWhy ring_kind keys p f opened now h behind m (Some call) words refused → (refused ≡ fault.Memory) ⊎ IsStoreFault refused

@@ -1,5 +1,5 @@
 -- When a command must do what it is asked for.
-use Rattle.std.specs.Prelude.{ℕ, ◌≡◌, ◌⊎◌, ◌+◌, ◌<◌, Bool, not, List, length, take, Option, Some}
+use Rattle.std.specs.Prelude.{ℕ, ◌≡◌, ◌⊎◌, ◌+◌, ◌<◌, Bool, not, List, length, take, Option, Some, None}
 use Rattle.std.specs.Borrow.{Bor, MutBor}
 use Rattle.ob_base.specs.declared.params.Params.{Params}
 use Rattle.ob_base.specs.declared.fault.Fault.TheVariants.{StashFull}
@@ -15,33 +15,45 @@ use Rattle.ob_words.specs.Reading.{asked_by, format_asked, run_asked, audit_aske
 use Rattle.ob_words.specs.Work.{AreParams, AreLanes, IsCount, HasKeys}
 use Rattle.ob_top.specs.Outside.{Outside, Left, OfStore}
 use Rattle.ob_top.specs.Runs.{Manner, Ran, manner}
+use Rattle.ob_store.specs.Lines.{Trace}
+use Rattle.ob_io.specs.Streams.{Flow}
+use Rattle.ob_conduct.specs.declared.run_err.RunErr.TheVariants as failed
 use Rattle.ob_vault.specs.Lives.{ring_lives}
 use Rattle.ob_vault.specs.RingKind.{ring_kind}
 
-module _ (words : List (List ℕ)) (text : Option (Bor (List ℕ))) (old new : Disk) (before after : Outside) where
-  -- A store can be made: the words ask for `format`, with numbers in range; the keys are keys; and no count of faults rose, the store's
-  -- or the output's.
+module _ {W : Type 0} (flow : W → Flow) (was is : Option W) where
+  -- A trace that is asked for was handed in, and its count of faults didn't rise.
+  abbrev pub TraceHolds : Option (List ℕ) → Type 0
+  TraceHolds None = Unit {0}
+  TraceHolds (Some file) = (w : W) × (v : W) × (was ≡ Some w) × (is ≡ Some v) × (Rose (flow w).faults (flow v).faults → ⊥)
+
+module _ {W : Type 0} (flow : W → Flow) (words : List (List ℕ)) (text : Option (Bor (List ℕ))) (old new : Disk) (was is : Option W) (before after : Outside) where
+  -- A store can be made: the words ask for `format`, with numbers in range; the keys are keys; and no count of faults rose, the store's,
+  -- the output's or the trace's.
   pub record CanFormat : Type 0 where
     pub store_path : List ℕ
     pub keys_path : List ℕ
     pub numbers : List (List ℕ)
-    pub asked : asked_by words ≡ Some (format_asked store_path keys_path numbers)
+    pub trace : Option (List ℕ)
+    pub asked : asked_by words ≡ Some (format_asked store_path keys_path numbers trace)
     pub p : Params
     pub params : AreParams numbers p
     pub keys : Keys
     pub has : HasKeys text keys
     pub store_holds : Rose old.faults new.faults → ⊥
     pub output_holds : Rose before.output.faults after.output.faults → ⊥
+    pub trace_holds : TraceHolds flow was is trace
 
   -- A script can be run: the words ask for `run`, with lanes in range; the keys are keys; the store tells its cells, and they stand for a map under
-  -- these keys; the bytes that come in are the script; no count of faults rose, the store's, the input's or the output's; and no number
-  -- comes to its end.
+  -- these keys; the bytes that come in are the script; no count of faults rose, the store's, the input's, the output's or the trace's; and no
+  -- number comes to its end.
   pub record CanRun (store : StoreKind) (script : Scripts) : Type 0 where
     pub store_path : List ℕ
     pub keys_path : List ℕ
     pub lanes : Option (List ℕ)
     pub turns : Bool
-    pub asked : asked_by words ≡ Some (run_asked store_path keys_path lanes turns)
+    pub trace : Option (List ℕ)
+    pub asked : asked_by words ≡ Some (run_asked store_path keys_path lanes turns trace)
     pub k : ℕ
     pub in_range : AreLanes lanes k
     pub keys : Keys
@@ -57,11 +69,12 @@ module _ (words : List (List ℕ)) (text : Option (Bor (List ℕ))) (old new : D
     pub store_holds : Rose old.faults new.faults → ⊥
     pub input_holds : Rose before.input.faults after.input.faults → ⊥
     pub output_holds : Rose before.output.faults after.output.faults → ⊥
+    pub trace_holds : TraceHolds flow was is trace
     -- even if each transaction ends an epoch
     pub lasts : store.lasts p generation at.epoch (length script.txns)
 
 -- behind the run the tape has given the words `drawn` of its generation
-module _ {S : Type 0} (disk : S → Disk) (beat : BeatKind) (drawn : List ℕ) (words : List (List ℕ)) (text : Option (Bor (List ℕ))) (before after : Outside) (status : ℕ) where
+module _ {S W : Type 0} (disk : S → Disk) (flow : W → Flow) (beat : BeatKind) (drawn : List ℕ) (words : List (List ℕ)) (text : Option (Bor (List ℕ))) (was is : Option W) (before after : Outside) (status : ℕ) where
   -- The script was run up to an end that would leave more rows in the stash than that may keep, as the run's cause tells. That comes only
   -- where the store may hold more keys than that.
   pub record StopsFull (by : Manner) (keys : Keys) (p : Params) (old new : S) : Type 0 where
@@ -69,13 +82,16 @@ module _ {S : Type 0} (disk : S → Disk) (beat : BeatKind) (drawn : List ℕ) (
     pub fewer : p.room < p.keys
     pub records : List (EpochRecord ℕ)
     pub rows : ℕ
-    pub ran : Ran ring_kind ring_lives disk by drawn keys old new before after records (Some (StashFull rows))
+    -- what its watch told before it, and tells behind it
+    pub first : Trace
+    pub last : Trace
+    pub ran : Ran ring_kind ring_lives disk by drawn keys old new before after first last records (Some (failed.Fault (StashFull rows)))
 
   -- What can be done is done, but for want of memory, or of room in the stash: `FormatDoes` and `RunDoes` say what that comes to.
   abbrev pub DoesWhatItCan : S → S → Type 0
   DoesWhatItCan old new =
-      (CanFormat words text (disk old) (disk new) before after → (status ≡ 0) ⊎ (status ≡ 9))
-      × ((script : Scripts) (can : CanRun words text (disk old) (disk new) before after ring_kind script) → (status ≡ 0)
+      (CanFormat flow words text (disk old) (disk new) was is before after → (status ≡ 0) ⊎ (status ≡ 9))
+      × ((script : Scripts) (can : CanRun flow words text (disk old) (disk new) was is before after ring_kind script) → (status ≡ 0)
       ⊎ ((status ≡ 9) ⊎ StopsFull (manner beat (not can.turns) can.k) can.keys can.p old new))
 
   abbrev pub Completes : Option (MutBor S) → Left S → Type 0

@@ -1,5 +1,5 @@
 -- How a self-test goes over a vault, step by step.
-use Rattle.std.specs.Prelude.{suc, ◌≡◌, ◌⊎◌, ◌*◌, true, false, List, Result, Ok, Err, None}
+use Rattle.std.specs.Prelude.{suc, ◌≡◌, ◌⊎◌, ◌*◌, true, List, Result, Ok, Err, None}
 use Rattle.std.specs.FinMap.{empty}
 use Rattle.ob_base.specs.Causes.{Rose}
 use Rattle.ob_base.specs.declared.params.Params.{Params}
@@ -8,7 +8,6 @@ use Rattle.ob_base.specs.declared.fault.Fault.TheVariants.{Memory}
 use Rattle.ob_io.specs.Streams.{Flow, flow}
 use Rattle.ob_store.specs.Calls.{IsStoreFault}
 use Rattle.ob_store.specs.Disk.{Disk}
-use Rattle.ob_store.specs.Lines.{Trace}
 use Rattle.ob_seal.specs.declared.keys.Keys.{Keys}
 use Rattle.ob_serial.specs.Vaults.{VaultCounts, VaultState}
 use Rattle.ob_serial.specs.VaultKinds.{Kind}
@@ -29,6 +28,7 @@ use Rattle.ob_run.specs.Threaded.{RunsBy}
 use Rattle.ob_drill.specs.Reading.{ReadsOnly, ReadingFails}
 use Rattle.ob_drill.specs.Rows.{IsDigestOf}
 use Rattle.ob_top.specs.declared.drill.Drilled.{Drilled}
+use Rattle.ob_top.specs.Outside.{blind}
 
 -- nothing is told of the output, which doesn't fail
 abbrev pub no_output : Flow
@@ -52,25 +52,21 @@ pub record IsOpenedEmpty {L : Type 0} (keys : Keys) (p : Params) (new : Disk) (f
   pub map : IsRingMap keys p new f empty
 
 module _ {V : Type 0} (k : Kind V) (counts : V → VaultCounts) (beat : BeatKind) (p : Params) (script : Scripts) (runners : List ScriptRunner) (old : V) where
-  -- the script was run by threads over the vault, from a new desk on
-  pub record WasRun (mid : V) (at : Trace) (result : Result (Unit {0}) RunErr) : Type 0 where
-    pub before : Trace
+  -- the script was run by threads over the vault, from a new desk on, and no watch was shown anything
+  pub record WasRun (mid : V) (result : Result (Unit {0}) RunErr) : Type 0 where
     pub desk : DeskState
     pub ran : List ScriptRunner
-    pub by : RunsBy true k script_runners beat (run_state (scene (new_desk (record { params = p }) (suc (counts old).epoch) (counts old).left script.clients) old before) runners no_output)
-        (run_state (scene desk mid at) ran no_output) result
-    pub whole : at.broken ≡ false
+    pub by : RunsBy true k script_runners beat (run_state (scene (new_desk (record { params = p }) (suc (counts old).epoch) (counts old).left script.clients) old blind) runners no_output)
+        (run_state (scene desk mid blind) ran no_output) result
 
   -- and then its map was read
   pub record HasDrilled (new : V) (d : Drilled) : Type 0 where
     pub mid : V
-    pub at : Trace
-    pub after : Trace
-    pub run : WasRun mid at (Ok tt)
-    pub reads : ReadsOnly k (2 * p.keys) mid at new after
+    pub run : WasRun mid (Ok tt)
+    pub reads : ReadsOnly k (2 * p.keys) mid blind new blind
     pub epochs : d.epochs ≡ (counts mid).epoch
     pub digest : (v : VaultState) → k.holds mid v → IsDigestOf v.content p.keys d.digest
 
   -- the run failed, or the reading did
   abbrev pub DrillFails : V → Fault → Type 0
-  DrillFails new fault = ((at : Trace) × (err : RunErr) × WasRun new at (Err err) × (fault ≡ fault_of err)) ⊎ ((mid : V) × (at : Trace) × (after : Trace) × WasRun mid at (Ok tt) × ReadingFails k (2 * p.keys) mid at fault new after)
+  DrillFails new fault = ((err : RunErr) × WasRun new (Err err) × (fault ≡ fault_of err)) ⊎ ((mid : V) × WasRun mid (Ok tt) × ReadingFails k (2 * p.keys) mid blind fault new blind)

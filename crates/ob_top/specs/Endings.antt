@@ -9,6 +9,7 @@ use Rattle.ob_serial.specs.declared.vault.EndErr.{EndErr}
 use Rattle.ob_desk.specs.Desk.{DeskState, Part, record_of}
 use Rattle.ob_session.specs.Steps.{Leads}
 use Rattle.ob_conduct.specs.declared.run_err.RunErr.{RunErr}
+use Rattle.ob_conduct.specs.declared.run_err.RunErr.TheVariants as failed
 use Rattle.ob_conduct.specs.Acts.{Act, Refuses, history, fault_of as fault_for}
 use Rattle.ob_conduct.specs.Records.{Makes, IsCutShort, IsWritten}
 use Rattle.ob_conduct.specs.Moves.{IsSaid}
@@ -18,15 +19,20 @@ abbrev pub fault_of : Result (Unit {0}) Fault → Option Fault
 fault_of (Ok done) = None
 fault_of (Err fault) = Some fault
 
--- the fault that a run's answer tells
-abbrev pub fault_by : Result (Unit {0}) RunErr → Option Fault
-fault_by (Ok done) = None
-fault_by (Err err) = Some (fault_for err)
+-- what cut it off, by its answer
+abbrev pub err_of : Result (Unit {0}) RunErr → Option RunErr
+err_of (Ok done) = None
+err_of (Err err) = Some err
+
+-- the fault that is told of it: the output's where the watch broke
+abbrev pub told_fault : Option RunErr → Option Fault
+told_fault None = None
+told_fault (Some err) = Some (fault_for err)
 
 -- How much of these records' lines stands, and for how many records all of them: for each one; but where the output failed, it failed at
 -- the last one's, and nothing stands behind a front of these.
-abbrev pub LinesStand : Option Fault → List (EpochRecord ℕ) → ℕ → Flow → Flow → Type 0
-LinesStand (Some SinkFault) told whole before after = IsCutShort told before after × (suc whole ≡ length told)
+abbrev pub LinesStand : Option RunErr → List (EpochRecord ℕ) → ℕ → Flow → Flow → Type 0
+LinesStand (Some (failed.Fault SinkFault)) told whole before after = IsCutShort told before after × (suc whole ≡ length told)
 LinesStand _ told whole before after = IsWritten (report decimal told) before after × (whole ≡ length told)
 
 -- The record of an epoch whose end was refused, or left in doubt, said of the acts alone: the last one that isn't a client's tells of it,

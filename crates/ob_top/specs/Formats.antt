@@ -1,8 +1,7 @@
 -- What `format` does.
-use Rattle.std.specs.Prelude.{ℕ, ◌≡◌, Option, Some, None}
+use Rattle.std.specs.Prelude.{ℕ, ◌≡◌, true, false, Bool, Option, Some, None}
 use Rattle.ob_base.specs.declared.params.Params.{Params}
 use Rattle.ob_seal.specs.declared.keys.Keys.{Keys}
-use Rattle.ob_base.specs.declared.fault.Fault.{Fault}
 use Rattle.ob_base.specs.declared.fault.Fault.TheVariants.{StoreFault, SinkFault}
 use Rattle.ob_base.specs.Causes.{Rose}
 use Rattle.ob_io.specs.Flows.{appended}
@@ -13,6 +12,11 @@ use Rattle.ob_report.specs.Printed.{IsPrinted}
 use Rattle.ob_store.specs.Disk.{Disk}
 use Rattle.ob_store.specs.Images.{LeavesOnly}
 use Rattle.ob_store.specs.Calls.{NotesFirst}
+use Rattle.ob_store.specs.Lines.{Shows, Trace}
+use Rattle.ob_store.specs.Told.{TellsFirst}
+use Rattle.ob_conduct.specs.declared.run_err.RunErr.{RunErr}
+use Rattle.ob_conduct.specs.declared.run_err.RunErr.TheVariants as failed
+use Rattle.ob_top.specs.Endings.{told_fault}
 use Rattle.ob_pads.specs.Lives.{IsFormattedStore}
 use Rattle.ob_vault.specs.Kinds.{StoreKind}
 use Rattle.ob_vault.specs.Formats.{MakesEmpty}
@@ -29,29 +33,35 @@ pub record IsFormatted (store : StoreKind) (life : LifeWords store) {S : Type 0}
   pub begins_life : (disk old).tells → life.formatted keys p (disk new)
 
 module _ (store : StoreKind) (life : LifeWords store) {S : Type 0} (disk : S → Disk) where
-  -- How it ends. Its line tells how many cells the store has.
-  abbrev pub FormatEnds : Keys → Params → S → S → Flow → Flow → Option Fault → Type 0
-  FormatEnds keys p old new before after None = IsFormatted store life disk keys p old new × (after.bytes ≡ appended before.bytes (size_line (store.cells p)))
-  FormatEnds keys p old new before after (Some SinkFault) = IsFormatted store life disk keys p old new × Rose before.faults after.faults × IsPrinted before after (size_line (store.cells p))
-  FormatEnds keys p old new before after (Some (StoreFault unsure)) =
-      (unsure ≡ None) × Rose (disk old).faults (disk new).faults × NotesFirst (store.format_order p) (disk old).seen (disk new).seen × (after ≡ before)
-  FormatEnds keys p old new before after (Some fault) = store.format_fault fault × (new ≡ old) × (after ≡ before)
+  -- Its notes were all shown to the watch, which is whole behind them, or broke with them.
+  abbrev pub ShowsFormat : Params → Trace → Trace → Bool → Type 0
+  ShowsFormat p t u is_broken = Shows (store.format_notes p) t u × (u.broken ≡ is_broken)
 
-  -- What stands in the output, and the store: behind the whole line; where the line failed; where the store did; and where nothing was
-  -- done.
-  abbrev pub FormatTold : Keys → Params → S → S → Flow → Flow → Option Fault → Type 0
-  FormatTold keys p old new before after None = IsFormatted store life disk keys p old new × (after.bytes ≡ appended before.bytes (size_line (store.cells p)))
-  FormatTold keys p old new before after (Some SinkFault) = IsFormatted store life disk keys p old new × Rose before.faults after.faults × IsPrinted before after (size_line (store.cells p))
-  FormatTold keys p old new before after (Some (StoreFault unsure)) =
-      (unsure ≡ None) × Rose (disk old).faults (disk new).faults × NotesFirst (store.format_order p) (disk old).seen (disk new).seen × IsPrinted before after (fault_line (Some (StoreFault None)))
-  FormatTold keys p old new before after (Some fault) = store.format_fault fault × (new ≡ old) × IsPrinted before after (fault_line (Some fault))
+  -- How it ends. Its line tells how many cells the store has; none is written where the watch broke.
+  abbrev pub FormatEnds : Keys → Params → S → S → Flow → Flow → Trace → Trace → Option RunErr → Type 0
+  FormatEnds keys p old new before after t u None = IsFormatted store life disk keys p old new × (after.bytes ≡ appended before.bytes (size_line (store.cells p))) × ShowsFormat p t u false
+  FormatEnds keys p old new before after t u (Some failed.Unwatched) = IsFormatted store life disk keys p old new × (after ≡ before) × ShowsFormat p t u true
+  FormatEnds keys p old new before after t u (Some (failed.Fault SinkFault)) = IsFormatted store life disk keys p old new × Rose before.faults after.faults × IsPrinted before after (size_line (store.cells p)) × ShowsFormat p t u false
+  FormatEnds keys p old new before after t u (Some (failed.Fault (StoreFault unsure))) =
+      (unsure ≡ None) × Rose (disk old).faults (disk new).faults × NotesFirst (store.format_order p) (disk old).seen (disk new).seen × (after ≡ before) × TellsFirst (store.format_notes p) (disk old).seen (disk new).seen t u
+  FormatEnds keys p old new before after t u (Some (failed.Fault fault)) = store.format_fault fault × (new ≡ old) × (after ≡ before) × (u ≡ t)
+
+  -- What stands in the output, and the store: behind the whole line; where the watch broke; where the line failed; where the store did; and
+  -- where nothing was done.
+  abbrev pub FormatTold : Keys → Params → S → S → Flow → Flow → Trace → Trace → Option RunErr → Type 0
+  FormatTold keys p old new before after t u None = IsFormatted store life disk keys p old new × (after.bytes ≡ appended before.bytes (size_line (store.cells p))) × ShowsFormat p t u false
+  FormatTold keys p old new before after t u (Some failed.Unwatched) = IsFormatted store life disk keys p old new × IsPrinted before after (fault_line (Some SinkFault)) × ShowsFormat p t u true
+  FormatTold keys p old new before after t u (Some (failed.Fault SinkFault)) = IsFormatted store life disk keys p old new × Rose before.faults after.faults × IsPrinted before after (size_line (store.cells p)) × ShowsFormat p t u false
+  FormatTold keys p old new before after t u (Some (failed.Fault (StoreFault unsure))) =
+      (unsure ≡ None) × Rose (disk old).faults (disk new).faults × NotesFirst (store.format_order p) (disk old).seen (disk new).seen × IsPrinted before after (fault_line (Some (StoreFault None))) × TellsFirst (store.format_notes p) (disk old).seen (disk new).seen t u
+  FormatTold keys p old new before after t u (Some (failed.Fault fault)) = store.format_fault fault × (new ≡ old) × IsPrinted before after (fault_line (Some fault)) × (u ≡ t)
 
   -- What `format` has done with parameters in range and a store. It looks at no input.
-  pub record FormatDone (keys : Keys) (p : Params) (old new : S) (before after : Outside) (status : ℕ) : Type 0 where
-    pub fault : Option Fault
-    pub status_is : status ≡ status_of fault
+  pub record FormatDone (keys : Keys) (p : Params) (old new : S) (before after : Outside) (t u : Trace) (status : ℕ) : Type 0 where
+    pub err : Option RunErr
+    pub status_is : status ≡ status_of (told_fault err)
     pub untouched : after.input ≡ before.input
-    pub told : FormatTold keys p old new before.output after.output fault
+    pub told : FormatTold keys p old new before.output after.output t u err
     -- A crash at any moment leaves what is no store, or a torn head; or, behind the last sync, the empty store.
     pub left : (disk old).tells → LeavesOnly (disk old) (disk new) (store.format_leaves keys p (disk old))
     -- At status 0 the next call finds a store that stands.

@@ -1,14 +1,18 @@
 -- What is seen of the objects that were handed in.
-use Rattle.std.specs.Prelude.{ℕ, ◌≡◌, ◌⊎◌, Option, Some, None}
+use Rattle.std.specs.Prelude.{true, false, List, [], ℕ, ◌≡◌, ◌⊎◌, Option, Some, None}
 use Rattle.std.specs.Borrow.{MutBor}
 use Rattle.std.proofs.Common.{inl, inr}
 use Rattle.ob_base.specs.declared.fault.Fault.{Fault}
 use Rattle.ob_base.specs.declared.fault.Fault.TheVariants.{SinkFault}
 use Rattle.ob_report.specs.Faults.{status_of, fault_status, fault_line}
 use Rattle.ob_store.specs.Disk.{Disk}
+use Rattle.ob_store.specs.Lines.{AddsOnly, Trace}
 use Rattle.ob_store.specs.Calls.{GoesOn}
 use Rattle.ob_io.specs.Streams.{Flow}
 use Rattle.ob_report.specs.Printed.{IsPrinted}
+use Rattle.ob_conduct.specs.declared.run_err.RunErr.{RunErr}
+use Rattle.ob_conduct.specs.declared.run_err.RunErr.TheVariants as failed
+use Rattle.ob_top.specs.Endings.{told_fault}
 
 -- the bytes that come in and go out, at one moment
 pub record Outside : Type 0 where
@@ -43,6 +47,23 @@ LineTold before after None = after ≡ before
 LineTold before after (Some SinkFault) = after ≡ before
 LineTold before after (Some fault) = IsPrinted before after (fault_line (Some fault))
 
+-- the same of what cut a run off: where the watch broke it is told as the output's
+abbrev pub ErrTold : Flow → Flow → Option RunErr → Type 0
+ErrTold before after None = after ≡ before
+ErrTold before after (Some (failed.Fault fault)) = LineTold before after (Some fault)
+ErrTold before after (Some failed.Unwatched) = IsPrinted before after (fault_line (Some SinkFault))
+
+-- whether it may go on: the watch is whole, or it has broken, and that is told
+abbrev pub IsWatched : Trace → Option RunErr → Type 0
+IsWatched trace None = trace.broken ≡ false
+IsWatched trace (Some (failed.Fault fault)) = ⊥
+IsWatched trace (Some failed.Unwatched) = trace.broken ≡ true
+
+-- what the end of a command over a store tells
+pub record IsEnded (before after : Flow) (err : Option RunErr) (status : ℕ) : Type 0 where
+  pub status_is : status ≡ status_of (told_fault err)
+  pub line : ErrTold before after err
+
 -- what the end of a call tells
 pub record IsFinished (before after : Flow) (fault : Option Fault) (status : ℕ) : Type 0 where
   pub status_is : status ≡ status_of fault
@@ -53,3 +74,24 @@ pub record IsOnlyTold (fault : Fault) (before after : Outside) (status : ℕ) : 
   pub status_is : status ≡ fault_status fault
   pub untouched : after.input ≡ before.input
   pub printed : IsPrinted before.output after.output (fault_line (Some fault))
+
+-- what a watch tells that is shown nothing
+abbrev pub blind : Trace
+blind = record { written = None; broken = false; faults = 0; anchors = [] }
+
+-- what a sink tells is what the watch over it does
+abbrev pub TellsTrace : Flow → Trace → Type 0
+TellsTrace flow trace = (flow.bytes ≡ trace.written) × (flow.faults ≡ trace.faults)
+
+-- The sink of a trace, as it was handed in and as it is left: a watch over it, whole at first, has written the trace's first line, or a front
+-- of it, behind what stood there, and then told this; and this behind the command.
+pub record HasTrace {W : Type 0} (flow : W → Flow) (first : List ℕ) (was is : Option W) (t u : Trace) : Type 0 where
+  pub before : W
+  pub after : W
+  pub was_is : was ≡ Some before
+  pub is_is : is ≡ Some after
+  pub start : Trace
+  pub tells : TellsTrace (flow before) start
+  pub whole : start.broken ≡ false
+  pub line : AddsOnly first start t
+  pub told : TellsTrace (flow after) u

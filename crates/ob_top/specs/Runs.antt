@@ -1,5 +1,5 @@
 -- What `run` does.
-use Rattle.std.specs.Prelude.{ℕ, suc, Bool, ◌≡◌, ◌⊎◌, ◌+◌, All, List, [], ◌∷◌, ◌++◌, length, map, Option, Some, None, Err, decimal}
+use Rattle.std.specs.Prelude.{ℕ, suc, true, false, Bool, ◌≡◌, ◌⊎◌, ◌+◌, All, List, [], ◌∷◌, ◌++◌, length, map, Option, Some, None, Err, decimal}
 use Rattle.std.specs.Ordering.{nat_cmp}
 use Rattle.ob_base.specs.declared.params.Params.{Params}
 use Rattle.ob_seal.specs.declared.keys.Keys.{Keys}
@@ -13,6 +13,11 @@ use Rattle.ob_io.specs.Streams.{Flow}
 use Rattle.ob_report.specs.Printed.{IsPrinted}
 use Rattle.ob_report.specs.Report.{report}
 use Rattle.ob_store.specs.declared.event.Event.{Event}
+use Rattle.ob_store.specs.declared.watch.Note.{Note}
+use Rattle.ob_store.specs.declared.watch.Note.TheVariants as note
+use Rattle.ob_store.specs.Lines.{Shows, Trace}
+use Rattle.ob_twin.specs.Got.{DoesReads}
+use Rattle.ob_conduct.specs.declared.run_err.RunErr.{RunErr}
 use Rattle.ob_store.specs.declared.event.Event.TheVariants as event
 use Rattle.ob_store.specs.Disk.{Disk, Image}
 use Rattle.ob_store.specs.Images.{IsImageOf, IsSynced, LeavesOnly, Passes, Same}
@@ -26,7 +31,7 @@ use Rattle.ob_vault.specs.Shapes.{Shape, answered, shapes, refused}
 use Rattle.ob_vault.specs.KindLives.{LifeWords}
 use Rattle.ob_vault.specs.Openings.{OpensStanding}
 use Rattle.ob_vault.specs.Kinds.{StoreKind, Stands, AllStand, StandsAsBefore, IsOpenedAt, opened_with}
-use Rattle.ob_vault.specs.KindShown.{AreDrawn, IsSeenCut, public_behind, steps_phases}
+use Rattle.ob_vault.specs.KindShown.{AreDrawn, IsCutShown, IsSeenCut, public_behind, steps_notes, steps_phases}
 use Rattle.ob_desk.specs.Desk.{DeskState, MayOpen, Run, new_desk}
 use Rattle.ob_desk.specs.Beats.{BeatKind}
 use Rattle.ob_script.specs.Script.{Scripts, IsScript, IsFirstBad, limit}
@@ -37,8 +42,8 @@ use Rattle.ob_conduct.specs.Records.{IsOver, contents}
 use Rattle.ob_conduct.specs.Left.{IsLeftStanding, IsLeftNow, IsThisOrNext, next_at}
 use Rattle.ob_run.specs.Threaded.{AreShaped}
 use Rattle.ob_outcomes.specs.Served.{IsServed, ClientsServed, ClientsServedAll}
-use Rattle.ob_top.specs.Endings.{IsNextBy, LinesStand}
-use Rattle.ob_top.specs.Outside.{Outside, LineTold}
+use Rattle.ob_top.specs.Endings.{IsNextBy, LinesStand, told_fault}
+use Rattle.ob_top.specs.Outside.{Outside, ErrTold}
 use Rattle.ob_top.specs.Sound.{StandsOn}
 
 -- The phases of the opening: the head's read, and the order that the kind of store gives.
@@ -62,6 +67,18 @@ pub record IsTraced (store : StoreKind) (most : ℕ) (p : Params) (q : store.Pub
   pub cut : IsSeenCut store most p (public_behind store p q steps) behind (refused asked) words fault more
   pub events_are : events ≡ first ++ more
 
+-- What the watch is shown of the opening: the head's read, and the notes that the kind of store gives.
+abbrev pub begin_notes : (store : StoreKind) → Params → store.Found → store.Start → List Note
+begin_notes store p found start = note.Read 0 ∷ store.open_notes p found start
+
+-- What the watch was shown of serving, beside what is seen of it: the notes of the vault's calls, one behind the other, filled by what they
+-- drew, and of a call that was refused what its fault allows.
+pub record IsShown (store : StoreKind) (most : ℕ) (p : Params) (q : store.Public) (h : store.Hidden) (words : List ℕ) (asked : List (VaultCall × VaultAnswer)) (fault : Option Fault) (events : List Event)
+    (traced : IsTraced store most p q h words asked fault events) (before after : Trace) : Type 0 where
+  pub last : List Note
+  pub cut : IsCutShown store most p (public_behind store p q traced.steps) traced.behind (refused asked) words fault traced.more traced.cut last
+  pub shows : Shows (steps_notes store p q traced.steps ++ last) before after
+
 -- a script came in
 pub record CameIn (keys : ℕ) (before : Flow) (script : Scripts) : Type 0 where
   -- the bytes that came in, up to the first one past the limit
@@ -76,7 +93,16 @@ IsInputRefused keys before after SourceFault = Rose before.faults after.faults
 IsInputRefused keys before after (BadScript line) = (input : List ℕ) × IsInput before.bytes limit input × IsFirstBad keys input line
 IsInputRefused keys before after _ = ⊥
 
-module _ (store : StoreKind) (life : LifeWords store) (keys : Keys) (most : ℕ) (old new : Disk) where
+-- A script came in for a store of these parameters, and this was found in it.
+pub record IsOpened (store : StoreKind) (keys : Keys) (old : Disk) (before : Flow) (p : Params) (script : Scripts) (found : store.Found) (start : store.Start) : Type 0 where
+  pub head : old.tells → store.is_head keys p (old.cells 0)
+  pub came : CameIn p.keys before script
+  pub finds : old.tells → store.finds keys p old.cells found
+  -- what else the order of the opening depends on
+  pub starts : old.tells → store.starts keys p old.cells found start
+
+-- what the watch told before an early end, and behind it
+module _ (store : StoreKind) (life : LifeWords store) (keys : Keys) (most : ℕ) (old new : Disk) (t u : Trace) where
   -- The head was refused: all that was done is to read it.
   pub record StopsAtHead (before after : Flow) (fault : Fault) : Type 0 where
     pub untouched : after ≡ before
@@ -88,6 +114,7 @@ module _ (store : StoreKind) (life : LifeWords store) (keys : Keys) (most : ℕ)
     pub passes : Passes Same old new
     -- the head's cell is read, unless the store failed
     pub seen : NotesReads {V = Params} (event.Read 0 ∷ []) old.seen new.seen (Err fault)
+    pub shown : DoesReads {V = Params} (note.Read 0 ∷ []) old.seen new.seen t u (Err fault)
 
   -- The input was refused, once the head was read.
   pub record StopsAtInput (before after : Flow) (fault : Fault) : Type 0 where
@@ -98,6 +125,7 @@ module _ (store : StoreKind) (life : LifeWords store) (keys : Keys) (most : ℕ)
     -- a crash leaves what it might have left before
     pub passes : Passes Same old new
     pub seen : Notes (event.Read 0 ∷ []) old.seen new.seen
+    pub shown : Shows (note.Read 0 ∷ []) t u
 
   -- Opening was refused, once the script had come in.
   pub record StopsAtOpening {S : Type 0} (disk : S → Disk) (before : Flow) (fault : Fault) : Type 0 where
@@ -109,6 +137,7 @@ module _ (store : StoreKind) (life : LifeWords store) (keys : Keys) (most : ℕ)
     pub read : old.tells → store.refuses keys p old.cells fault
     pub cause : IsStoreFault fault → Rose old.faults new.faults
     pub seen : store.opens_partly keys most p old new fault
+    pub shown : store.opens_shown disk keys most p old new t u fault
     -- unless it may have begun the next generation, no cell is written, and a crash leaves what it might have left before
     pub unwritten : (store.may_begin fault → ⊥) → Keeps old new × Passes Same old new
     -- each image that a crash leaves stands as one did before; and from the first sync on for what the store stood for
@@ -117,32 +146,54 @@ module _ (store : StoreKind) (life : LifeWords store) (keys : Keys) (most : ℕ)
     -- some of an opening's acts were made, in each life that the cells stood for
     pub stops_life : old.tells → life.stops keys p old new
 
-  -- Nothing was run: the head, the input or the opening was refused.
-  abbrev pub EndsEarly : {S : Type 0} → (S → Disk) → Flow → Flow → Fault → Type 0
-  EndsEarly disk before after fault = StopsAtHead before after fault ⊎ StopsAtInput before after fault ⊎ StopsAtOpening disk before fault
+  -- The watch broke at the head's read, and nothing else was done.
+  pub record BreaksAtHead (before after : Flow) : Type 0 where
+    pub untouched : after ≡ before
+    pub p : Params
+    pub head : old.tells → store.is_head keys p (old.cells 0)
+    pub keeps : Keeps old new
+    -- a crash leaves what it might have left before
+    pub passes : Passes Same old new
+    pub seen : Notes (event.Read 0 ∷ []) old.seen new.seen
+    pub shown : Shows (note.Read 0 ∷ []) t u
+    pub broken : u.broken ≡ true
 
--- A script came in for a store of these parameters, and this was found in it.
-pub record IsOpened (store : StoreKind) (keys : Keys) (old : Disk) (before : Flow) (p : Params) (script : Scripts) (found : store.Found) (start : store.Start) : Type 0 where
-  pub head : old.tells → store.is_head keys p (old.cells 0)
-  pub came : CameIn p.keys before script
-  pub finds : old.tells → store.finds keys p old.cells found
-  -- what else the order of the opening depends on
-  pub starts : old.tells → store.starts keys p old.cells found start
+  -- It broke in the opening, which was finished.
+  pub record BreaksAtOpening {S : Type 0} (disk : S → Disk) (before : Flow) : Type 0 where
+    pub p : Params
+    pub script : Scripts
+    pub found : store.Found
+    pub start : store.Start
+    pub opened : IsOpened store keys old before p script found start
+    pub seen : ArePhasesMade most (begin_phases store p found start) old.seen new.seen
+    pub shown : Shows (begin_notes store p found start) t u
+    pub broken : u.broken ≡ true
+    -- where the store stood, the opened store stands for that, whatever crashes
+    pub stood : (at : Standing) → old.tells → Stands store keys p old.cells at → IsOpenedAt store keys p at found new
+    pub left : (at : Standing) → old.tells → Stands store keys p old.cells at → AllStand store keys p old → LeavesOnly old new (StandsAsBefore store keys p old)
+    pub opens : OpensStanding store disk keys p old new
+    pub opens_life : old.tells → life.begins keys p old.cells found
 
--- Why serving ended: the script did; memory was wanting; the output failed; the store failed, perhaps at the last write or sync of the
--- end of the epoch behind n; or the vault refused this call for a cause of its kind, from what was hidden behind calls of these shapes.
-abbrev pub EndsFor : (store : StoreKind) → Keys → Params → store.Found → (opened : Disk) → store.Hidden → List Shape → ℕ → Option VaultCall → (words : List ℕ) → Disk → Disk → Flow → Flow → Option Fault → Type 0
-EndsFor store keys p found opened h behind n call words old new before after None = Unit {0}
-EndsFor store keys p found opened h behind n call words old new before after (Some Memory) = Unit {0}
-EndsFor store keys p found opened h behind n call words old new before after (Some SinkFault) = Rose before.faults after.faults
-EndsFor store keys p found opened h behind n call words old new before after (Some (StoreFault unsure)) = Rose old.faults new.faults × ((unsure ≡ None) ⊎ (unsure ≡ Some (suc (store.epoch found + n))))
-EndsFor store keys p found opened h behind n call words old new before after (Some fault) = store.causes keys p found opened new h behind n call words fault
+  -- Nothing was run: the head, the input or the opening was refused; or the watch broke by then.
+  abbrev pub EndsEarly : {S : Type 0} → (S → Disk) → Flow → Flow → RunErr → Type 0
+  EndsEarly disk before after (failed.Fault fault) = StopsAtHead before after fault ⊎ StopsAtInput before after fault ⊎ StopsAtOpening disk before fault
+  EndsEarly disk before after failed.Unwatched = BreaksAtHead before after ⊎ BreaksAtOpening disk before
+
+-- Why serving ended: the script did; memory was wanting; the output failed; the watch's sink did; the store failed, perhaps at the last
+-- write or sync of the end of the epoch behind n; or the vault refused this call for a cause of its kind, from what was hidden behind calls of these shapes.
+abbrev pub EndsFor : (store : StoreKind) → Keys → Params → store.Found → (opened : Disk) → store.Hidden → List Shape → ℕ → Option VaultCall → (words : List ℕ) → Disk → Disk → Flow → Flow → Trace → Trace → Option RunErr → Type 0
+EndsFor store keys p found opened h behind n call words old new before after t u None = Unit {0}
+EndsFor store keys p found opened h behind n call words old new before after t u (Some (failed.Fault Memory)) = Unit {0}
+EndsFor store keys p found opened h behind n call words old new before after t u (Some (failed.Fault SinkFault)) = Rose before.faults after.faults
+EndsFor store keys p found opened h behind n call words old new before after t u (Some failed.Unwatched) = Rose t.faults u.faults
+EndsFor store keys p found opened h behind n call words old new before after t u (Some (failed.Fault (StoreFault unsure))) = Rose old.faults new.faults × ((unsure ≡ None) ⊎ (unsure ≡ Some (suc (store.epoch found + n))))
+EndsFor store keys p found opened h behind n call words old new before after t u (Some (failed.Fault fault)) = store.causes keys p found opened new h behind n call words fault
 
 -- How serving ended. Without a fault each client has signed off, nothing waits, and the desk isn't stopped; else the driver's last act,
 -- behind which there are clients' turns alone, tells of the fault, or nothing was done for want of memory.
-abbrev pub EndsWith : Option Fault → List Act → DeskState → Type 0
+abbrev pub EndsWith : Option RunErr → List Act → DeskState → Type 0
 EndsWith None acts desk = IsOver desk
-EndsWith (Some fault) acts desk = ((fault ≡ Memory) × (acts ≡ [])) ⊎ ((front : List Act) × (act : Act) × (behind : List Act) × (acts ≡ front ++ act ∷ behind) × All IsSaid behind × (fault_told act ≡ Some (failed.Fault fault)))
+EndsWith (Some err) acts desk = ((err ≡ failed.Fault Memory) × (acts ≡ [])) ⊎ ((front : List Act) × (act : Act) × (behind : List Act) × (acts ≡ front ++ act ∷ behind) × All IsSaid behind × (fault_told act ≡ Some err))
 
 -- How a run goes: at which looks its driver may act, whether its clients have threads of their own, and how many lanes may share a
 -- phase's reads.
@@ -156,11 +207,11 @@ manner beat threads lanes = record { beat = beat; threads = threads; lanes = lan
 
 -- A script was served over a store that was opened so, all of each client's part where there was no fault. The committed transactions
 -- ran one by one from the map that was found, in the order of their epochs and tickets.
-pub record ScriptServed (store : StoreKind) (by : Manner) (keys : Keys) (p : Params) (opened : Disk) (found : store.Found) (script : Scripts) (records : List (EpochRecord ℕ)) (fault : Option Fault) : Type 0 where
+pub record ScriptServed (store : StoreKind) (by : Manner) (keys : Keys) (p : Params) (opened : Disk) (found : store.Found) (script : Scripts) (records : List (EpochRecord ℕ)) (err : Option RunErr) : Type 0 where
   -- By hand the acts are whole rounds; by threads they are, without the clients' turns, things that the driver does.
   pub served : IsServed (AreShaped by.threads script.clients) by.beat p (store.epoch found) (store.left p found) script records
-  pub all : fault ≡ None → ClientsServedAll script records
-  pub ends : EndsWith fault served.acts served.desk
+  pub all : err ≡ None → ClientsServedAll script records
+  pub ends : EndsWith err served.acts served.desk
   -- what batches delivered is the map's, so the acts are a run from that map
   pub opens : MayOpen (record { params = p }) (suc (store.epoch found)) (store.left p found) script.clients
   pub fed : (m : Map nat_cmp) → store.is_map keys p opened found m → Run m (new_desk (record { params = p }) (suc (store.epoch found)) (store.left p found) script.clients) (history served.acts) (contents m records) served.desk
@@ -179,7 +230,7 @@ abbrev pub IsNextEpoch : (store : StoreKind) → Keys → Params → (opened : D
 IsNextEpoch store keys p opened found epoch script records None = Unit {0}
 IsNextEpoch store keys p opened found epoch script records (Some r) = ComesNext store keys p opened found epoch script records r
 
-module _ (store : StoreKind) (keys : Keys) (p : Params) (found : store.Found) (at : Standing) (script : Scripts) (records : List (EpochRecord ℕ)) (fault : Option Fault) where
+module _ (store : StoreKind) (keys : Keys) (p : Params) (found : store.Found) (at : Standing) (script : Scripts) (records : List (EpochRecord ℕ)) (err : Option RunErr) where
   -- what the vault held once the store was opened
   abbrev pub held : VaultState
   held = opened_with p (store.left p found) at
@@ -196,7 +247,7 @@ module _ (store : StoreKind) (keys : Keys) (p : Params) (found : store.Found) (a
 
   -- the answer tells that the end of the epoch behind the records is in doubt
   abbrev pub IsDoubt : Type 0
-  IsDoubt = fault ≡ Some (StoreFault (Some (suc at.epoch + length records)))
+  IsDoubt = err ≡ Some (failed.Fault (StoreFault (Some (suc at.epoch + length records))))
 
   module _ (acts : List Act) where
     -- the epoch whose end was begun last is the one that the desk had closed, as these acts tell
@@ -238,28 +289,32 @@ pub record IsReadAndOpened {S : Type 0} (disk : S → Disk) (keys : Keys) (old n
 abbrev pub LivesBehind : {S : Type 0} → (S → Disk) → Keys → Sealing → S → S → List VaultAnswer → Type 0
 LivesBehind {S} disk keys sealing opened new answers = (old : S) → ((disk opened).tells → Opens keys (disk old) (disk opened) sealing) → (disk new).tells → LivesOn disk keys old new answers
 
--- What serving does to the store and the output; behind it the tape has given these words.
-pub record ServedOver (store : StoreKind) (life : LifeWords store) {S : Type 0} (disk : S → Disk) (by : Manner) (keys : Keys) (p : Params) (found : store.Found) (sealing : Sealing) (script : Scripts) (words : List ℕ) (old new : S) (before after : Flow) (fault : Option Fault) : Type 0 where
+-- What serving does to the store and the output, and what the watch is shown of it; behind it the tape has given these words.
+pub record ServedOver (store : StoreKind) (life : LifeWords store) {S : Type 0} (disk : S → Disk) (by : Manner) (keys : Keys) (p : Params) (found : store.Found) (sealing : Sealing) (script : Scripts) (words : List ℕ) (old new : S) (before after : Flow)
+    (t u : Trace) (err : Option RunErr) : Type 0 where
   pub records : List (EpochRecord ℕ)
-  pub is_served : ScriptServed store by keys p (disk old) found script records fault
+  pub is_served : ScriptServed store by keys p (disk old) found script records err
   -- all lines of so many records stand
   pub whole : ℕ
-  pub lines : LinesStand fault records whole before after
+  pub lines : LinesStand err records whole before after
   pub events : List Event
-  pub traced : IsTraced store by.lanes p (store.public p found) (store.hidden p found) words (calls is_served.served.acts) fault events
-  pub cause : EndsFor store keys p found (disk old) traced.behind (shapes (calls is_served.served.acts)) (length records) (refused (calls is_served.served.acts)) words (disk old) (disk new) before after fault
+  pub traced : IsTraced store by.lanes p (store.public p found) (store.hidden p found) words (calls is_served.served.acts) (told_fault err) events
+  pub shown : IsShown store by.lanes p (store.public p found) (store.hidden p found) words (calls is_served.served.acts) (told_fault err) events traced t u
+  -- one that is over has a whole watch
+  pub watched : err ≡ None → u.broken ≡ false
+  pub cause : EndsFor store keys p found (disk old) traced.behind (shapes (calls is_served.served.acts)) (length records) (refused (calls is_served.served.acts)) words (disk old) (disk new) before after t u err
   pub seen : Notes events (disk old).seen (disk new).seen
   pub goes : GoesOn (disk old) (disk new)
   -- unless there was a fault, cells are told where they were
-  pub tells : fault ≡ None → (disk old).tells → (disk new).tells
-  pub left : (at : Standing) → (disk old).tells → IsSynced (disk old) → IsOpenedAt store keys p at found (disk old) → IsLeftOnDisk store keys p found at script records fault is_served.served.acts disk (disk old) (disk new)
+  pub tells : err ≡ None → (disk old).tells → (disk new).tells
+  pub left : (at : Standing) → (disk old).tells → IsSynced (disk old) → IsOpenedAt store keys p at found (disk old) → IsLeftOnDisk store keys p found at script records err is_served.served.acts disk (disk old) (disk new)
   pub lives : LivesBehind disk keys sealing old new (map (λ s. s.1) (calls is_served.served.acts))
   pub goes_on : life.goes_on keys p found (disk old) (answered (calls is_served.served.acts)) traced.steps traced.behind (refused (calls is_served.served.acts)) words (disk new)
 
 -- behind the run the tape has given these words of its generation
 module _ (store : StoreKind) (life : LifeWords store) {S : Type 0} (disk : S → Disk) (by : Manner) (words : List ℕ) where
   -- The script was run, whole or up to a fault.
-  pub record Ran (keys : Keys) (old new : S) (before after : Outside) (records : List (EpochRecord ℕ)) (fault : Option Fault) : Type 0 where
+  pub record Ran (keys : Keys) (old new : S) (before after : Outside) (t u : Trace) (records : List (EpochRecord ℕ)) (err : Option RunErr) : Type 0 where
     pub p : Params
     pub script : Scripts
     pub found : store.Found
@@ -267,22 +322,29 @@ module _ (store : StoreKind) (life : LifeWords store) {S : Type 0} (disk : S →
     pub opened : IsOpened store keys (disk old) before.input p script found start
     -- the store as it was once it was opened, before the first transaction was run
     pub between : S
-    pub is_served : ScriptServed store by keys p (disk between) found script records fault
+    pub is_served : ScriptServed store by keys p (disk between) found script records err
     -- the trace is that of the opening, and then that of the vault's calls
     pub events : List Event
-    pub traced : IsTraced store by.lanes p (store.public p found) (store.hidden p found) words (calls is_served.served.acts) fault events
-    pub cause : EndsFor store keys p found (disk between) traced.behind (shapes (calls is_served.served.acts)) (length records) (refused (calls is_served.served.acts)) words (disk old) (disk new) before.output after.output fault
+    pub traced : IsTraced store by.lanes p (store.public p found) (store.hidden p found) words (calls is_served.served.acts) (told_fault err) events
+    pub cause : EndsFor store keys p found (disk between) traced.behind (shapes (calls is_served.served.acts)) (length records) (refused (calls is_served.served.acts)) words (disk old) (disk new) before.output after.output t u err
     pub opening_seen : ArePhasesMade by.lanes (begin_phases store p found start) (disk old).seen (disk between).seen
     pub serving_seen : Notes events (disk between).seen (disk new).seen
     pub seen : Notes (opening_seen.events ++ events) (disk old).seen (disk new).seen
+    -- What the watch is shown: the notes of the opening, behind which it is whole, and then those of the vault's calls; and one that is over
+    -- has a whole watch.
+    pub midway : Trace
+    pub opening_shown : Shows (begin_notes store p found start) t midway
+    pub whole_midway : midway.broken ≡ false
+    pub shown : IsShown store by.lanes p (store.public p found) (store.hidden p found) words (calls is_served.served.acts) (told_fault err) events traced midway u
+    pub watched : err ≡ None → u.broken ≡ false
     pub opens : OpensStanding store disk keys p (disk old) (disk between)
     -- unless there was a fault, cells are told where they were
-    pub tells : fault ≡ None → (disk old).tells → (disk new).tells
+    pub tells : err ≡ None → (disk old).tells → (disk new).tells
     -- Where the store stood for an epoch, opening found that, and the opened store stands for it, whatever crashes. Where each image that a
     -- crash might have left stood too, each that a crash leaves stands as one did before, until the store is opened, and then as served.
     pub stood : (at : Standing) → (disk old).tells → Stands store keys p (disk old).cells at → IsOpenedAt store keys p at found (disk between)
     pub left : (at : Standing) → (disk old).tells → Stands store keys p (disk old).cells at → AllStand store keys p (disk old)
-        → LeftByWholeRun store keys p found at script records fault is_served.served.acts disk (disk old) (disk between) (disk new)
+        → LeftByWholeRun store keys p found at script records err is_served.served.acts disk (disk old) (disk between) (disk new)
     -- The head's read, the opening and the vault's calls, with their answers, are a run in the life of the store.
     pub lives : (disk new).tells → LivesOn disk keys old new (map (λ s. s.1) (calls is_served.served.acts))
     -- What is shown is a part of one life of the store: each life that the cells stood for goes on with the opening's acts to where this was
@@ -291,34 +353,34 @@ module _ (store : StoreKind) (life : LifeWords store) {S : Type 0} (disk : S →
     pub goes_on : life.goes_on keys p found (disk between) (answered (calls is_served.served.acts)) traced.steps traced.behind (refused (calls is_served.served.acts)) words (disk new)
 
   -- The run ended early, and nothing was run: no vault's call is in the store's life. Or the script was run.
-  abbrev pub Went : Keys → S → S → Outside → Outside → List (EpochRecord ℕ) → Option Fault → Type 0
-  Went keys old new before after records None = Ran keys old new before after records None
-  Went keys old new before after records (Some fault) =
-      ((records ≡ []) × EndsEarly store life keys by.lanes (disk old) (disk new) disk before.input after.input fault × ((disk new).tells → LivesOn disk keys old new [])) ⊎ Ran keys old new before after records (Some fault)
+  abbrev pub Went : Keys → S → S → Outside → Outside → Trace → Trace → List (EpochRecord ℕ) → Option RunErr → Type 0
+  Went keys old new before after t u records None = Ran keys old new before after t u records None
+  Went keys old new before after t u records (Some err) =
+      ((records ≡ []) × EndsEarly store life keys by.lanes (disk old) (disk new) t u disk before.input after.input err × ((disk new).tells → LivesOn disk keys old new [])) ⊎ Ran keys old new before after t u records (Some err)
 
   -- What it comes to before the fault's line is written.
-  pub record RunOn (keys : Keys) (old new : S) (before after : Outside) (fault : Option Fault) : Type 0 where
+  pub record RunOn (keys : Keys) (old new : S) (before after : Outside) (t u : Trace) (err : Option RunErr) : Type 0 where
     pub records : List (EpochRecord ℕ)
     -- all lines of so many of them stand
     pub whole : ℕ
-    pub lines : LinesStand fault records whole before.output after.output
-    pub went : Went keys old new before after records fault
+    pub lines : LinesStand err records whole before.output after.output
+    pub went : Went keys old new before after t u records err
     pub sound : StandsOn store disk keys old new
 
   -- What `run` has done with a store that was handed in.
-  pub record RunDone (keys : Keys) (old new : S) (before after : Outside) (status : ℕ) : Type 0 where
-    -- the fault, where there is one
-    pub fault : Option Fault
-    pub status_is : status ≡ status_of fault
+  pub record RunDone (keys : Keys) (old new : S) (before after : Outside) (t u : Trace) (status : ℕ) : Type 0 where
+    -- what cut it off, where something did
+    pub err : Option RunErr
+    pub status_is : status ≡ status_of (told_fault err)
     -- the records whose lines were to be written, and then the fault's
     pub records : List (EpochRecord ℕ)
-    pub output_is : IsPrinted before.output after.output (report decimal records ++ fault_line fault)
-    pub all_written : fault ≡ None → after.output.bytes ≡ appended before.output.bytes (report decimal records)
+    pub output_is : IsPrinted before.output after.output (report decimal records ++ fault_line (told_fault err))
+    pub all_written : err ≡ None → after.output.bytes ≡ appended before.output.bytes (report decimal records)
     -- Before the fault's line all lines of so many records stand: of each one; but where the output failed, of all but the last one, at
     -- whose lines it did. Then nothing more is written.
     pub whole : ℕ
     pub written : Flow
-    pub lines : LinesStand fault records whole before.output written
-    pub line : LineTold written after.output fault
-    pub went : Went keys old new before after records fault
+    pub lines : LinesStand err records whole before.output written
+    pub line : ErrTold written after.output err
+    pub went : Went keys old new before after t u records err
     pub sound : StandsOn store disk keys old new

@@ -1,22 +1,25 @@
 //! How a call ends.
 
 ghost use Rattle.ob_io.specs.Streams.{outflow};
-ghost use Rattle.ob_top.specs.Outside.{IsFinished};
-ghost use Rattle.std.specs.Prelude.{◌≡◌};
-ghost use Rattle.ob_top.specs.Endings.{fault_by, fault_of};
+ghost use Rattle.ob_top.specs.Outside.{IsEnded, IsFinished, IsWatched};
+ghost use Rattle.ob_top.specs.Endings.{err_of, fault_of};
 
 use ob_base::Fault;
 use ob_conduct::RunErr;
 use ob_io::Sink;
 use ob_report::{fault_status, fault_text};
+use ob_store::Watch;
 
-/// What a run's end tells: the output's fault where the watch broke.
-pub fn told(ended: Result<(), RunErr>) -> Result<(), Fault>
-    ensures { fault_of result ≡ fault_by ended }
+/// Refuses to go on where the watch has broken.
+///
+/// # Errors
+/// It has.
+pub fn still_watched<W: Watch>(watch: &W) -> Result<(), RunErr>
+    ensures { IsWatched (W.trace watch.now) (err_of result) }
 {
-    match ended {
-        Ok(()) => Ok(()),
-        Err(err) => Err(err.fault()),
+    match watch.broken() {
+        true => Err(RunErr::Unwatched),
+        false => Ok(()),
     }
 }
 
@@ -32,6 +35,22 @@ pub fn finish<O: Sink>(output: &mut O, ended: Result<(), Fault>) -> u8
         Err(fault) => {
             let _ = fault_text(&fault, output);
             fault_status(&fault)
+        }
+    }
+}
+
+/// The same of a command over a store. Where its watch broke, and the output didn't fail, that is
+/// told as the output's fault.
+pub fn finish_run<O: Sink>(output: &mut O, ended: Result<(), RunErr>) -> u8
+    ensures { IsEnded (outflow O.Sink output.old) (outflow O.Sink output.new) (err_of ended)
+        result }
+{
+    match ended {
+        Ok(()) => 0,
+        Err(RunErr::Fault(fault)) => finish(output, Err(fault)),
+        Err(RunErr::Unwatched) => {
+            let _ = fault_text(&Fault::SinkFault, output);
+            fault_status(&Fault::SinkFault)
         }
     }
 }

@@ -1,4 +1,5 @@
-//! The top call: what the program does with its words, its store, its input and its output.
+//! The top call: what the program does with its words, its store, its input, its output and its
+//! trace.
 #![tactic(auto)]
 
 mod audit;
@@ -7,7 +8,9 @@ mod endings;
 mod format;
 mod run;
 mod top;
+mod traces;
 
 pub use drill::{Drilled, drill_on};
 pub use endings::finish;
 pub use top::obladi;
+pub use traces::traces_are_printed;

@@ -24,10 +24,10 @@ ghost use Rattle.ob_conduct.specs.Scenes.{scene, run_state, runner_kind};
 ghost use Rattle.ob_run.specs.Threaded.{RunsBy};
 ghost use Rattle.ob_serial.specs.VaultKinds.{kind_of};
 ghost use Rattle.ob_top.specs.Runs.{manner, CameIn, IsInputRefused, EndsEarly, IsReadAndOpened, ServedOver, RunOn};
-ghost use Rattle.ob_top.specs.Endings.{fault_of};
+ghost use Rattle.ob_top.specs.Endings.{err_of};
 ghost use Rattle.ob_top.specs.Outside.{outside};
 
-use crate::endings::told;
+use crate::endings::still_watched;
 use ob_base::{Fault, Memory, Params};
 use ob_conduct::RunErr;
 use ob_desk::{Beat, Desk};
@@ -40,7 +40,7 @@ use ob_runner::{ScriptRunner, runners};
 use ob_script::{LIMIT, Scripts, parse};
 use ob_seal::{Keys, Tape};
 use ob_serial::Vault;
-use ob_store::{Blind, Watch};
+use ob_store::Watch;
 use ob_vault::RingVault;
 use std::alloc::Global;
 use std::sync::Wait;
@@ -81,8 +81,9 @@ fn read_script<I: Source>(alloc: Global, input: &mut I, keys: u32) -> Result<Scr
     parse(alloc, &bytes, keys)
 }
 
-// Reads the head, then the script, and then opens the store, for so many lanes.
-fn begin<R: Threads + Sync, S: Lanes, T: Tape, I: Source>(
+// Reads the head, then the script, and then opens the store, for so many lanes. Behind a head at
+// which the watch broke nothing is done.
+fn begin<R: Threads + Sync, S: Lanes, T: Tape, I: Source, W: Watch>(
     rt: &R,
     alloc: Global,
     store: &mut S,
@@ -90,10 +91,12 @@ fn begin<R: Threads + Sync, S: Lanes, T: Tape, I: Source>(
     keys: &Keys,
     input: &mut I,
     lanes: u32,
-) -> Result<Begun<S::Lane>, Fault>
+    watch: &mut W,
+) -> Result<Begun<S::Lane>, RunErr>
     requires none_out { (S.disk store.old).out ≡ 0 }
     requires unstarted { T.present tape.old ≡ 0 }
     requires lanes { AreFewLanes lanes }
+    requires whole { (W.trace watch.old).broken ≡ false }
     ensures none_out { (S.disk store.new).out ≡ 0 }
     ensures goes { GoesOn (S.disk store.old) (S.disk store.new) }
     ensures serves { IfOk result (λ begun. MayServe lanes begun.params (S.disk store.new)
@@ -114,44 +117,40 @@ fn begin<R: Threads + Sync, S: Lanes, T: Tape, I: Source>(
         (S.disk store.new)) }
     ensures begun { IfOk result (λ begun. (f : RingFound) × (f.run ≡ run_over begun.opening)
         × IsBegun keys.now lanes begun.params begun.scripts (S.disk store.old) (S.disk store.new)
-        (inflow I.Source input.old) f) }
+        (W.trace watch.old) (W.trace watch.new) (inflow I.Source input.old) f) }
     ensures refused { IfErr result
-        (λ fault. EndsEarly ring_kind ring_lives keys.now lanes (S.disk store.old)
-        (S.disk store.new) S.disk (inflow I.Source input.old) (inflow I.Source input.new) fault) }
+        (λ err. EndsEarly ring_kind ring_lives keys.now lanes (S.disk store.old)
+        (S.disk store.new) (W.trace watch.old) (W.trace watch.new) S.disk
+        (inflow I.Source input.old) (inflow I.Source input.new) err) }
     ensures opens { IfOk result (λ begun. IsReadAndOpened S.disk keys.now store.old store.new
         begun.opening.sealer) }
     ensures lives { (S.disk store.new).tells
         → OnErr result (LivesOn S.disk keys.now store.old store.new []) }
 {
-    let params = match head(store, keys, &mut Blind) {
+    let params = match head(store, keys, watch) {
         Ok(params) => params,
-        Err(fault) => return Err(fault),
+        Err(fault) => return Err(RunErr::Fault(fault)),
     };
+    match still_watched(watch) {
+        Ok(()) => {}
+        Err(err) => return Err(err),
+    }
     let scripts = match read_script(alloc, input, params.keys) {
         Ok(scripts) => scripts,
-        Err(fault) => return Err(fault),
+        Err(fault) => return Err(RunErr::Fault(fault)),
     };
     let runners = match runners(alloc, &scripts) {
         Ok(runners) => runners,
-        Err(Memory) => return Err(Fault::Memory),
+        Err(Memory) => return Err(RunErr::Fault(Fault::Memory)),
     };
-    match prepare(
-        rt,
-        alloc,
-        store,
-        tape,
-        keys,
-        &params,
-        lanes as usize,
-        &mut Blind,
-    ) {
+    match prepare(rt, alloc, store, tape, keys, &params, lanes as usize, watch) {
         Ok(opening) => Ok(Begun {
             params,
             scripts,
             runners,
             opening,
         }),
-        Err(fault) => Err(fault),
+        Err(fault) => Err(RunErr::Fault(fault)),
     }
 }
 
@@ -222,7 +221,7 @@ pub fn hand_back<S, T>(store: &mut S, tape: &mut T)
 {}
 
 // Runs the script over the store that was opened.
-fn serve_on<R: Threads + Wait + Sync, S: Lanes, T: Tape, O: Sink, B: Beat>(
+fn serve_on<R: Threads + Wait + Sync, S: Lanes, T: Tape, O: Sink, B: Beat, W: Watch>(
     rt: &R,
     alloc: Global,
     store: &mut S,
@@ -232,9 +231,11 @@ fn serve_on<R: Threads + Wait + Sync, S: Lanes, T: Tape, O: Sink, B: Beat>(
     output: &mut O,
     beat: &mut B,
     means: Means,
-) -> Result<(), Fault>
+    watch: &mut W,
+) -> Result<(), RunErr>
     requires none_out { (S.disk store.old).out ≡ 0 }
     requires lanes { AreFewLanes means.lanes }
+    requires whole { (W.trace watch.old).broken ≡ false }
     requires serves { MayServe means.lanes begun.params (S.disk store.old) (T.present tape.old)
         (T.drawn tape.old) begun.opening }
     requires sound { AreSound begun.scripts }
@@ -247,7 +248,8 @@ fn serve_on<R: Threads + Wait + Sync, S: Lanes, T: Tape, O: Sink, B: Beat>(
         (manner (beat_kind B.passes B.exact) means.threads means.lanes)
         keys.now begun.params f begun.opening.sealer begun.scripts (T.drawn tape.new)
         store.old store.new
-        (outflow O.Sink output.old) (outflow O.Sink output.new) (fault_of result) }
+        (outflow O.Sink output.old) (outflow O.Sink output.new) (W.trace watch.old)
+        (W.trace watch.new) (err_of result) }
 {
     let Begun {
         params,
@@ -263,22 +265,24 @@ fn serve_on<R: Threads + Wait + Sync, S: Lanes, T: Tape, O: Sink, B: Beat>(
         &scripts,
         &mut runners,
         &mut vault,
-        &mut Blind,
+        watch,
         output,
         beat,
         means.threads,
     );
     let (store, tape) = vault.into_lent();
     hand_back(store, tape);
-    told(ended)
+    ended
 }
 
 /// Runs the script that comes in over a store, and reports each epoch once it has ended. Without
-/// `threads` its clients' calls are made by hand, and else in threads of their own.
+/// `threads` its clients' calls are made by hand, and else in threads of their own. A watch, which
+/// is whole, is shown all that the store sees.
 ///
 /// # Errors
-/// In this order: the head, the input, the opening; then what the run met.
-pub fn run_on<R: Threads + Wait + Sync, S: Lanes, T: Tape, I: Source, O: Sink, B: Beat>(
+/// In this order: the head, the input, the opening; then what the run met. Where the watch broke
+/// nothing more is begun.
+pub fn run_on<R: Threads + Wait + Sync, S: Lanes, T: Tape, I: Source, O: Sink, B: Beat, W: Watch>(
     rt: &R,
     alloc: Global,
     store: &mut S,
@@ -288,8 +292,10 @@ pub fn run_on<R: Threads + Wait + Sync, S: Lanes, T: Tape, I: Source, O: Sink, B
     output: &mut O,
     beat: &mut B,
     means: Means,
-) -> Result<(), Fault>
+    watch: &mut W,
+) -> Result<(), RunErr>
     requires none_out { (S.disk store.old).out ≡ 0 }
+    requires whole { (W.trace watch.old).broken ≡ false }
     requires unstarted { T.present tape.old ≡ 0 }
     requires lanes { AreFewLanes means.lanes }
     ensures goes { GoesOn (S.disk store.old) (S.disk store.new) }
@@ -299,11 +305,17 @@ pub fn run_on<R: Threads + Wait + Sync, S: Lanes, T: Tape, I: Source, O: Sink, B
         (T.drawn tape.new) keys.now store.old store.new
         (outside (inflow I.Source input.old) (outflow O.Sink output.old))
         (outside (inflow I.Source input.new) (outflow O.Sink output.new))
-        (fault_of result) }
+        (W.trace watch.old) (W.trace watch.new) (err_of result) }
 {
-    let begun = match begin(rt, alloc, store, tape, keys, input, means.lanes) {
+    let begun = match begin(rt, alloc, store, tape, keys, input, means.lanes, watch) {
         Ok(begun) => begun,
-        Err(fault) => return Err(fault),
+        Err(err) => return Err(err),
     };
-    serve_on(rt, alloc, store, tape, keys, begun, output, beat, means)
+    match still_watched(watch) {
+        Ok(()) => {}
+        Err(err) => return Err(err),
+    }
+    serve_on(
+        rt, alloc, store, tape, keys, begun, output, beat, means, watch,
+    )
 }

@@ -1,33 +1,133 @@
 //! The one call that the program makes.
 
-ghost use Rattle.std.specs.Prelude.{◌≡◌, map, ℕ, List};
+ghost use Rattle.std.specs.Prelude.{◌≡◌, map, ℕ, List, true, false};
 ghost use Rattle.ob_io.specs.Streams.{inflow, outflow};
 ghost use Rattle.ob_store.specs.Calls.{GoesOn};
 ghost use Rattle.ob_top.specs.Outside.{outside, NoneOut, StoreGoesOn};
-ghost use Rattle.ob_top.specs.Endings.{fault_of};
+ghost use Rattle.ob_top.specs.Endings.{err_of};
 ghost use Rattle.ob_words.specs.Work.{Asks};
-ghost use Rattle.ob_top.specs.Top.{AskForSomething, CommandDoes, IsRefusedWithout, UsageDoes, AuditDoes, DrillDoes, FormatDoes, RunDoes};
+ghost use Rattle.ob_top.specs.Top.{AskForSomething, traced_of, start_for, TracedDoes, WatchedDoes, CommandDoes, IsRefusedWithout, UsageDoes, AuditDoes, DrillDoes, FormatDoes, RunDoes};
 ghost use Rattle.ob_top.specs.Over.{OverStore, WithoutStore};
 ghost use Rattle.ob_top.specs.Complete.{Completes, AuditCompletes, DrillCompletes};
 ghost use Rattle.ob_desk.specs.Beats.{beat_kind};
 
 use crate::audit::audit_on;
 use crate::drill::drill_told;
-use crate::endings::finish;
+use crate::endings::{finish, finish_run};
 use crate::format::format_on;
 use crate::run::{Means, run_on};
 use ob_base::Fault;
+use ob_conduct::RunErr;
 use ob_desk::Beat;
 use ob_io::{Sink, Source};
 use ob_lanes::Lanes;
-use ob_seal::Tape;
+use ob_seal::{Keys, Tape};
+use ob_store::{Blind, SinkWatch, Start, Watch};
 use ob_words::{Command, Work, keys_of, work_of};
 use std::alloc::Global;
 use std::sync::Wait;
 use std::thread::Threads;
 
+// Whether a command has a trace.
+fn is_traced(command: &Command) -> bool
+    ensures { result ≡ traced_of command.now }
+{
+    match *command {
+        Command::Format { traced, .. } => traced,
+        Command::Run { traced, .. } => traced,
+    }
+}
+
+// How the trace of a command begins.
+fn start_of(command: &Command) -> Start
+    ensures { result ≡ start_for command.now }
+{
+    match *command {
+        Command::Format { params, .. } => Start::Format { params },
+        Command::Run { .. } => Start::Run,
+    }
+}
+
+// Does this over a store, under a watch that is whole.
+fn do_watched<R: Threads + Wait + Sync, S: Lanes, T: Tape, I: Source, O: Sink, B: Beat, W: Watch>(
+    rt: &R,
+    alloc: Global,
+    command: Command,
+    keys: &Keys,
+    store: &mut S,
+    tape: &mut T,
+    input: &mut I,
+    output: &mut O,
+    beat: &mut B,
+    watch: &mut W,
+) -> Result<(), RunErr>
+    requires none_out { (S.disk store.old).out ≡ 0 }
+    requires unstarted { T.present tape.old ≡ 0 }
+    requires asked { (words : List (List ℕ)) × Asks words command }
+    requires whole { (W.trace watch.old).broken ≡ false }
+    ensures goes { GoesOn (S.disk store.old) (S.disk store.new) }
+    ensures none_out { (S.disk store.new).out ≡ 0 }
+    ensures does { WatchedDoes S.disk (beat_kind B.passes B.exact) (T.drawn tape.new) command
+        keys.now store.old store.new
+        (outside (inflow I.Source input.old) (outflow O.Sink output.old))
+        (outside (inflow I.Source input.new) (outflow O.Sink output.new)) (W.trace watch.old)
+        (W.trace watch.new) (err_of result) }
+{
+    match command {
+        Command::Format { params, .. } => {
+            format_on(rt, alloc, store, tape, keys, &params, output, watch)
+        }
+        Command::Run { lanes, turns, .. } => {
+            let means = Means {
+                lanes,
+                threads: !turns,
+            };
+            run_on(
+                rt, alloc, store, tape, keys, input, output, beat, means, watch,
+            )
+        }
+    }
+}
+
+// Does this over a store, under a watch of the trace, whose first line comes first of all.
+fn do_traced<R: Threads + Wait + Sync, S: Lanes, T: Tape, I: Source, O: Sink, B: Beat, W: Sink>(
+    rt: &R,
+    alloc: Global,
+    command: Command,
+    keys: &Keys,
+    store: &mut S,
+    tape: &mut T,
+    input: &mut I,
+    output: &mut O,
+    trace: &mut Option<W>,
+    beat: &mut B,
+) -> Result<(), RunErr>
+    requires none_out { (S.disk store.old).out ≡ 0 }
+    requires unstarted { T.present tape.old ≡ 0 }
+    requires asked { (words : List (List ℕ)) × Asks words command }
+    ensures goes { GoesOn (S.disk store.old) (S.disk store.new) }
+    ensures none_out { (S.disk store.new).out ≡ 0 }
+    ensures does { TracedDoes S.disk (λ w. outflow W.Sink w) (beat_kind B.passes B.exact)
+        (T.drawn tape.new) command keys.now store.old store.new
+        (outside (inflow I.Source input.old) (outflow O.Sink output.old))
+        (outside (inflow I.Source input.new) (outflow O.Sink output.new)) trace.old trace.new
+        (err_of result) true }
+{
+    let Some(sink) = trace else {
+        return Err(RunErr::Unwatched);
+    };
+    let mut watch = SinkWatch::new(sink);
+    watch.start(&start_of(&command));
+    if watch.broken() {
+        return Err(RunErr::Unwatched);
+    }
+    do_watched(
+        rt, alloc, command, keys, store, tape, input, output, beat, &mut watch,
+    )
+}
+
 // Does this over a store.
-fn do_on<R: Threads + Wait + Sync, S: Lanes, T: Tape, I: Source, O: Sink, B: Beat>(
+fn do_on<R: Threads + Wait + Sync, S: Lanes, T: Tape, I: Source, O: Sink, B: Beat, W: Sink>(
     rt: &R,
     alloc: Global,
     command: Command,
@@ -36,37 +136,45 @@ fn do_on<R: Threads + Wait + Sync, S: Lanes, T: Tape, I: Source, O: Sink, B: Bea
     tape: &mut T,
     input: &mut I,
     output: &mut O,
+    trace: &mut Option<W>,
     beat: &mut B,
-) -> Result<(), Fault>
+) -> Result<(), RunErr>
     requires none_out { (S.disk store.old).out ≡ 0 }
     requires unstarted { T.present tape.old ≡ 0 }
     requires asked { (words : List (List ℕ)) × Asks words command }
     ensures goes { GoesOn (S.disk store.old) (S.disk store.new) }
     ensures none_out { (S.disk store.new).out ≡ 0 }
     ensures does { (words : List (List ℕ)) → Asks words command
-        → CommandDoes S.disk (beat_kind B.passes B.exact) (T.drawn tape.new) words keys.entry
-        store.old store.new
+        → CommandDoes S.disk (λ w. outflow W.Sink w) (beat_kind B.passes B.exact)
+        (T.drawn tape.new) words keys.entry store.old store.new
         (outside (inflow I.Source input.old) (outflow O.Sink output.old))
-        (outside (inflow I.Source input.new) (outflow O.Sink output.new)) (fault_of result) }
+        (outside (inflow I.Source input.new) (outflow O.Sink output.new)) trace.old trace.new
+        (err_of result) }
 {
     let keys = match keys_of(keys) {
         Ok(keys) => keys,
-        Err(fault) => return Err(fault),
+        Err(fault) => return Err(RunErr::Fault(fault)),
     };
-    match command {
-        Command::Format { params } => format_on(rt, alloc, store, tape, &keys, &params, output),
-        Command::Run { lanes, turns } => {
-            let means = Means {
-                lanes,
-                threads: !turns,
-            };
-            run_on(rt, alloc, store, tape, &keys, input, output, beat, means)
-        }
+    match is_traced(&command) {
+        true => do_traced(
+            rt, alloc, command, &keys, store, tape, input, output, trace, beat,
+        ),
+        false => do_watched(
+            rt, alloc, command, &keys, store, tape, input, output, beat, &mut Blind,
+        ),
     }
 }
 
 // Does what the words ask for, with a store.
-fn do_with<R: AllocGlobal + Threads + Wait + Sync, S: Lanes, T: Tape, I: Source, O: Sink, B: Beat>(
+fn do_with<
+    R: AllocGlobal + Threads + Wait + Sync,
+    S: Lanes,
+    T: Tape,
+    I: Source,
+    O: Sink,
+    B: Beat,
+    W: Sink,
+>(
     rt: &R,
     words: &[&str],
     keys: Option<&[u8]>,
@@ -74,17 +182,19 @@ fn do_with<R: AllocGlobal + Threads + Wait + Sync, S: Lanes, T: Tape, I: Source,
     tape: &mut T,
     input: &mut I,
     output: &mut O,
+    trace: &mut Option<W>,
     beat: &mut B,
 ) -> u8
     requires none_out { (S.disk store.old).out ≡ 0 }
     requires unstarted { T.present tape.old ≡ 0 }
     ensures goes { GoesOn (S.disk store.old) (S.disk store.new) }
     ensures none_out { (S.disk store.new).out ≡ 0 }
-    ensures does { OverStore S.disk (beat_kind B.passes B.exact) (T.drawn tape.new)
-        (map (λ w. w.now) words.entry.now) keys.entry
+    ensures does { OverStore S.disk (λ w. outflow W.Sink w) (beat_kind B.passes B.exact)
+        (T.drawn tape.new) (map (λ w. w.now) words.entry.now) keys.entry
         store.old store.new
         (outside (inflow I.Source input.old) (outflow O.Sink output.old))
-        (outside (inflow I.Source input.new) (outflow O.Sink output.new)) result }
+        (outside (inflow I.Source input.new) (outflow O.Sink output.new)) trace.old trace.new
+        result }
 {
     let work = match work_of(rt.alloc(), words) {
         Ok(work) => work,
@@ -101,9 +211,10 @@ fn do_with<R: AllocGlobal + Threads + Wait + Sync, S: Lanes, T: Tape, I: Source,
                 tape,
                 input,
                 output,
+                trace,
                 beat,
             );
-            finish(output, ended)
+            finish_run(output, ended)
         }
         Work::Audit => audit_on(rt.alloc(), input, output),
         Work::Drill { count } => drill_told(rt, count, output),
@@ -147,15 +258,18 @@ fn do_without<R: AllocGlobal + Threads + Wait + Sync, I: Source, O: Sink>(
 
 /// Does what the words ask for, and answers the status of the process.
 ///
-/// `format STORE KEYS N L Z S R BR BW E T` makes an empty store and prints how many cells it has.
-/// `run STORE KEYS [--lanes K] [--turns]` reads a script, runs its clients' transactions over the
-/// store, and reports them, each epoch once it is durable. A batch is read by so many lanes, 4
-/// where no number is given, each in a thread of its own. Each client's calls are made in a thread
-/// of its own, or by hand where the system refuses it; with `--turns` all are made by hand, in
-/// rounds. `store` is the store that the words name, or none where it wasn't opened; `keys` is the
-/// text of the key file that they name, or none where it wasn't read; `tape` wasn't started, and
-/// gives the random words by which rows are spread; `beat` says at which looks the driver of epochs
-/// acts.
+/// `format STORE KEYS N L Z S R BR BW E T [--trace FILE]` makes an empty store and prints how many
+/// cells it has. `run STORE KEYS [--lanes K] [--trace FILE] [--turns]` reads a script, runs its
+/// clients' transactions over the store, and reports them, each epoch once it is durable. A batch
+/// is read by so many lanes, 4 where no number is given, each in a thread of its own. Each client's
+/// calls are made in a thread of its own, or by hand where the system refuses it; with `--turns`
+/// all are made by hand, in rounds. `store` is the store that the words name, or none where it
+/// wasn't opened; `keys` is the text of the key file that they name, or none where it wasn't read;
+/// `tape` wasn't started, and gives the random words by which rows are spread; `beat` says at which
+/// looks the driver of epochs acts. `trace` is the file that `--trace` names, or none where it
+/// wasn't opened: all that the store sees is written there, as it sees it. Without the option it is
+/// left as it is; with it nothing is done where there is none, and nothing more is begun once it
+/// failed.
 ///
 /// `audit` reads a trace, and prints whether each line may stand there, or the first that may not.
 /// It touches no store and no keys.
@@ -168,8 +282,8 @@ fn do_without<R: AllocGlobal + Threads + Wait + Sync, I: Source, O: Sink>(
 /// and else that of the fault whose line stands behind the report: 2 for words that are no command,
 /// for a number or lanes out of range, for keys that are none and for a script that breaks the
 /// grammar; 3 for what is no store; 4 for damage; 5 where the store failed or none was handed in; 6
-/// where more rows would be left than the stash may keep; 7 where the key file, the input or the
-/// output failed; 8 where a number is worn out; 9 for want of memory.
+/// where more rows would be left than the stash may keep; 7 where the key file, the input, the
+/// output or the trace failed; 8 where a number is worn out; 9 for want of memory.
 pub fn obladi<
     R: AllocGlobal + Threads + Wait + Sync,
     S: Lanes,
@@ -177,6 +291,7 @@ pub fn obladi<
     I: Source,
     O: Sink,
     B: Beat,
+    W: Sink,
 >(
     rt: &R,
     words: &[&str],
@@ -185,6 +300,7 @@ pub fn obladi<
     tape: &mut T,
     input: &mut I,
     output: &mut O,
+    trace: &mut Option<W>,
     beat: &mut B,
 ) -> u8
     requires none_out { NoneOut S.disk store }
@@ -192,35 +308,36 @@ pub fn obladi<
     // A store that was handed in can be handed in again.
     ensures goes { StoreGoesOn S.disk store.entry store.exit }
     // Words that are no command leave everything but the output untouched.
-    ensures usage { UsageDoes S.disk (beat_kind B.passes B.exact) (map (λ w. w.now) words.entry.now)
-        keys.entry
-        store.entry store.exit
-        (outside (inflow I.Source input.old) (outflow O.Sink output.old))
-        (outside (inflow I.Source input.new) (outflow O.Sink output.new)) result }
-    ensures audit { AuditDoes S.disk (beat_kind B.passes B.exact) (map (λ w. w.now) words.entry.now)
-        keys.entry
-        store.entry store.exit
-        (outside (inflow I.Source input.old) (outflow O.Sink output.old))
-        (outside (inflow I.Source input.new) (outflow O.Sink output.new)) result }
-    ensures drill { DrillDoes S.disk (beat_kind B.passes B.exact) (map (λ w. w.now) words.entry.now)
-        keys.entry
-        store.entry store.exit
-        (outside (inflow I.Source input.old) (outflow O.Sink output.old))
-        (outside (inflow I.Source input.new) (outflow O.Sink output.new)) result }
-    ensures format { FormatDoes S.disk (beat_kind B.passes B.exact)
+    ensures usage { UsageDoes S.disk (λ w. outflow W.Sink w) (beat_kind B.passes B.exact)
         (map (λ w. w.now) words.entry.now) keys.entry
-        store.entry store.exit
+        store.entry store.exit trace.old trace.new
         (outside (inflow I.Source input.old) (outflow O.Sink output.old))
         (outside (inflow I.Source input.new) (outflow O.Sink output.new)) result }
-    ensures run { RunDoes S.disk (beat_kind B.passes B.exact) (map (λ w. w.now) words.entry.now)
-        keys.entry store.entry
-        store.exit
+    ensures audit { AuditDoes S.disk (λ w. outflow W.Sink w) (beat_kind B.passes B.exact)
+        (map (λ w. w.now) words.entry.now) keys.entry
+        store.entry store.exit trace.old trace.new
+        (outside (inflow I.Source input.old) (outflow O.Sink output.old))
+        (outside (inflow I.Source input.new) (outflow O.Sink output.new)) result }
+    ensures drill { DrillDoes S.disk (λ w. outflow W.Sink w) (beat_kind B.passes B.exact)
+        (map (λ w. w.now) words.entry.now) keys.entry
+        store.entry store.exit trace.old trace.new
+        (outside (inflow I.Source input.old) (outflow O.Sink output.old))
+        (outside (inflow I.Source input.new) (outflow O.Sink output.new)) result }
+    ensures format { FormatDoes S.disk (λ w. outflow W.Sink w) (beat_kind B.passes B.exact)
+        (map (λ w. w.now) words.entry.now) keys.entry
+        store.entry store.exit trace.old trace.new
+        (outside (inflow I.Source input.old) (outflow O.Sink output.old))
+        (outside (inflow I.Source input.new) (outflow O.Sink output.new)) result }
+    ensures run { RunDoes S.disk (λ w. outflow W.Sink w) (beat_kind B.passes B.exact)
+        (map (λ w. w.now) words.entry.now) keys.entry store.entry
+        store.exit trace.old trace.new
         (outside (inflow I.Source input.old) (outflow O.Sink output.old))
         (outside (inflow I.Source input.new) (outflow O.Sink output.new)) result
         (T.drawn tape.new) }
     // What is asked for is done, where nothing stands against it but want of memory.
-    ensures complete { Completes S.disk (beat_kind B.passes B.exact) (T.drawn tape.new)
-        (map (λ w. w.now) words.entry.now) keys.entry
+    ensures complete { Completes S.disk (λ w. outflow W.Sink w) (beat_kind B.passes B.exact)
+        (T.drawn tape.new)
+        (map (λ w. w.now) words.entry.now) keys.entry trace.old trace.new
         (outside (inflow I.Source input.old) (outflow O.Sink output.old))
         (outside (inflow I.Source input.new) (outflow O.Sink output.new)) result store.entry
         store.exit }
@@ -232,7 +349,7 @@ pub fn obladi<
         (outside (inflow I.Source input.new) (outflow O.Sink output.new)) result }
 {
     match store {
-        Some(store) => do_with(rt, words, keys, store, tape, input, output, beat),
+        Some(store) => do_with(rt, words, keys, store, tape, input, output, trace, beat),
         None => do_without(rt, words, keys, input, output),
     }
 }

@@ -66,6 +66,7 @@ fn call_on<R: AllocGlobal + Threads + Wait + Sync + Abort, S: Lanes>(
     let mut input = MemSource::new(script.expect(rt, "memory"), Vec::new(rt.alloc()));
     let made = MemSink::new(rt.alloc(), room, Vec::new(rt.alloc()));
     let mut output = made.expect(rt, "memory");
+    let mut trace: Option<MemSink> = None;
     let status = obladi(
         rt,
         &words,
@@ -74,6 +75,7 @@ fn call_on<R: AllocGlobal + Threads + Wait + Sync + Abort, S: Lanes>(
         &mut tape,
         &mut input,
         &mut output,
+        &mut trace,
         &mut Eager,
     );
     (status, output)

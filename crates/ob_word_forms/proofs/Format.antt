@@ -1,16 +1,17 @@
 -- Each form of `format` passes, and is read as it says.
-use Rattle.std.proofs.Common.{◌≡◌, false, ℕ, List, [], ◌∷◌, refl, ap, ◌∙◌, codes}
+use Rattle.std.proofs.Common.{◌≡◌, ◌++◌, true, false, ℕ, List, [], ◌∷◌, Some, refl, ap, ◌∙◌, codes}
 use Rattle.std.specs.List.{fold}
-use Rattle.clap.specs.Walk.{Held, Row, Text, Walk, idle, nothing_held, rows_after, walk_from, with_default}
+use Rattle.clap.specs.Walk.{Held, Row, Text, Walk, first_of, idle, nothing_held, rows_after, walk_from, with_default}
 use Rattle.clap.specs.Kinds.{or_else}
 use Rattle.clap.specs.Faults.{check_fault, defaults_fault, level_fault}
 use Rattle.clap.proofs.OnLiterals.{clap_on_literals}
-use Rattle.ob_word_forms.specs.Forms.{ArePlain}
-use Rattle.ob_words.proofs.Built.{format_built, format_rules, operand_at}
+use Rattle.ob_word_forms.specs.Forms.{Choice, AreChoices, AreOfFormat, ArePlain, lanes, trace, trace_in, turns, words_of}
+use Rattle.ob_words.specs.Reading.{asked_command, format_asked}
+use Rattle.ob_words.proofs.Built.{built_option, format_built, format_rules, operand_at}
 use Rattle.ob_word_forms.proofs.Rows.{given_row}
 use Rattle.ob_word_forms.proofs.Levels.{level_is, rows_are}
 use Rattle.ob_word_forms.proofs.PlainWords.{at}
-use Rattle.ob_word_forms.proofs.Steps.{Goes, IsOperand, Ready, goes_none, operand_goes, operand_ready, pending_held}
+use Rattle.ob_word_forms.proofs.Steps.{Goes, IsOperand, Ready, format_trace, goes_none, operand_goes, operand_ready, option_goes, pending_held, pending_ready}
 
 abbrev operand_row : ℕ → Text → Text → Row
 operand_row i id word = given_row (operand_at i id) (word ∷ [])
@@ -138,35 +139,100 @@ operands_go store keys n l z s r br bw e t rest end plain goes =
     let g2 = operand_goes format_built (codes "KEYS") keys (pending_held rows_0 (codes "STORE") store) 2 3 (rows_1 store) (n ∷ l ∷ z ∷ s ∷ r ∷ br ∷ bw ∷ e ∷ t ∷ rest) end place_2 (ready_1 store) refl plain.1.0 g3 in
     operand_goes format_built (codes "STORE") store nothing_held 1 2 rows_0 (keys ∷ n ∷ l ∷ z ∷ s ∷ r ∷ br ∷ bw ∷ e ∷ t ∷ rest) end place_1 (ready_0) refl plain.0 g2
 
-abbrev pub format_words : Text → Text → Text → Text → Text → Text → Text → Text → Text → Text → Text → List Text
-format_words store keys n l z s r br bw e t = store ∷ keys ∷ n ∷ l ∷ z ∷ s ∷ r ∷ br ∷ bw ∷ e ∷ t ∷ []
+abbrev pub format_words : Text → Text → Text → Text → Text → Text → Text → Text → Text → Text → Text → List Choice → List Text
+format_words store keys n l z s r br bw e t cs = store ∷ keys ∷ n ∷ l ∷ z ∷ s ∷ r ∷ br ∷ bw ∷ e ∷ t ∷ words_of cs
 
-format_defaults : (store keys n l z s r br bw e t : Text) → defaults_fault (rows_11 store keys n l z s r br bw e t) format_rules ≡ []
-unfolding clap_on_literals
-format_defaults store keys n l z s r br bw e t = refl
+-- ---- the options: none, or one
 
-format_checked : (store keys n l z s r br bw e t : Text) → check_fault format_built (fold with_default (rows_11 store keys n l z s r br bw e t) format_rules) false ≡ []
-format_checked store keys n l z s r br bw e t = refl
+abbrev trace_row : Text → Row
+trace_row file = given_row (built_option (codes "trace")) (file ∷ [])
 
-format_finished : (store keys n l z s r br bw e t : Text) → fold with_default (rows_11 store keys n l z s r br bw e t) format_rules ≡ rows_11 store keys n l z s r br bw e t
-format_finished store keys n l z s r br bw e t = refl
+abbrev rows_of : List Choice → List Row
+rows_of [] = []
+rows_of (trace file ∷ cs) = trace_row file ∷ []
+rows_of (_ ∷ cs) = []
 
-abbrev last_held : Text → Text → Text → Text → Text → Text → Text → Text → Text → Text → Text → Held
-last_held store keys n l z s r br bw e t = pending_held (rows_10 store keys n l z s r br bw e) (codes "T") t
+module _ (store keys n l z s r br bw e t : Text) where
+  abbrev plain_words : List Text
+  plain_words = store ∷ keys ∷ n ∷ l ∷ z ∷ s ∷ r ∷ br ∷ bw ∷ e ∷ t ∷ []
 
-format_goes : (store keys n l z s r br bw e t : Text) → ArePlain (format_words store keys n l z s r br bw e t)
-    → Goes format_built (walk_from nothing_held) (format_words store keys n l z s r br bw e t) (at (last_held store keys n l z s r br bw e t) idle 12)
-format_goes store keys n l z s r br bw e t plain = operands_go store keys n l z s r br bw e t [] (at (last_held store keys n l z s r br bw e t) idle 12) plain (goes_none format_built (at (last_held store keys n l z s r br bw e t) idle 12))
+  abbrev ended : List Row
+  ended = rows_11 store keys n l z s r br bw e t
 
-pub format_passes : (store keys n l z s r br bw e t : Text) → ArePlain (format_words store keys n l z s r br bw e t)
-    → level_fault format_built [] nothing_held (format_words store keys n l z s r br bw e t) false [] ≡ []
-format_passes store keys n l z s r br bw e t plain =
-    level_is format_built (format_words store keys n l z s r br bw e t) (last_held store keys n l z s r br bw e t) (rows_11 store keys n l z s r br bw e t) 12 refl (format_goes store keys n l z s r br bw e t plain) (ready_11 store keys n l z s r br bw e t)
-    ∙ ap (λ k. or_else k (check_fault format_built (fold with_default (rows_11 store keys n l z s r br bw e t) format_rules) false)) (format_defaults store keys n l z s r br bw e t)
-    ∙ format_checked store keys n l z s r br bw e t
+  abbrev pub format_end : List Choice → List Row
+  format_end cs = ended ++ rows_of cs
 
-pub format_reads : (store keys n l z s r br bw e t : Text) → ArePlain (format_words store keys n l z s r br bw e t)
-    → rows_after format_rules [] (format_words store keys n l z s r br bw e t) ≡ rows_11 store keys n l z s r br bw e t
-format_reads store keys n l z s r br bw e t plain =
-    rows_are format_built (format_words store keys n l z s r br bw e t) (last_held store keys n l z s r br bw e t) (rows_11 store keys n l z s r br bw e t) 12 (format_goes store keys n l z s r br bw e t plain) (ready_11 store keys n l z s r br bw e t)
-    ∙ format_finished store keys n l z s r br bw e t
+  abbrev last_held : Held
+  last_held = pending_held (rows_10 store keys n l z s r br bw e) (codes "T") t
+
+  record Ends (cs : List Choice) : Type 0 where
+    held : Held
+    goes : Goes format_built (walk_from nothing_held) (format_words store keys n l z s r br bw e t cs) (at held idle 12)
+    ready : Ready format_built held (format_end cs)
+
+  choices_go : (cs : List Choice) → ArePlain plain_words → AreChoices cs → AreOfFormat cs → Ends cs
+  choices_go [] plain fine only = record {
+    held = last_held;
+    goes = operands_go store keys n l z s r br bw e t [] (at last_held idle 12) plain (goes_none format_built (at last_held idle 12));
+    ready = ready_11 store keys n l z s r br bw e t;
+  }
+  choices_go (trace file ∷ []) plain fine only =
+      let end = pending_held ended (codes "trace") file in
+      record {
+        held = end;
+        goes = operands_go store keys n l z s r br bw e t (codes "--trace" ∷ file ∷ []) (at end idle 12) plain
+            (option_goes format_built (codes "trace") (codes "--trace") file last_held 12 ended [] (at end idle 12) format_trace (ready_11 store keys n l z s r br bw e t) fine.0 (goes_none format_built (at end idle 12)));
+        ready = pending_ready format_built (codes "trace") (codes "--trace") file ended format_trace refl;
+      }
+  choices_go (trace file ∷ trace other ∷ cs) plain fine only = absurd (twice fine.1.0)
+    where
+      twice : true ≡ false → ⊥
+      twice is = cc is
+  choices_go (trace file ∷ lanes k ∷ cs) plain fine only = absurd only
+  choices_go (trace file ∷ turns ∷ cs) plain fine only = absurd only
+  choices_go (lanes k ∷ cs) plain fine only = absurd only
+  choices_go (turns ∷ cs) plain fine only = absurd only
+
+  format_defaults : (cs : List Choice) → defaults_fault (format_end cs) format_rules ≡ []
+  unfolding clap_on_literals
+  format_defaults [] = refl
+  format_defaults (trace file ∷ cs) = refl
+  format_defaults (lanes k ∷ cs) = refl
+  format_defaults (turns ∷ cs) = refl
+
+  format_checked : (cs : List Choice) → check_fault format_built (fold with_default (format_end cs) format_rules) false ≡ []
+  format_checked [] = refl
+  format_checked (trace file ∷ cs) = refl
+  format_checked (lanes k ∷ cs) = refl
+  format_checked (turns ∷ cs) = refl
+
+  format_finished : (cs : List Choice) → fold with_default (format_end cs) format_rules ≡ format_end cs
+  format_finished [] = refl
+  format_finished (trace file ∷ cs) = refl
+  format_finished (lanes k ∷ cs) = refl
+  format_finished (turns ∷ cs) = refl
+
+  pub format_trace_read : (cs : List Choice) → AreOfFormat cs → first_of (codes "trace") (format_end cs) ≡ trace_in cs
+  format_trace_read [] only = refl
+  format_trace_read (trace file ∷ cs) only = refl
+  format_trace_read (lanes k ∷ cs) only = absurd only
+  format_trace_read (turns ∷ cs) only = absurd only
+
+  -- the operands stand in front, whatever the options are
+  pub format_asks : (cs : List Choice) → asked_command (codes "format") (format_end cs)
+      ≡ Some (format_asked store keys (n ∷ l ∷ z ∷ s ∷ r ∷ br ∷ bw ∷ e ∷ t ∷ []) (first_of (codes "trace") (format_end cs)))
+  format_asks cs = refl
+
+  pub format_passes : (cs : List Choice) → ArePlain plain_words → AreChoices cs → AreOfFormat cs
+      → level_fault format_built [] nothing_held (format_words store keys n l z s r br bw e t cs) false [] ≡ []
+  format_passes cs plain fine only =
+      let ends = choices_go cs plain fine only in
+      level_is format_built (format_words store keys n l z s r br bw e t cs) ends.held (format_end cs) 12 refl ends.goes ends.ready
+      ∙ ap (λ k. or_else k (check_fault format_built (fold with_default (format_end cs) format_rules) false)) (format_defaults cs)
+      ∙ format_checked cs
+
+  pub format_reads : (cs : List Choice) → ArePlain plain_words → AreChoices cs → AreOfFormat cs
+      → rows_after format_rules [] (format_words store keys n l z s r br bw e t cs) ≡ format_end cs
+  format_reads cs plain fine only =
+      let ends = choices_go cs plain fine only in
+      rows_are format_built (format_words store keys n l z s r br bw e t cs) ends.held (format_end cs) 12 ends.goes ends.ready ∙ format_finished cs

@@ -9,14 +9,14 @@ use Rattle.clap.specs.Faults.{fault_of, level_fault, stray_fault, turn_fault, wa
 use Rattle.clap.specs.Simple.{Shape}
 use Rattle.clap.proofs.OnLiterals.{clap_on_literals}
 use Rattle.ob_words.specs.Commands.{program}
-use Rattle.ob_word_forms.specs.Forms.{Choice, AreChoices, ArePlain, IsPlain, IsNoName, lanes_in, turns_in}
+use Rattle.ob_word_forms.specs.Forms.{Choice, AreChoices, AreOfFormat, ArePlain, IsPlain, IsNoName, lanes_in, trace_in, turns_in}
 use Rattle.ob_words.specs.Reading.{Asked, asked_command, asked_by, text_at, run_asked, format_asked, audit_asked, drill_asked, unless_refused}
 use Rattle.ob_words.proofs.Built.{run_built, format_built, audit_built, drill_built}
 use Rattle.ob_word_forms.proofs.Few.{few_fail}
 use Rattle.ob_word_forms.proofs.PlainWords.{at, plain_turn-idle}
-use Rattle.ob_word_forms.proofs.Run.{choice_row, flag_text, run_end, run_keys, run_lanes_read, run_passes, run_reads, run_store, run_turns_text, run_words}
+use Rattle.ob_word_forms.proofs.Run.{choice_row, flag_text, run_end, run_keys, run_lanes_read, run_passes, run_reads, run_store, run_trace_read, run_turns_text, run_words}
 use Rattle.ob_word_forms.proofs.Drill.{count_walked, counted, drill_passes, drill_reads}
-use Rattle.ob_word_forms.proofs.Format.{format_passes, format_reads, format_words}
+use Rattle.ob_word_forms.proofs.Format.{format_asks, format_end, format_passes, format_reads, format_trace_read, format_words}
 use Rattle.ob_words.proofs.Asks.{asked_at_all}
 use Rattle.ob_words.proofs.Passed.{read_is, refused_is}
 use Rattle.ob_words.proofs.Top.{IsNoCommand, no_command_fails, no_words_fail, format_fault, format_subcommand, run_fault, run_subcommand, audit_fault, audit_subcommand, drill_fault, drill_subcommand}
@@ -29,7 +29,7 @@ is_true true = refl
 is_true false = refl
 
 pub run_law : (store keys : Text) (cs : List Choice) → IsPlain store → IsPlain keys → AreChoices cs
-    → asked_by (codes "run" ∷ run_words store keys cs) ≡ Some (run_asked store keys (lanes_in cs) (turns_in cs))
+    → asked_by (codes "run" ∷ run_words store keys cs) ≡ Some (run_asked store keys (lanes_in cs) (turns_in cs) (trace_in cs))
 run_law store keys cs ps pk fine =
     let rest = run_words store keys cs in
     let rows = run_end store keys (map choice_row cs) in
@@ -38,19 +38,23 @@ run_law store keys cs ps pk fine =
     let flag : bytes_eq (text_at (codes "turns") rows) (codes "true") ≡ turns_in cs =
     ap (λ o. bytes_eq (unwrap_or o []) (codes "true")) (run_turns_text store keys cs (turns_in cs) refl) ∙ is_true (turns_in cs) in
     let one = ap (λ o. run_asked (unwrap_or o []) (text_at (codes "KEYS") rows) (first_of (codes "lanes") rows)
-    (bytes_eq (text_at (codes "turns") rows) (codes "true"))) (run_store store keys (map choice_row cs) _ refl) in
+    (bytes_eq (text_at (codes "turns") rows) (codes "true")) (first_of (codes "trace") rows)) (run_store store keys (map choice_row cs) _ refl) in
     let two = ap (λ o. run_asked store (unwrap_or o []) (first_of (codes "lanes") rows)
-    (bytes_eq (text_at (codes "turns") rows) (codes "true"))) (run_keys store keys (map choice_row cs) _ refl) in
-    let three = ap₂ (λ (o : Option Text) (b : Bool). run_asked store keys o b) (run_lanes_read store keys cs _ refl) flag in
-    read_is (codes "run" ∷ rest) _ none (read ∙ ap (λ (a : Asked). Some a) (one ∙ two ∙ three))
+    (bytes_eq (text_at (codes "turns") rows) (codes "true")) (first_of (codes "trace") rows)) (run_keys store keys (map choice_row cs) _ refl) in
+    let three = ap₂ (λ (o : Option Text) (b : Bool). run_asked store keys o b (first_of (codes "trace") rows)) (run_lanes_read store keys cs _ refl) flag in
+    let four = ap (λ (o : Option Text). run_asked store keys (lanes_in cs) (turns_in cs) o) (run_trace_read store keys cs _ refl) in
+    read_is (codes "run" ∷ rest) _ none (read ∙ ap (λ (a : Asked). Some a) (one ∙ two ∙ three ∙ four))
 
-pub format_law : (store keys n l z s r br bw e t : Text) → ArePlain (format_words store keys n l z s r br bw e t)
-    → asked_by (codes "format" ∷ format_words store keys n l z s r br bw e t) ≡ Some (format_asked store keys (n ∷ l ∷ z ∷ s ∷ r ∷ br ∷ bw ∷ e ∷ t ∷ []))
-format_law store keys n l z s r br bw e t plain =
-    let rest = format_words store keys n l z s r br bw e t in
+pub format_law : (store keys n l z s r br bw e t : Text) (cs : List Choice) → ArePlain (store ∷ keys ∷ n ∷ l ∷ z ∷ s ∷ r ∷ br ∷ bw ∷ e ∷ t ∷ []) → AreChoices cs → AreOfFormat cs
+    → asked_by (codes "format" ∷ format_words store keys n l z s r br bw e t cs) ≡ Some (format_asked store keys (n ∷ l ∷ z ∷ s ∷ r ∷ br ∷ bw ∷ e ∷ t ∷ []) (trace_in cs))
+format_law store keys n l z s r br bw e t cs plain fine only =
+    let rest = format_words store keys n l z s r br bw e t cs in
+    let rows = format_end store keys n l z s r br bw e t cs in
     read_is (codes "format" ∷ rest) _
-    (format_fault rest ∙ ap (λ k. or_else k []) (format_passes store keys n l z s r br bw e t plain))
-    (ap reads_by (format_subcommand rest) ∙ ap (λ x. asked_command (codes "format") x) (format_reads store keys n l z s r br bw e t plain))
+    (format_fault rest ∙ ap (λ k. or_else k []) (format_passes store keys n l z s r br bw e t cs plain fine only))
+    (ap reads_by (format_subcommand rest) ∙ ap (λ x. asked_command (codes "format") x) (format_reads store keys n l z s r br bw e t cs plain fine only)
+    ∙ format_asks store keys n l z s r br bw e t cs
+    ∙ ap (λ (o : Option Text). Some (format_asked store keys (n ∷ l ∷ z ∷ s ∷ r ∷ br ∷ bw ∷ e ∷ t ∷ []) o)) (format_trace_read store keys n l z s r br bw e t cs only))
 
 -- nothing is wanted behind `audit`
 audit_passes : level_fault audit_built [] nothing_held [] false [] ≡ []
@@ -72,12 +76,12 @@ empty_left [] b e = refl
 empty_left (k ∷ ks) b e = cc
 
 run_fails : (rest : List Text) → length rest < 2 → fault_of program (codes "run" ∷ rest) ≡ [] → ⊥
-run_fails rest few e = few_fail run_built (codes "KEYS") 2 rest (inl refl, (inr (refl, refl), (inl refl, (inl refl, tt)))) (λ x. refl)
+run_fails rest few e = few_fail run_built (codes "KEYS") 2 rest (inl refl, (inr (refl, refl), (inl refl, (inl refl, (inl refl, tt))))) (λ x. refl)
     (inr (inl (refl, refl))) refl few (empty_left _ [] (sym (run_fault rest) ∙ e))
 
 format_fails : (rest : List Text) → length rest < 11 → fault_of program (codes "format" ∷ rest) ≡ [] → ⊥
 format_fails rest few e = few_fail format_built (codes "T") 11 rest
-    (inl refl, (inl refl, (inl refl, (inl refl, (inl refl, (inl refl, (inl refl, (inl refl, (inl refl, (inl refl, (inr (refl, refl), tt))))))))))) (λ x. refl)
+    (inl refl, (inl refl, (inl refl, (inl refl, (inl refl, (inl refl, (inl refl, (inl refl, (inl refl, (inl refl, (inr (refl, refl), (inl refl, tt)))))))))))) (λ x. refl)
     (inr (inr (inr (inr (inr (inr (inr (inr (inr (inr (inl (refl, refl)))))))))))) refl few (empty_left _ [] (sym (format_fault rest) ∙ e))
 
 other_name : (name word : Text) → word ≢ name → bytes_eq name word ≡ false

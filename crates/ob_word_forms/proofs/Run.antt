@@ -7,12 +7,12 @@ use Rattle.clap.specs.Kinds.{or_else}
 use Rattle.clap.specs.Faults.{check_fault, default_fault, defaults_fault, level_fault, values_fault, settle_fault, turn_fault, use_fault}
 use Rattle.clap.specs.declared.parser.matches.ValueSource.TheVariants.{DefaultValue}
 use Rattle.clap.proofs.OnLiterals.{clap_on_literals}
-use Rattle.ob_word_forms.specs.Forms.{Choice, AreChoices, IsPlain, IsWithout, id_of, lanes, lanes_in, turns, turns_in, words_of}
+use Rattle.ob_word_forms.specs.Forms.{Choice, AreChoices, IsPlain, IsWithout, id_of, lanes, lanes_in, trace, trace_in, turns, turns_in, words_of}
 use Rattle.ob_words.proofs.Built.{built_flag, built_option, operand_at, run_built, run_rules}
 use Rattle.ob_word_forms.proofs.Rows.{at_row-absent, given_row, has_row-more, with_default-none}
 use Rattle.ob_word_forms.proofs.Levels.{defaults_done, defaults_next, defaults_skip, level_is, rows_are}
 use Rattle.ob_word_forms.proofs.PlainWords.{at, plain_turn-idle, plain_walked-idle}
-use Rattle.ob_word_forms.proofs.Steps.{Goes, Ready, goes_more, goes_none, option_goes, pending_held, pending_ready, plain_held, run_lanes}
+use Rattle.ob_word_forms.proofs.Steps.{Goes, Ready, goes_more, goes_none, option_goes, pending_held, pending_ready, plain_held, run_lanes, run_trace}
 
 -- ---- the flag
 
@@ -70,6 +70,7 @@ operands_ready store keys = record { settles = refl; passes = refl }
 
 abbrev pub choice_row : Choice → Row
 choice_row (lanes k) = given_row (built_option (codes "lanes")) (k ∷ [])
+choice_row (trace file) = given_row (built_option (codes "trace")) (file ∷ [])
 choice_row turns = given_row (built_flag (codes "turns")) (codes "true" ∷ [])
 
 -- none of these options has a row yet
@@ -101,6 +102,15 @@ choices_go (lanes k ∷ cs) h rows fine new ready =
     record {
       held = rest.held;
       goes = option_goes run_built (codes "lanes") (codes "--lanes") k h 3 rows (words_of cs) _ run_lanes ready fine.0 rest.goes;
+      ready = rw (append_assoc rows (row ∷ []) (map choice_row cs)) at rest.ready;
+    }
+choices_go (trace file ∷ cs) h rows fine new ready =
+    let row = choice_row (trace file) in
+    let rest = choices_go cs (pending_held rows (codes "trace") file) (rows ++ row ∷ []) fine.2 (new_more cs rows row new.1 fine.1)
+    (pending_ready run_built (codes "trace") (codes "--trace") file rows run_trace new.0) in
+    record {
+      held = rest.held;
+      goes = option_goes run_built (codes "trace") (codes "--trace") file h 3 rows (words_of cs) _ run_trace ready fine.0 rest.goes;
       ready = rw (append_assoc rows (row ∷ []) (map choice_row cs)) at rest.ready;
     }
 choices_go (turns ∷ cs) h rows fine new ready =
@@ -143,6 +153,7 @@ run_defaults store keys xs =
     defaults_skip rows (operand_at 1 (codes "STORE")) _ refl
     ∙ defaults_skip rows (operand_at 2 (codes "KEYS")) _ refl
     ∙ defaults_skip rows (built_option (codes "lanes")) _ refl
+    ∙ defaults_skip rows (built_option (codes "trace")) _ refl
     ∙ defaults_next rows flag _ (turns_default rows)
     ∙ defaults_done (with_default rows flag)
 
@@ -154,7 +165,8 @@ run_finished store keys xs =
     let flag : Rule = built_flag (codes "turns") in
     rw (with_default-none rows (operand_at 1 (codes "STORE")) refl) (
     rw (with_default-none rows (operand_at 2 (codes "KEYS")) refl) (
-    rw (with_default-none rows (built_option (codes "lanes")) refl) refl))
+    rw (with_default-none rows (built_option (codes "lanes")) refl) (
+    rw (with_default-none rows (built_option (codes "trace")) refl) refl)))
 
 abbrev pub run_end : Text → Text → List Row → List Row
 run_end store keys xs = with_default (run_rows store keys xs) (built_flag (codes "turns"))
@@ -166,6 +178,7 @@ run_checked store keys xs false e = rw e refl
 no_rows : (store keys : Text) (cs : List Choice) → IsNew cs (run_operands store keys)
 no_rows store keys [] = tt
 no_rows store keys (lanes k ∷ cs) = (refl, no_rows store keys cs)
+no_rows store keys (trace file ∷ cs) = (refl, no_rows store keys cs)
 no_rows store keys (turns ∷ cs) = (refl, no_rows store keys cs)
 
 abbrev pub run_words : Text → Text → List Choice → List Text
@@ -210,7 +223,14 @@ defaulted rows absent = rw absent (at_row-absent (codes "turns") (more_values De
 first_lanes : (cs : List Choice) (ys : List Row) → first_of (codes "lanes") ys ≡ None → first_of (codes "lanes") (map choice_row cs ++ ys) ≡ lanes_in cs
 first_lanes [] ys none = none
 first_lanes (lanes k ∷ cs) ys none = refl
+first_lanes (trace file ∷ cs) ys none = first_lanes cs ys none
 first_lanes (turns ∷ cs) ys none = first_lanes cs ys none
+
+first_trace : (cs : List Choice) (ys : List Row) → first_of (codes "trace") ys ≡ None → first_of (codes "trace") (map choice_row cs ++ ys) ≡ trace_in cs
+first_trace [] ys none = none
+first_trace (trace file ∷ cs) ys none = refl
+first_trace (lanes k ∷ cs) ys none = first_trace cs ys none
+first_trace (turns ∷ cs) ys none = first_trace cs ys none
 
 pub run_lanes_read : (store keys : Text) (cs : List Choice) (t : Bool) → has_row (codes "turns") (map choice_row cs) ≡ t
     → first_of (codes "lanes") (run_end store keys (map choice_row cs)) ≡ lanes_in cs
@@ -218,6 +238,13 @@ run_lanes_read store keys cs true e = rw e (rw (append-nil (map choice_row cs)) 
 run_lanes_read store keys cs false e =
     let whole = defaulted (run_rows store keys (map choice_row cs)) e in
     ap (λ rows. first_of (codes "lanes") rows) whole ∙ first_lanes cs (default_row ∷ []) refl
+
+pub run_trace_read : (store keys : Text) (cs : List Choice) (t : Bool) → has_row (codes "turns") (map choice_row cs) ≡ t
+    → first_of (codes "trace") (run_end store keys (map choice_row cs)) ≡ trace_in cs
+run_trace_read store keys cs true e = rw e (rw (append-nil (map choice_row cs)) at (first_trace cs [] refl))
+run_trace_read store keys cs false e =
+    let whole = defaulted (run_rows store keys (map choice_row cs)) e in
+    ap (λ rows. first_of (codes "trace") rows) whole ∙ first_trace cs (default_row ∷ []) refl
 
 abbrev pub flag_text : Bool → Text
 flag_text true = codes "true"
@@ -227,16 +254,19 @@ turns_here : (cs : List Choice) → has_row (codes "turns") (map choice_row cs) 
 turns_here [] = refl
 turns_here (turns ∷ cs) = refl
 turns_here (lanes k ∷ cs) = turns_here cs
+turns_here (trace file ∷ cs) = turns_here cs
 
 turns_text_given : (cs : List Choice) → turns_in cs ≡ true → first_of (codes "turns") (map choice_row cs) ≡ Some (codes "true")
 turns_text_given [] e = cc
 turns_text_given (turns ∷ cs) e = refl
 turns_text_given (lanes k ∷ cs) e = turns_text_given cs e
+turns_text_given (trace file ∷ cs) e = turns_text_given cs e
 
 turns_text_absent : (cs : List Choice) → turns_in cs ≡ false → first_of (codes "turns") (map choice_row cs ++ default_row ∷ []) ≡ Some (codes "false")
 turns_text_absent [] e = refl
 turns_text_absent (turns ∷ cs) e = cc
 turns_text_absent (lanes k ∷ cs) e = turns_text_absent cs e
+turns_text_absent (trace file ∷ cs) e = turns_text_absent cs e
 
 pub run_turns_text : (store keys : Text) (cs : List Choice) (t : Bool) → turns_in cs ≡ t
     → first_of (codes "turns") (run_end store keys (map choice_row cs)) ≡ Some (flag_text t)

@@ -11,7 +11,7 @@ use Rattle.clap.specs.Kinds.{or_else}
 use Rattle.clap.specs.Faults.{positional_fault, settle_fault, stray_fault, turn_fault, use_fault, walk_fault}
 use Rattle.clap.proofs.OnLiterals.{clap_on_literals}
 use Rattle.ob_word_forms.specs.Forms.{IsPlain}
-use Rattle.ob_words.proofs.Built.{built_option, operand_at, run_built}
+use Rattle.ob_words.proofs.Built.{built_option, format_built, operand_at, run_built}
 use Rattle.ob_word_forms.proofs.Rows.{at_row-absent, given_row}
 use Rattle.ob_word_forms.proofs.PlainWords.{at, plain_turn-idle, plain_turn-option, plain_walked-idle, plain_walked-option}
 
@@ -56,6 +56,14 @@ pub record IsValueOption (s : Shape) (id word : Text) : Type 0 where
 pub run_lanes : IsValueOption run_built (codes "lanes") (codes "--lanes")
 unfolding clap_on_literals
 run_lanes = record { found = refl; same = refl; walk = λ h i. refl; turn = λ h i. refl }
+
+pub run_trace : IsValueOption run_built (codes "trace") (codes "--trace")
+unfolding clap_on_literals
+run_trace = record { found = refl; same = refl; walk = λ h i. refl; turn = λ h i. refl }
+
+pub format_trace : IsValueOption format_built (codes "trace") (codes "--trace")
+unfolding clap_on_literals
+format_trace = record { found = refl; same = refl; walk = λ h i. refl; turn = λ h i. refl }
 
 -- a use of an option by one value, where it has no row yet
 used_once : (id word : Text) (rows : List Row) → has_row id rows ≡ false

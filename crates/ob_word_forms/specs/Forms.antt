@@ -11,23 +11,27 @@ abbrev pub ArePlain : List Text → Type 0
 ArePlain [] = Unit {0}
 ArePlain (word ∷ words) = IsPlain word × ArePlain words
 
--- an option of `run`, with its value
+-- an option, with its value
 pub data Choice : Type 0 where
   lanes : Text → Choice
+  trace : Text → Choice
   turns : Choice
 
 abbrev pub id_of : Choice → Text
 id_of (lanes k) = codes "lanes"
+id_of (trace file) = codes "trace"
 id_of turns = codes "turns"
 
 -- the words of options
 abbrev pub words_of : List Choice → List Text
 words_of [] = []
 words_of (lanes k ∷ choices) = codes "--lanes" ∷ k ∷ words_of choices
+words_of (trace file ∷ choices) = codes "--trace" ∷ file ∷ words_of choices
 words_of (turns ∷ choices) = codes "--turns" ∷ words_of choices
 
 abbrev pub HasPlainValue : Choice → Type 0
 HasPlainValue (lanes k) = IsPlain k
+HasPlainValue (trace file) = IsPlain file
 HasPlainValue turns = Unit {0}
 
 -- none of the options has this id
@@ -40,16 +44,31 @@ abbrev pub AreChoices : List Choice → Type 0
 AreChoices [] = Unit {0}
 AreChoices (choice ∷ choices) = HasPlainValue choice × IsWithout (id_of choice) choices × AreChoices choices
 
+-- `format` has no other option than `--trace`
+abbrev pub AreOfFormat : List Choice → Type 0
+AreOfFormat [] = Unit {0}
+AreOfFormat (trace file ∷ choices) = AreOfFormat choices
+AreOfFormat (lanes k ∷ choices) = ⊥
+AreOfFormat (turns ∷ choices) = ⊥
+
 -- what the options say
 abbrev pub lanes_in : List Choice → Option Text
 lanes_in [] = None
 lanes_in (lanes k ∷ choices) = Some k
+lanes_in (trace file ∷ choices) = lanes_in choices
 lanes_in (turns ∷ choices) = lanes_in choices
+
+abbrev pub trace_in : List Choice → Option Text
+trace_in [] = None
+trace_in (trace file ∷ choices) = Some file
+trace_in (lanes k ∷ choices) = trace_in choices
+trace_in (turns ∷ choices) = trace_in choices
 
 abbrev pub turns_in : List Choice → Bool
 turns_in [] = false
 turns_in (turns ∷ choices) = true
 turns_in (lanes k ∷ choices) = turns_in choices
+turns_in (trace file ∷ choices) = turns_in choices
 
 -- the word is no command's name
 abbrev pub IsNoName : Text → Type 0

@@ -36,13 +36,13 @@ built_sub s rules = record s {
 
 abbrev pub run_rules : List Rule
 run_rules = operand_at 1 (codes "STORE") ∷ operand_at 2 (codes "KEYS") ∷ built_option (codes "lanes")
-    ∷ built_flag (codes "turns") ∷ []
+    ∷ built_option (codes "trace") ∷ built_flag (codes "turns") ∷ []
 
 abbrev pub format_rules : List Rule
 format_rules = operand_at 1 (codes "STORE") ∷ operand_at 2 (codes "KEYS") ∷ operand_at 3 (codes "N")
     ∷ operand_at 4 (codes "L") ∷ operand_at 5 (codes "Z") ∷ operand_at 6 (codes "S") ∷ operand_at 7 (codes "R")
     ∷ operand_at 8 (codes "BR") ∷ operand_at 9 (codes "BW") ∷ operand_at 10 (codes "E") ∷ operand_at 11 (codes "T")
-    ∷ []
+    ∷ built_option (codes "trace") ∷ []
 
 abbrev pub run_built : Shape
 run_built = built_sub run_shape run_rules

@@ -26,18 +26,19 @@ rule_for (Flag id) = flag id.now
 abbrev pub shape_for : Text → List Word → Shape
 shape_for name words = record (new_shape name) { rules = map rule_for words }
 
--- `format STORE KEYS N L Z S R BR BW E T`
+-- `format STORE KEYS N L Z S R BR BW E T [--trace FILE]`
 abbrev pub format_shape : Shape
 format_shape = record (new_shape (codes "format")) {
   rules = operand (codes "STORE") ∷ operand (codes "KEYS") ∷ operand (codes "N") ∷ operand (codes "L")
       ∷ operand (codes "Z") ∷ operand (codes "S") ∷ operand (codes "R") ∷ operand (codes "BR")
-      ∷ operand (codes "BW") ∷ operand (codes "E") ∷ operand (codes "T") ∷ [];
+      ∷ operand (codes "BW") ∷ operand (codes "E") ∷ operand (codes "T") ∷ option (codes "trace") ∷ [];
 }
 
--- `run STORE KEYS [--lanes K] [--turns]`
+-- `run STORE KEYS [--lanes K] [--trace FILE] [--turns]`
 abbrev pub run_shape : Shape
 run_shape = record (new_shape (codes "run")) {
-  rules = operand (codes "STORE") ∷ operand (codes "KEYS") ∷ option (codes "lanes") ∷ flag (codes "turns") ∷ [];
+  rules = operand (codes "STORE") ∷ operand (codes "KEYS") ∷ option (codes "lanes") ∷ option (codes "trace")
+      ∷ flag (codes "turns") ∷ [];
 }
 
 -- `audit`

@@ -13,19 +13,19 @@ use Rattle.ob_words.specs.declared.request.Request.TheVariants.{Format, Run, Aud
 use Rattle.ob_words.specs.declared.request.WordsErr.{WordsErr}
 use Rattle.ob_words.specs.declared.request.WordsErr.TheVariants.{Memory, Usage}
 
--- the store's path, the keys' path, and the nine numbers; or the lanes, where they are given, and whether `--turns` is; or an audit; or a
--- self-test, with its count
+-- the store's path, the keys' path, and the nine numbers; or the lanes, where they are given, and whether `--turns` is; and the trace's path,
+-- where it is given; or an audit; or a self-test, with its count
 pub data Asked : Type 0 where
-  format_asked : Text → Text → List Text → Asked
-  run_asked : Text → Text → Option Text → Bool → Asked
+  format_asked : Text → Text → List Text → Option Text → Asked
+  run_asked : Text → Text → Option Text → Bool → Option Text → Asked
   audit_asked : Asked
   drill_asked : Text → Asked
 
 -- the texts of a request
 abbrev pub asked_of : Request → Asked
-asked_of (Format store keys n l z s r br bw e t) =
-    format_asked store.now keys.now (n.now ∷ l.now ∷ z.now ∷ s.now ∷ r.now ∷ br.now ∷ bw.now ∷ e.now ∷ t.now ∷ [])
-asked_of (Run store keys lanes turns) = run_asked store.now keys.now (option_map (λ s. s.now) lanes) turns
+asked_of (Format store keys n l z s r br bw e t trace) =
+    format_asked store.now keys.now (n.now ∷ l.now ∷ z.now ∷ s.now ∷ r.now ∷ br.now ∷ bw.now ∷ e.now ∷ t.now ∷ []) (option_map (λ s. s.now) trace)
+asked_of (Run store keys lanes turns trace) = run_asked store.now keys.now (option_map (λ s. s.now) lanes) turns (option_map (λ s. s.now) trace)
 asked_of Audit = audit_asked
 asked_of (Drill count) = drill_asked count.now
 
@@ -39,9 +39,9 @@ asked_command name rows =
     if bytes_eq name (codes "format") then Some (format_asked (text_at (codes "STORE") rows) (text_at (codes "KEYS") rows)
     (text_at (codes "N") rows ∷ text_at (codes "L") rows ∷ text_at (codes "Z") rows ∷ text_at (codes "S") rows
     ∷ text_at (codes "R") rows ∷ text_at (codes "BR") rows ∷ text_at (codes "BW") rows ∷ text_at (codes "E") rows
-    ∷ text_at (codes "T") rows ∷ []))
+    ∷ text_at (codes "T") rows ∷ []) (first_of (codes "trace") rows))
     else if bytes_eq name (codes "run") then Some (run_asked (text_at (codes "STORE") rows) (text_at (codes "KEYS") rows)
-    (first_of (codes "lanes") rows) (bytes_eq (text_at (codes "turns") rows) (codes "true")))
+    (first_of (codes "lanes") rows) (bytes_eq (text_at (codes "turns") rows) (codes "true")) (first_of (codes "trace") rows))
     else if bytes_eq name (codes "audit") then Some audit_asked
     else if bytes_eq name (codes "drill") then Some (drill_asked (text_at (codes "COUNT") rows))
     else None

@@ -1,5 +1,5 @@
 -- What a request of the words comes to: the numbers that it names, and the files; and what the keys' text comes to.
-use Rattle.std.specs.Prelude.{ℕ, ◌≡◌, ◌≢◌, ◌⊎◌, ◌<◌, ◌≤◌, ◌^◌, Bool, true, false, List, [], ◌∷◌, ◌++◌, length, replicate, Option, Some, None, Ok}
+use Rattle.std.specs.Prelude.{ℕ, ◌≡◌, ◌≢◌, ◌⊎◌, ◌<◌, ◌≤◌, ◌^◌, Bool, true, false, List, [], ◌∷◌, ◌++◌, length, replicate, Option, Some, None, is_some, Ok}
 use Rattle.std.specs.Fmt.{decimal}
 use Rattle.ob_base.specs.declared.params.Params.{Params}
 use Rattle.ob_base.specs.declared.fault.Field.{Field}
@@ -63,8 +63,8 @@ IsBadCount word = (n : ℕ) → n ≤ 10000 → word ≢ decimal n
 
 -- the command over a store of a request, whose numbers are in range
 abbrev pub IsCommandOf : Asked → Command → Type 0
-IsCommandOf (format_asked store keys numbers) (Format p) = AreParams numbers p
-IsCommandOf (run_asked store keys lanes turns) (Run k by_hand) = AreLanes lanes k × (by_hand ≡ turns)
+IsCommandOf (format_asked store keys numbers trace) (Format p traced) = AreParams numbers p × (traced ≡ is_some trace)
+IsCommandOf (run_asked store keys lanes turns trace) (Run k by_hand traced) = AreLanes lanes k × (by_hand ≡ turns) × (traced ≡ is_some trace)
 IsCommandOf _ _ = ⊥
 
 -- what a request asks for
@@ -75,8 +75,8 @@ IsWorkOf asked (OnStore command) = IsCommandOf asked command
 
 -- the first number of a request that is out of its range
 abbrev pub IsOutOfRange : Asked → Field → Type 0
-IsOutOfRange (format_asked store keys numbers) field = IsBadNumber numbers field
-IsOutOfRange (run_asked store keys lanes turns) field = (field ≡ LANES) × AreBadLanes lanes
+IsOutOfRange (format_asked store keys numbers trace) field = IsBadNumber numbers field
+IsOutOfRange (run_asked store keys lanes turns trace) field = (field ≡ LANES) × AreBadLanes lanes
 IsOutOfRange audit_asked field = ⊥
 IsOutOfRange (drill_asked count) field = (field ≡ COUNT) × IsBadCount count
 
@@ -98,28 +98,35 @@ IsRefusedFor words _ = ⊥
 
 -- a request's store: its path, and whether it may be made
 abbrev pub store_file : Asked → Option (List ℕ × Bool)
-store_file (format_asked store keys numbers) = Some (store, true)
-store_file (run_asked store keys lanes turns) = Some (store, false)
+store_file (format_asked store keys numbers trace) = Some (store, true)
+store_file (run_asked store keys lanes turns trace) = Some (store, false)
 store_file audit_asked = None
 store_file (drill_asked count) = None
 
 -- the path of its keys
 abbrev pub keys_file : Asked → Option (List ℕ)
-keys_file (format_asked store keys numbers) = Some keys
-keys_file (run_asked store keys lanes turns) = Some keys
+keys_file (format_asked store keys numbers trace) = Some keys
+keys_file (run_asked store keys lanes turns trace) = Some keys
 keys_file audit_asked = None
 keys_file (drill_asked count) = None
 
+-- the path of its trace, where it is given
+abbrev pub trace_file : Asked → Option (List ℕ)
+trace_file (format_asked store keys numbers trace) = trace
+trace_file (run_asked store keys lanes turns trace) = trace
+trace_file audit_asked = None
+trace_file (drill_asked count) = None
+
 -- The files that a request calls for: none, where a number is out of its range, for an audit, or for a self-test.
-abbrev pub AreFilesOf : Asked → Option (List ℕ × Bool) → Option (List ℕ) → Type 0
-AreFilesOf asked store keys =
-    ((field : Field) × IsOutOfRange asked field × (store ≡ None) × (keys ≡ None))
-    ⊎ ((work : Work) × IsWorkOf asked work × (store ≡ store_file asked) × (keys ≡ keys_file asked))
+abbrev pub AreFilesOf : Asked → Option (List ℕ × Bool) → Option (List ℕ) → Option (List ℕ) → Type 0
+AreFilesOf asked store keys trace =
+    ((field : Field) × IsOutOfRange asked field × (store ≡ None) × (keys ≡ None) × (trace ≡ None))
+    ⊎ ((work : Work) × IsWorkOf asked work × (store ≡ store_file asked) × (keys ≡ keys_file asked) × (trace ≡ trace_file asked))
 
 -- The files that the words call for: none, where they are no command with its operands and options.
-abbrev pub AreWanted : List (List ℕ) → Option (List ℕ × Bool) → Option (List ℕ) → Type 0
-AreWanted words store keys =
-    ((asked_by words ≡ None) × (store ≡ None) × (keys ≡ None)) ⊎ ((asked : Asked) × (asked_by words ≡ Some asked) × AreFilesOf asked store keys)
+abbrev pub AreWanted : List (List ℕ) → Option (List ℕ × Bool) → Option (List ℕ) → Option (List ℕ) → Type 0
+AreWanted words store keys trace =
+    ((asked_by words ≡ None) × (store ≡ None) × (keys ≡ None) × (trace ≡ None)) ⊎ ((asked : Asked) × (asked_by words ≡ Some asked) × AreFilesOf asked store keys trace)
 
 -- The digits of a text are those of three keys of 32 bytes each.
 pub record AreKeys (text : List ℕ) (keys : Keys) : Type 0 where

@@ -19,7 +19,7 @@ enum Word {
 }
 
 // The words of `format`.
-const FORMAT: [Word; 11] = [
+const FORMAT: [Word; 12] = [
     Word::Operand("STORE"),
     Word::Operand("KEYS"),
     Word::Operand("N"),
@@ -31,13 +31,15 @@ const FORMAT: [Word; 11] = [
     Word::Operand("BW"),
     Word::Operand("E"),
     Word::Operand("T"),
+    Word::Valued("trace"),
 ];
 
 // The words of `run`.
-const RUN: [Word; 4] = [
+const RUN: [Word; 5] = [
     Word::Operand("STORE"),
     Word::Operand("KEYS"),
     Word::Valued("lanes"),
+    Word::Valued("trace"),
     Word::Flag("turns"),
 ];
 

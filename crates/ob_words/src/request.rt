@@ -14,7 +14,8 @@ use std::alloc::Global;
 /// What the words ask for: each operand as it stands, and each option's value where it was given.
 #[derive(Clone, Copy)]
 pub enum Request<'a> {
-    /// An empty store in the file `store`, under the keys in the file `keys`, of nine numbers.
+    /// An empty store in the file `store`, under the keys in the file `keys`, of nine numbers; and
+    /// the file of its trace.
     Format {
         store: &'a str,
         keys: &'a str,
@@ -27,14 +28,16 @@ pub enum Request<'a> {
         bw: &'a str,
         e: &'a str,
         t: &'a str,
+        trace: Option<&'a str>,
     },
     /// A run of the script that comes in over the store in the file `store`, under the keys in the
-    /// file `keys`; by so many lanes, and in turns.
+    /// file `keys`; by so many lanes, and in turns; and the file of its trace.
     Run {
         store: &'a str,
         keys: &'a str,
         lanes: Option<&'a str>,
         turns: bool,
+        trace: Option<&'a str>,
     },
     /// An audit of the trace that comes in.
     Audit,
@@ -94,6 +97,7 @@ fn format_request<'a>(found: &ArgMatches<'a>) -> Request<'a>
         bw: text_of(found, "BW"),
         e: text_of(found, "E"),
         t: text_of(found, "T"),
+        trace: value_of(found, "trace"),
     }
 }
 
@@ -105,6 +109,7 @@ fn run_request<'a>(found: &ArgMatches<'a>) -> Request<'a>
         keys: text_of(found, "KEYS"),
         lanes: value_of(found, "lanes"),
         turns: text_of(found, "turns") == "true",
+        trace: value_of(found, "trace"),
     }
 }
 

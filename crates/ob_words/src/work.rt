@@ -1,6 +1,6 @@
 //! What a request of the words comes to: the command with its numbers, its keys and its files.
 
-ghost use Rattle.std.specs.Prelude.{◌≡◌, ◌∷◌, [], map, option_map, MatchResult, IfOk, IfErr};
+ghost use Rattle.std.specs.Prelude.{◌≡◌, ◌∷◌, [], map, option_map, is_some, MatchResult, IfOk, IfErr};
 ghost use Rattle.ob_words.specs.Reading.{asked_of};
 ghost use Rattle.ob_words.specs.Work.{Denotes, AreParams, IsBadNumber, AreLanes, AreBadLanes, IsCount, IsBadCount, IsWorkOf, IsOutOfRange, AskFor, IsRefusedFor, AreFilesOf, AreWanted, HasKeys, IsKeysRefused, IsTapeKey};
 
@@ -24,11 +24,18 @@ pub enum Work {
 /// What the words ask for over a store.
 #[derive(Clone, Copy)]
 pub enum Command {
-    /// An empty store is made, of these parameters.
-    Format { params: Params },
+    /// An empty store is made, of these parameters; and a trace of it where `traced`.
+    Format {
+        params: Params,
+        traced: bool,
+    },
     /// The script that comes in is run. The vault's batches may have so many lanes, from 1 to 16;
-    /// and with `turns` all clients' calls are made by hand.
-    Run { lanes: u32, turns: bool },
+    /// with `turns` all clients' calls are made by hand; and there is a trace of it where `traced`.
+    Run {
+        lanes: u32,
+        turns: bool,
+        traced: bool,
+    },
 }
 
 /// The files that the words call for.
@@ -38,6 +45,8 @@ pub struct Paths<'a> {
     pub store: Option<(&'a str, bool)>,
     /// The key file's path.
     pub keys: Option<&'a str>,
+    /// The trace's path.
+    pub trace: Option<&'a str>,
 }
 
 // How many lanes a run has where no word says it.
@@ -115,6 +124,16 @@ fn count_in(word: &str) -> Result<u32, Field>
     }
 }
 
+// Whether an option has a value.
+fn is_given(word: Option<&str>) -> bool
+    ensures { result ≡ is_some (option_map (λ w. w.now) word.entry) }
+{
+    match word {
+        Some(_) => true,
+        None => false,
+    }
+}
+
 // What a request asks for, or the first field that is out of its range.
 fn work_in(request: &Request<'_>) -> Result<Work, Field>
     ensures { MatchResult result (λ work. IsWorkOf (asked_of request.now) work)
@@ -131,15 +150,25 @@ fn work_in(request: &Request<'_>) -> Result<Work, Field>
             bw,
             e,
             t,
+            trace,
             ..
         } => match params_in(n, l, z, s, r, br, bw, e, t) {
-            Ok(params) => Ok(Work::OnStore(Command::Format { params })),
+            Ok(params) => Ok(Work::OnStore(Command::Format {
+                params,
+                traced: is_given(*trace),
+            })),
             Err(field) => Err(field),
         },
-        Request::Run { lanes, turns, .. } => match lanes_in(*lanes) {
+        Request::Run {
+            lanes,
+            turns,
+            trace,
+            ..
+        } => match lanes_in(*lanes) {
             Ok(lanes) => Ok(Work::OnStore(Command::Run {
                 lanes,
                 turns: *turns,
+                traced: is_given(*trace),
             })),
             Err(field) => Err(field),
         },
@@ -199,26 +228,40 @@ pub fn tape_key(text: Option<&[u8]>) -> [u8; 32]
 // The files of a request: none where a number is out of its range, for an audit, or for a self-test.
 fn paths_of<'a>(request: &Request<'a>) -> Paths<'a>
     ensures { AreFilesOf (asked_of request.now) (option_map (λ s. (s.0.now, s.1)) result.store)
-        (option_map (λ k. k.now) result.keys) }
+        (option_map (λ k. k.now) result.keys) (option_map (λ t. t.now) result.trace) }
 {
     if work_in(request).is_err() {
         return Paths {
             store: None,
             keys: None,
+            trace: None,
         };
     }
     match request {
-        Request::Format { store, keys, .. } => Paths {
+        Request::Format {
+            store,
+            keys,
+            trace,
+            ..
+        } => Paths {
             store: Some((*store, true)),
             keys: Some(*keys),
+            trace: *trace,
         },
-        Request::Run { store, keys, .. } => Paths {
+        Request::Run {
+            store,
+            keys,
+            trace,
+            ..
+        } => Paths {
             store: Some((*store, false)),
             keys: Some(*keys),
+            trace: *trace,
         },
         Request::Audit | Request::Drill { .. } => Paths {
             store: None,
             keys: None,
+            trace: None,
         },
     }
 }
@@ -230,13 +273,15 @@ fn paths_of<'a>(request: &Request<'a>) -> Paths<'a>
 /// Memory was wanting.
 pub fn store_wanted<'a>(alloc: Global, words: &'a [&'a str]) -> Result<Paths<'a>, Memory>
     ensures { IfOk result (λ paths. AreWanted (map (λ w. w.now) words.entry.now)
-        (option_map (λ s. (s.0.now, s.1)) paths.store) (option_map (λ k. k.now) paths.keys)) }
+        (option_map (λ s. (s.0.now, s.1)) paths.store) (option_map (λ k. k.now) paths.keys)
+        (option_map (λ t. t.now) paths.trace)) }
 {
     match read_words(alloc, words) {
         Ok(request) => Ok(paths_of(&request)),
         Err(WordsErr::Usage) => Ok(Paths {
             store: None,
             keys: None,
+            trace: None,
         }),
         Err(WordsErr::Memory) => Err(Memory),
     }

@@ -5,7 +5,7 @@ use ob_words::{Request, WordsErr, read_words};
 use std::process::Abort;
 
 // Words with a blank between two, and what they ask for: each operand in brackets.
-static WORDS: [(&str, &str); 50] = [
+static WORDS: [(&str, &str); 55] = [
     ("audit", "audit"),
     ("drill 1", "drill [1]"),
     ("drill x", "drill [x]"),
@@ -15,9 +15,18 @@ static WORDS: [(&str, &str); 50] = [
     ("run S K --turns --lanes 16", "run [S] [K] lanes [16] turns"),
     ("run S K --lanes 16 --turns", "run [S] [K] lanes [16] turns"),
     ("run S K --lanes x", "run [S] [K] lanes [x]"),
+    ("run S K --trace F", "run [S] [K] trace [F]"),
+    (
+        "run S K --trace F --turns --lanes 2",
+        "run [S] [K] lanes [2] turns trace [F]",
+    ),
     (
         "format S K 8 2 3 4 5 6 7 9 1",
         "format [S] [K] [8] [2] [3] [4] [5] [6] [7] [9] [1]",
+    ),
+    (
+        "format S K 8 2 3 4 5 6 7 9 1 --trace F",
+        "format [S] [K] [8] [2] [3] [4] [5] [6] [7] [9] [1] trace [F]",
     ),
     // What a parse takes beside the forms: a value behind `=`, options before and between operands,
     // and behind `--` words that begin with `-`. An operand may be empty.
@@ -48,7 +57,12 @@ static WORDS: [(&str, &str); 50] = [
     ("drill", "refused"),
     ("drill 1 2", "refused"),
     ("drill -1", "refused"),
-    ("run S K --trace F", "refused"),
+    ("drill 1 --trace F", "refused"),
+    ("run S K --trace", "refused"),
+    ("run S K --trace T --trace T", "refused"),
+    ("format S K 8 2 2 3 2 2 2 2 8 --lanes 2", "refused"),
+    ("format S K 8 2 2 3 2 2 2 2 8 --trace", "refused"),
+    ("audit --trace F", "refused"),
     ("--help", "refused"),
     ("-h", "refused"),
     ("help", "refused"),
@@ -74,12 +88,17 @@ fn push_words<R: Abort>(rt: &R, text: &mut String, word: &str, operands: &[&str]
     }
 }
 
+// Spells an option, where it is given.
+fn push_option<R: Abort>(rt: &R, text: &mut String, name: &str, value: Option<&str>) {
+    if let Some(value) = value {
+        push_words(rt, text, name, &[value]);
+    }
+}
+
 // Spells a run: its files, its lanes where they are given, and whether it is in turns.
 fn push_run<R: Abort>(rt: &R, text: &mut String, files: &[&str], lanes: Option<&str>, turns: bool) {
     push_words(rt, text, "run", files);
-    if let Some(lanes) = lanes {
-        push_words(rt, text, " lanes", &[lanes]);
-    }
+    push_option(rt, text, " lanes", lanes);
     if turns {
         push(rt, text, " turns");
     }
@@ -100,18 +119,22 @@ fn push_request<R: Abort>(rt: &R, text: &mut String, request: &Request<'_>) {
             bw,
             e,
             t,
-        } => push_words(
-            rt,
-            text,
-            "format",
-            &[store, keys, n, l, z, s, r, br, bw, e, t],
-        ),
+            trace,
+        } => {
+            let operands = [store, keys, n, l, z, s, r, br, bw, e, t];
+            push_words(rt, text, "format", &operands);
+            push_option(rt, text, " trace", trace);
+        }
         Request::Run {
             store,
             keys,
             lanes,
             turns,
-        } => push_run(rt, text, &[store, keys], lanes, turns),
+            trace,
+        } => {
+            push_run(rt, text, &[store, keys], lanes, turns);
+            push_option(rt, text, " trace", trace);
+        }
         Request::Audit => push(rt, text, "audit"),
         Request::Drill { count } => push_words(rt, text, "drill", &[count]),
     }

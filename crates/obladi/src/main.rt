@@ -1,11 +1,11 @@
-//! The program: its words, its keys and store, standard input and standard output go to the top
-//! call.
+//! The program: its words, its keys, store and trace, standard input and standard output go to the
+//! top call.
 #![tactic(auto)]
 
 use ob_base::Fault;
 use ob_desk::Eager;
 use ob_io::Sink;
-use ob_outside::{Named, StdSink, StdSource, hold_standard, open_named, words_of};
+use ob_outside::{Files, Named, StdSink, StdSource, hold_standard, open_named, words_of};
 use ob_seal::ChaChaTape;
 use ob_top::{finish, obladi};
 use ob_words::tape_key;
@@ -25,19 +25,26 @@ fn run<R: AllocGlobal + Threads + Wait + Sync, O: Sink>(
     let words = words_of(rt)?;
     let Named {
         words: texts,
-        mut files,
+        files,
         keys,
     } = open_named(rt, &words)?;
+    // The key file stays locked as long as this is there.
+    let Files {
+        keys: _locked,
+        mut store,
+        mut trace,
+    } = files;
     let mut tape = ChaChaTape::new(&tape_key(keys.as_deref()));
     let mut input = StdSource::new(rt.reader());
     Ok(obladi(
         waits,
         &texts,
         keys.as_deref(),
-        files.store.as_mut(),
+        store.as_mut(),
         &mut tape,
         &mut input,
         output,
+        &mut trace,
         &mut Eager,
     ))
 }

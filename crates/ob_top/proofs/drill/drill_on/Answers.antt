@@ -66,7 +66,8 @@ pub returns-clause-goes : goal.returns-clause-goes
 returns-clause-goes g c = goes_then _ _ _ c.in-Ok.ensures.serves.goes (goes_then _ _ _ c.in-Ok-ready.ensures.goes c.drill_over.ensures.goes)
 
 pub returns-clause-refused : goal.returns-clause-refused
-returns-clause-refused g c = IfErr-weaker c.drill_over.result _ _ (λ refused want. later_want (g.S.Store.disk c.args.store.now) (g.S.Store.disk c.ready.new.store) (g.S.Store.disk c.drill_over.new.store) refused (goes_then _ _ _ c.in-Ok.ensures.serves.goes c.in-Ok-ready.ensures.goes).faults want) c.drill_over.ensures.refused
+returns-clause-refused g c = IfErr-weaker c.drill_over.result _ _ (λ refused want. later_want (g.S.Store.disk c.args.store.now) (g.S.Store.disk c.ready.new.store) (g.S.Store.disk c.drill_over.new.store) refused
+    (goes_then _ _ _ c.in-Ok.ensures.serves.goes c.in-Ok-ready.ensures.goes).faults want) c.drill_over.ensures.refused
 
 -- ---- what it comes to
 

@@ -37,7 +37,7 @@ conduct-requires-clause-runners g c κs within = c.requires.runners
 pub returns-in-Err-clause-refused : goal.returns-in-Err-clause-refused
 returns-in-Err-clause-refused g c =
     let (desk, by) = c.in-Err.ensures.done in
-    inl (_, c.in-Err.err, record { before = _; desk = desk; ran = _; by = by; whole = refl }, c.fault.ensures)
+    inl (c.in-Err.err, record { desk = desk; ran = _; by = by }, c.fault.ensures)
 
 pub read_map-requires-clause-params : goal.read_map-requires-clause-params
 read_map-requires-clause-params g c κs within = c.in-Ok.ensures.params
@@ -48,16 +48,14 @@ read_map-requires-clause-serves g c κs within =
     let (v, held, unspent, none) = c.requires.held in
     let (desk, by) = c.in-Ok.ensures.done in
     still_serves (kind_of g.V.Vault) (λ x. g.V.Vault.counts x) (λ x u holds. (g.met.V.Vault.agrees x u holds).0) c.args.params.now c.requires.numbers n few _ c.args.scripts.now is c.args.vault.now c.requires.begins c.requires.left c.args.runners.now.items c.requires.runners v held none
-    c.conduct.new.vault _ (record { before = _; desk = desk; ran = _; by = by; whole = refl }) unspent
+    c.conduct.new.vault (record { desk = desk; ran = _; by = by }) unspent
 
 pub returns-in-Ok-read_map-clause-drilled : goal.returns-in-Ok-read_map-clause-drilled
 returns-in-Ok-read_map-clause-drilled g c =
     let (desk, by) = c.in-Ok.ensures.done in
     record {
       mid = c.conduct.new.vault;
-      at = _;
-      after = _;
-      run = record { before = _; desk = desk; ran = _; by = by; whole = refl };
+      run = record { desk = desk; ran = _; by = by };
       reads = c.in-Ok-read_map.ensures.reads;
       epochs = c.epoch-epochs.ensures.epoch;
       digest = c.in-Ok-read_map.ensures.digest;
@@ -69,42 +67,43 @@ returns-in-Ok-read_map-clause-epochs g c = λ n is few patient.
     let (desk, by) = c.in-Ok.ensures.done in
     c.epoch-epochs.ensures.epoch
     ∙ epochs_counted (kind_of g.V.Vault) (λ x. g.V.Vault.counts x) (λ x u holds. (g.met.V.Vault.agrees x u holds).0) c.args.params.now c.requires.numbers n few _ c.args.scripts.now is c.args.vault.now c.requires.begins c.requires.left c.args.runners.now.items c.requires.runners v held none
-    c.conduct.new.vault _ (record { before = _; desk = desk; ran = _; by = by; whole = refl }) patient
+    c.conduct.new.vault (record { desk = desk; ran = _; by = by }) patient
 
 pub returns-in-Ok-read_map-clause-digest : goal.returns-in-Ok-read_map-clause-digest
 returns-in-Ok-read_map-clause-digest g c = λ n is few patient.
     let (v, held, unspent, none) = c.requires.held in
     let (desk, by) = c.in-Ok.ensures.done in
     digest_counted (kind_of g.V.Vault) (λ x. g.V.Vault.counts x) (λ x u holds. (g.met.V.Vault.agrees x u holds).0) c.args.params.now c.requires.numbers n few _ c.args.scripts.now is c.args.vault.now c.requires.begins c.requires.left c.args.runners.now.items c.requires.runners v held none
-    c.conduct.new.vault _ (record { before = _; desk = desk; ran = _; by = by; whole = refl }) patient c.in-Ok-read_map.digest c.in-Ok-read_map.ensures.digest
+    c.conduct.new.vault (record { desk = desk; ran = _; by = by }) patient c.in-Ok-read_map.digest c.in-Ok-read_map.ensures.digest
 
 pub returns-in-Err-read_map-clause-refused : goal.returns-in-Err-read_map-clause-refused
 returns-in-Err-read_map-clause-refused g c =
     let (desk, by) = c.in-Ok.ensures.done in
-    inr (c.conduct.new.vault, _, _, record { before = _; desk = desk; ran = _; by = by; whole = refl }, c.in-Err-read_map.ensures.refused)
+    inr (c.conduct.new.vault, record { desk = desk; ran = _; by = by }, c.in-Err-read_map.ensures.refused)
 
 -- ---- whatever it answers
 
 pub returns-in-Err-clause-goes : goal.returns-in-Err-clause-goes
-returns-in-Err-clause-goes g c = let (desk, by) = c.in-Err.ensures.done in run_goes _ (λ x. g.V.Vault.counts x) _ c.args.params.now c.args.scripts.now c.args.runners.now.items c.args.vault.now c.conduct.new.vault _ _ (record { before = _; desk = desk; ran = _; by = by; whole = refl })
+returns-in-Err-clause-goes g c = let (desk, by) = c.in-Err.ensures.done in run_goes _ (λ x. g.V.Vault.counts x) _ c.args.params.now c.args.scripts.now c.args.runners.now.items c.args.vault.now c.conduct.new.vault _ (record { desk = desk; ran = _; by = by })
 
 pub returns-in-Err-clause-cause : goal.returns-in-Err-clause-cause
-returns-in-Err-clause-cause g c = λ store. let (desk, by) = c.in-Err.ensures.done in run_cause _ (λ x. g.V.Vault.counts x) _ c.args.params.now c.args.scripts.now c.args.runners.now.items c.args.vault.now c.conduct.new.vault _ _ c.in-Err.err (record { before = _; desk = desk; ran = _; by = by; whole = refl }) c.fault.ensures store
+returns-in-Err-clause-cause g c = λ store. let (desk, by) = c.in-Err.ensures.done in run_cause _ (λ x. g.V.Vault.counts x) _ c.args.params.now c.args.scripts.now c.args.runners.now.items c.args.vault.now c.conduct.new.vault _ c.in-Err.err
+    (record { desk = desk; ran = _; by = by }) c.fault.ensures store
 
 pub returns-in-Ok-read_map-clause-goes : goal.returns-in-Ok-read_map-clause-goes
 returns-in-Ok-read_map-clause-goes g c =
     let (desk, by) = c.in-Ok.ensures.done in
-    goes_then _ _ _ (run_goes _ (λ x. g.V.Vault.counts x) _ c.args.params.now c.args.scripts.now c.args.runners.now.items c.args.vault.now c.conduct.new.vault _ _ (record { before = _; desk = desk; ran = _; by = by; whole = refl })) (reads_go _ _ _ _ _ _ c.in-Ok-read_map.ensures.reads)
+    goes_then _ _ _ (run_goes _ (λ x. g.V.Vault.counts x) _ c.args.params.now c.args.scripts.now c.args.runners.now.items c.args.vault.now c.conduct.new.vault _ (record { desk = desk; ran = _; by = by })) (reads_go _ _ _ _ _ _ c.in-Ok-read_map.ensures.reads)
 
 pub returns-in-Err-read_map-clause-goes : goal.returns-in-Err-read_map-clause-goes
 returns-in-Err-read_map-clause-goes g c =
     let (desk, by) = c.in-Ok.ensures.done in
-    goes_then _ _ _ (run_goes _ (λ x. g.V.Vault.counts x) _ c.args.params.now c.args.scripts.now c.args.runners.now.items c.args.vault.now c.conduct.new.vault _ _ (record { before = _; desk = desk; ran = _; by = by; whole = refl })) (failed_goes _ _ _ _ _ _ _ c.in-Err-read_map.ensures.refused)
+    goes_then _ _ _ (run_goes _ (λ x. g.V.Vault.counts x) _ c.args.params.now c.args.scripts.now c.args.runners.now.items c.args.vault.now c.conduct.new.vault _ (record { desk = desk; ran = _; by = by })) (failed_goes _ _ _ _ _ _ _ c.in-Err-read_map.ensures.refused)
 
 pub returns-in-Err-read_map-clause-cause : goal.returns-in-Err-read_map-clause-cause
 returns-in-Err-read_map-clause-cause g c = λ store.
     let (desk, by) = c.in-Ok.ensures.done in
-    rose_later _ _ _ (run_goes _ (λ x. g.V.Vault.counts x) _ c.args.params.now c.args.scripts.now c.args.runners.now.items c.args.vault.now c.conduct.new.vault _ _ (record { before = _; desk = desk; ran = _; by = by; whole = refl })).faults (c.in-Err-read_map.ensures.cause store)
+    rose_later _ _ _ (run_goes _ (λ x. g.V.Vault.counts x) _ c.args.params.now c.args.scripts.now c.args.runners.now.items c.args.vault.now c.conduct.new.vault _ (record { desk = desk; ran = _; by = by })).faults (c.in-Err-read_map.ensures.cause store)
 
 pub returns-in-Ok-read_map-clause-anchors : goal.returns-in-Ok-read_map-clause-anchors
 returns-in-Ok-read_map-clause-anchors g c = (reads_go _ _ _ _ _ _ c.in-Ok-read_map.ensures.reads).anchors ∙ c.in-Ok.ensures.anchors

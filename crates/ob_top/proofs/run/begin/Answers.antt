@@ -6,7 +6,7 @@ use Rattle.ob_store.proofs.Serving.{goes_then}
 use Rattle.ob_top.proofs.Noted.{reads_noted}
 use Rattle.ob_vault.proofs.Opening.{ring_leaves_standing, ring_opens_standing}
 use Rattle.ob_vault.specs.RingLaws.{found_ring}
-use Rattle.ob_top.proofs.Beginnings.{begun, may_serve, unopened}
+use Rattle.ob_top.proofs.Beginnings.{begun, broke_early, may_serve, unopened}
 use Rattle.ob_top.proofs.Living.{read_lives, refused_lives, read_opened}
 use Rattle.ob_top.proofs.run.begin.Goals as goal
 
@@ -24,7 +24,20 @@ returns-in-Err-clause-refused g c =
       keeps = e.keeps;
       passes = e.passes;
       seen = reads_noted {V = Params} (Read 0 ∷ []) _ _ _ _ (Err c.in-Err.fault) e.does;
+      shown = e.does;
     })
+
+pub returns-in-Err-still_watched-clause-refused : goal.returns-in-Err-still_watched-clause-refused
+returns-in-Err-still_watched-clause-refused g c = broke_early (λ s. g.S.Store.disk s) _ _ _ _ _ _ _ _ c.in-Err-still_watched.err c.in-Err-still_watched.ensures (λ broken. inl (record {
+  untouched = refl;
+  p = c.in-Ok.params;
+  head = c.in-Ok.ensures.value;
+  keeps = c.in-Ok.ensures.keeps;
+  passes = c.in-Ok.ensures.passes;
+  seen = c.in-Ok.ensures.does.seen;
+  shown = c.in-Ok.ensures.does.shows;
+  broken = broken;
+}))
 
 pub returns-in-Err-read_script-clause-refused : goal.returns-in-Err-read_script-clause-refused
 returns-in-Err-read_script-clause-refused g c = inr (inl (record {
@@ -34,6 +47,7 @@ returns-in-Err-read_script-clause-refused g c = inr (inl (record {
   keeps = c.in-Ok.ensures.keeps;
   passes = c.in-Ok.ensures.passes;
   seen = c.in-Ok.ensures.does.seen;
+  shown = c.in-Ok.ensures.does.shows;
 }))
 
 pub returns-in-Err-runners-clause-refused : goal.returns-in-Err-runners-clause-refused
@@ -44,6 +58,7 @@ returns-in-Err-runners-clause-refused g c = inr (inl (record {
   keeps = c.in-Ok.ensures.keeps;
   passes = c.in-Ok.ensures.passes;
   seen = c.in-Ok.ensures.does.seen;
+  shown = c.in-Ok.ensures.does.shows;
 }))
 
 pub returns-in-Ok-prepare-clause-begun : goal.returns-in-Ok-prepare-clause-begun
@@ -53,7 +68,7 @@ returns-in-Ok-prepare-clause-begun g c =
       found_ring e.opened.found c.in-Ok-prepare.opening,
       refl,
       begun (λ s. g.S.Store.disk s) c.args.keys.now c.args.lanes c.requires.lanes.0 c.in-Ok.params c.in-Ok-read_script.scripts _ c.args.store.now c.head.new.store c.prepare.new.store head.value (record { keeps = head.keeps; passes = head.passes; seen = head.does.seen })
-          c.in-Ok-read_script.ensures.came _ _ c.in-Ok-prepare.opening e.opened e.serves.tells e.stands,
+          c.in-Ok-read_script.ensures.came _ _ _ c.in-Ok-prepare.opening e.opened e.serves.tells e.stands head.does.shows,
     )
 
 pub returns-in-Ok-prepare-clause-serves : goal.returns-in-Ok-prepare-clause-serves
@@ -85,12 +100,22 @@ returns-in-Err-prepare-clause-refused g c =
     let head = c.in-Ok.ensures in
     let e = c.in-Err-prepare.ensures in
     unopened (λ s. g.S.Store.disk s) c.args.keys.now c.args.lanes c.requires.lanes.0 c.in-Ok.params c.in-Ok-read_script.scripts _ c.args.store.now c.head.new.store c.prepare.new.store head.value (record { keeps = head.keeps; passes = head.passes; seen = head.does.seen })
-    c.in-Ok-read_script.ensures.came c.prepare.result _ _ _ _ _ _ c.in-Err-prepare.fault _ (g.met.S.Store.only_now c.args.store.now) head.serves.goes.faults e.faults e.serves.cause e.does_err e.refused e.stands e.unwritten e.leaves (λ word_of s told at. e.acts word_of s None told at)
+    c.in-Ok-read_script.ensures.came c.prepare.result _ _ _ _ _ _ _ c.in-Err-prepare.fault _ head.does.shows (g.met.S.Store.only_now c.args.store.now) head.serves.goes.faults e.faults e.serves.cause e.does_err e.refused e.stands e.unwritten e.leaves
+    (λ word_of s told at. e.acts word_of s None told at)
 
 -- ---- the life of the store
 
 pub returns-in-Err-clause-lives : goal.returns-in-Err-clause-lives
 returns-in-Err-clause-lives g c = read_lives (λ s. g.S.Store.disk s) g.met.S.Store.only_now c.args.keys.now c.args.store.now c.head.new.store c.in-Err.ensures.serves.goes c.in-Err.ensures.passes
+
+pub returns-in-Err-still_watched-clause-lives : goal.returns-in-Err-still_watched-clause-lives
+returns-in-Err-still_watched-clause-lives g c = read_lives (λ s. g.S.Store.disk s) g.met.S.Store.only_now c.args.keys.now c.args.store.now c.head.new.store c.in-Ok.ensures.serves.goes c.in-Ok.ensures.passes
+
+pub returns-in-Err-still_watched-clause-goes : goal.returns-in-Err-still_watched-clause-goes
+returns-in-Err-still_watched-clause-goes g c = c.in-Ok.ensures.serves.goes
+
+pub returns-in-Err-still_watched-clause-none_out : goal.returns-in-Err-still_watched-clause-none_out
+returns-in-Err-still_watched-clause-none_out g c = omega (arith, c.in-Ok.ensures.serves.out, c.requires.none_out)
 
 pub returns-in-Err-read_script-clause-lives : goal.returns-in-Err-read_script-clause-lives
 returns-in-Err-read_script-clause-lives g c = read_lives (λ s. g.S.Store.disk s) g.met.S.Store.only_now c.args.keys.now c.args.store.now c.head.new.store c.in-Ok.ensures.serves.goes c.in-Ok.ensures.passes

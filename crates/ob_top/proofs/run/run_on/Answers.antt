@@ -3,19 +3,54 @@ use Rattle.ob_vault.specs.RingKind.{ring_kind}
 use Rattle.ob_vault.proofs.OpenedLife.{opened_lives}
 use Rattle.ob_vault.proofs.Standing.{ring_keeps}
 use Rattle.ob_vault.specs.Lives.{ring_lives}
-use Rattle.ob_top.proofs.Beginnings.{ring_quiet}
+use Rattle.std.proofs.Common.{inr}
+use Rattle.ob_top.proofs.Beginnings.{broke_early, ring_quiet}
+use Rattle.ob_top.proofs.Living.{open_lives}
 use Rattle.ob_top.proofs.Running.{ended_early, ran}
 use Rattle.ob_top.proofs.run.run_on.Goals as goal
 
 pub returns-in-Err-clause-done : goal.returns-in-Err-clause-done
-returns-in-Err-clause-done g c = ended_early ring_kind ring_quiet ring_lives ring_keeps (λ s. g.S.Store.disk s) (λ x t image at left. g.met.S.Store.counts_now x t image at left) _ _ c.args.keys.now _ _ _ _ _ c.in-Err.fault c.in-Err.ensures.refused c.in-Err.ensures.lives
+returns-in-Err-clause-done g c = ended_early ring_kind ring_quiet ring_lives ring_keeps (λ s. g.S.Store.disk s) (λ x t image at left. g.met.S.Store.counts_now x t image at left) _ _ c.args.keys.now _ _ _ _ _ _ _ c.in-Err.err c.in-Err.ensures.refused c.in-Err.ensures.lives
+
+pub returns-in-Err-still_watched-clause-done : goal.returns-in-Err-still_watched-clause-done
+returns-in-Err-still_watched-clause-done g c =
+    let (f, same, b) = c.in-Ok.ensures.begun in
+    ended_early ring_kind ring_quiet ring_lives ring_keeps (λ s. g.S.Store.disk s) (λ x t image at left. g.met.S.Store.counts_now x t image at left) _ _ c.args.keys.now _ _ _ _ _ _ _ c.in-Err-still_watched.err
+    (broke_early (λ s. g.S.Store.disk s) _ _ _ _ _ _ _ _ c.in-Err-still_watched.err c.in-Err-still_watched.ensures (λ broken. inr (record {
+      p = c.in-Ok.begun.params;
+      script = c.in-Ok.begun.scripts;
+      found = f;
+      start = b.start;
+      opened = b.opened;
+      seen = b.seen;
+      shown = b.shown;
+      broken = broken;
+      stood = b.stood;
+      left = c.in-Ok.ensures.left;
+      opens = c.in-Ok.ensures.since;
+      opens_life = λ tells word_of s here small. opened_lives c.args.keys.now c.in-Ok.begun.params word_of s (g.S.Store.disk c.args.store.now).cells f (b.opened.finds tells) here small;
+    })))
+    (open_lives (λ s. g.S.Store.disk s) c.args.keys.now _ _ c.in-Ok.begun.opening.sealer c.in-Ok.ensures.opens)
 
 pub returns-clause-done : goal.returns-clause-done
 returns-clause-done g c =
     let (f, same, b) = c.in-Ok.ensures.begun in
     ran ring_kind ring_quiet ring_lives ring_keeps (λ s. g.S.Store.disk s) (λ x t image at left. g.met.S.Store.counts_now x t image at left) _ _ c.args.keys.now _ c.begin.new.store _ _ _ _ _
-    c.in-Ok.begun.params c.in-Ok.begun.scripts f b.start c.in-Ok.begun.opening.sealer _ c.in-Ok.ensures.goes.faults b.opened b.seen c.in-Ok.ensures.durable b.stood c.in-Ok.ensures.left c.in-Ok.ensures.since c.in-Ok.ensures.opens
+    c.in-Ok.begun.params c.in-Ok.begun.scripts f b.start c.in-Ok.begun.opening.sealer _ _ _ _ b.shown c.in-Ok-still_watched.ensures
+    c.in-Ok.ensures.goes.faults b.opened b.seen c.in-Ok.ensures.durable b.stood c.in-Ok.ensures.left c.in-Ok.ensures.since c.in-Ok.ensures.opens
     (λ tells word_of s here small. opened_lives c.args.keys.now c.in-Ok.begun.params word_of s (g.S.Store.disk c.args.store.now).cells f (b.opened.finds tells) here small) (c.serve_on.ensures.serves f b.found same b.goes_on b.planned)
+
+pub returns-in-Err-still_watched-clause-goes : goal.returns-in-Err-still_watched-clause-goes
+returns-in-Err-still_watched-clause-goes g c = c.in-Ok.ensures.goes
+
+pub returns-in-Err-still_watched-clause-none_out : goal.returns-in-Err-still_watched-clause-none_out
+returns-in-Err-still_watched-clause-none_out g c = c.in-Ok.ensures.none_out
+
+pub begin-requires-clause-whole : goal.begin-requires-clause-whole
+begin-requires-clause-whole g c κs within = c.requires.whole
+
+pub serve_on-requires-clause-whole : goal.serve_on-requires-clause-whole
+serve_on-requires-clause-whole g c κs within = c.in-Ok-still_watched.ensures
 
 pub returns-clause-goes : goal.returns-clause-goes
 returns-clause-goes g c =

@@ -23,7 +23,7 @@ none_in (x ∷ l) is = absurd (cc)
 pub returns-clause-serves : goal.returns-clause-serves
 returns-clause-serves g c = λ f found same goes planned.
     let first = c.over-vault.result in
-    let s = serves_lent first _ _ c.args.means.threads c.args.begun.params c.args.begun.scripts _ c.args.begun.runners.items _ _ _ _ _ c.conduct-ended.result _ _ c.conduct-ended.ensures.done refl c.requires.sound c.requires.runners
+    let s = serves_lent first _ _ c.args.means.threads c.args.begun.params c.args.begun.scripts _ c.args.begun.runners.items _ _ _ _ _ c.conduct-ended.result _ _ c.conduct-ended.ensures.done c.requires.whole c.requires.sound c.requires.runners
     g.S.Store.disk (λ x t image at left. g.met.S.Store.counts_now x t image at left) (λ x image left. g.met.S.Store.only_now x image left) (λ v. running v.lent.store.now (g.T.Tape.drawn v.lent.tape.now) v.crew.lanes v.run)
     (record { called = λ v call answer notes w one. one; holds = λ v u is. is })
     (record { disk_is = λ v. (v.lent.store.ghost_name, v.lent.tape.ghost_name, refl); holds = λ v u is. is; sound = λ v u is. is; stands = λ v i at is. is; rests = λ w v i sound left. sound.images i left })
@@ -32,9 +32,9 @@ returns-clause-serves g c = λ f found same goes planned.
     (ap (λ x. g.T.Tape.drawn x) c.over-vault.ensures.tape ∙ none_in _ c.requires.serves.none_drawn) in
     let names : c.over-arg-1.given ≡ c.into_lent-store.result.0.ghost_name = sym (c.into_lent-store.ensures.name ∙ first_same _ _ _ _ c.conduct-ended.ensures.anchors ∙ c.over-vault.ensures.name) in
     let tape_names : c.over-arg-2-1.given ≡ c.into_lent-store.result.1.ghost_name = sym (c.into_lent-store.ensures.tape_name ∙ first_same _ _ _ _ (rest_same _ _ _ _ c.conduct-ended.ensures.anchors) ∙ c.over-vault.ensures.tape_name) in
-    renamed ring_kind ring_lives g.S.Store.disk _ c.args.keys.now c.args.begun.params f f.run.sealer c.args.begun.opening.sealer c.args.begun.scripts _ _ _ c.args.store.now _ c.store-1.given.0 _ _ _ _
+    renamed ring_kind ring_lives g.S.Store.disk _ c.args.keys.now c.args.begun.params f f.run.sealer c.args.begun.opening.sealer c.args.begun.scripts _ _ _ c.args.store.now _ c.store-1.given.0 _ _ _ _ _
     (ap (λ (r : Run). r.sealer) same) (ap (λ x. g.T.Tape.drawn x) (sym (c.tape-1.given.1 tape_names ∙ c.hand_back.ensures.tape ∙ c.into_lent-store.ensures.tape)))
-    c.over-vault.ensures.store (c.store-1.given.1 names ∙ c.hand_back.ensures.store ∙ c.into_lent-store.ensures.store) c.told.ensures s
+    c.over-vault.ensures.store (c.store-1.given.1 names ∙ c.hand_back.ensures.store ∙ c.into_lent-store.ensures.store) s
 
 pub returns-clause-none_out : goal.returns-clause-none_out
 returns-clause-none_out g c =
@@ -81,4 +81,4 @@ pub conduct-ended-requires-clause-runners : goal.conduct-ended-requires-clause-r
 conduct-ended-requires-clause-runners g c κs within = c.requires.runners
 
 pub conduct-ended-requires-clause-whole : goal.conduct-ended-requires-clause-whole
-conduct-ended-requires-clause-whole g c κs within = refl
+conduct-ended-requires-clause-whole g c κs within = c.requires.whole
