@@ -7,7 +7,8 @@ use Rattle.ob_io.specs.Flows.{appended}
 use Rattle.ob_io.proofs.Pieces.{appended-again}
 use Rattle.ob_store.specs.Lines.{AddsLines, BreaksOnly, lines_of}
 use Rattle.ob_store.proofs.Serving.{rose_later}
-use Rattle.ob_top.specs.Traces.{TracesArePrinted}
+use Rattle.ob_store.proofs.Showing.{shows_then}
+use Rattle.ob_top.specs.Traces.{RunsArePrinted, TracesArePrinted}
 
 -- lines stand behind what was written, or a front of them where the count rose
 abbrev Added : List ℕ → Option (List ℕ) → Option (List ℕ) → ℕ → ℕ → Type 0
@@ -39,10 +40,16 @@ written_lines first notes before after s t u tells start line whole shows told =
     let one = whole_added first s.broken t.broken s.written t.written start whole line.lines in
     let (n, few, two, all) = added lines t.broken u.broken t.written u.written t.faults u.faults whole shows.lines shows.breaks in
     record {
-      count = length first + n;
-      within = omega (arith, few, length-append first lines);
-      written = told.0 ∙ two ∙ ap (λ (b : Option (List ℕ)). appended b (take n lines)) (one ∙ ap (λ (b : Option (List ℕ)). appended b first) (sym tells.0))
-          ∙ appended-again before.bytes first (take n lines) ∙ ap (λ (l : List ℕ). appended before.bytes l) (sym (take-append-add first lines n));
-      whole = ⊎_elim (λ e. inl (ap (λ m. length first + m) e ∙ sym (length-append first lines)))
-          (λ r. inr (subst (λ m. Rose m after.faults) (sym tells.1) (subst (λ m. Rose s.faults m) (sym told.1) (rose_later s.faults t.faults u.faults line.faults r)))) all;
+      all = λ unbroken. told.0 ∙ whole_added lines t.broken u.broken t.written u.written whole unbroken shows.lines ∙ ap (λ (b : Option (List ℕ)). appended b lines) (one ∙ ap (λ (b : Option (List ℕ)). appended b first) (sym tells.0)) ∙ appended-again before.bytes first lines;
+      printed = record {
+        count = length first + n;
+        within = omega (arith, few, length-append first lines);
+        written = told.0 ∙ two ∙ ap (λ (b : Option (List ℕ)). appended b (take n lines)) (one ∙ ap (λ (b : Option (List ℕ)). appended b first) (sym tells.0))
+            ∙ appended-again before.bytes first (take n lines) ∙ ap (λ (l : List ℕ). appended before.bytes l) (sym (take-append-add first lines n));
+        whole = ⊎_elim (λ e. inl (ap (λ m. length first + m) e ∙ sym (length-append first lines)))
+            (λ r. inr (subst (λ m. Rose m after.faults) (sym tells.1) (subst (λ m. Rose s.faults m) (sym told.1) (rose_later s.faults t.faults u.faults line.faults r)))) all;
+      };
     }
+
+pub written_runs : RunsArePrinted
+written_runs first notes others before after s t midway u tells start line whole opened served told = written_lines first (notes ++ others) before after s t u tells start line whole (shows_then notes others t midway u opened served) told
