@@ -1,6 +1,6 @@
 -- How the head's read and the opening join.
 use Rattle.std.specs.Prelude.{true, false}
-use Rattle.std.proofs.Common.{◌≡◌, ◌⊎◌, ◌∙◌, ◌≤◌, ℕ, List, [], ◌∷◌, length, None, Some, Result, Ok, Err, refl, sym, ap, subst, inr, arith}
+use Rattle.std.proofs.Common.{◌≡◌, ◌⊎◌, ◌∙◌, ◌≤◌, ℕ, List, [], ◌∷◌, length, Option, None, Some, Result, Ok, Err, refl, sym, ap, subst, inl, inr, arith}
 use Rattle.ob_base.specs.Causes.{Rose}
 use Rattle.ob_base.specs.declared.fault.Fault.{Fault}
 use Rattle.ob_base.specs.declared.fault.Fault.TheVariants as fault
@@ -8,7 +8,7 @@ use Rattle.ob_base.specs.declared.params.Params.{Params}
 use Rattle.ob_io.specs.Streams.{Flow}
 use Rattle.ob_pads.specs.Lives.{IsFormattedStore}
 use Rattle.ob_vault.proofs.Formatting.{ring_formats}
-use Rattle.ob_vault.proofs.Opening.{opening_shown, opens_or_not, ring_leaves_standing, ring_opens, ring_opens_at}
+use Rattle.ob_vault.proofs.Opening.{opened_notes, opens_or_not, ring_leaves_standing, ring_opens, ring_opens_at}
 use Rattle.ob_vault.proofs.Refusing.{ring_refuses}
 use Rattle.ob_vault.specs.RingLaws.{ReadsHead, found_ring}
 use Rattle.ob_vault.specs.RingKind.{ring_kind}
@@ -21,6 +21,9 @@ use Rattle.ob_stand.specs.Stands as stand
 use Rattle.ob_stand.specs.Stands.{RingStanding}
 use Rattle.ob_start.specs.Heads.{IsHead}
 use Rattle.ob_store.proofs.Serving.{rose_later}
+use Rattle.ob_store.proofs.Showing.{shows_then}
+use Rattle.ob_store.specs.declared.event.Event.{Event}
+use Rattle.ob_store.specs.declared.watch.Note.{Note}
 use Rattle.ob_schedule.specs.Schedule.{format_notes}
 use Rattle.ob_store.specs.Told.{events_of}
 use Rattle.ob_store.specs.Calls.{IsStoreFault, Notes, NotesFirst}
@@ -35,7 +38,10 @@ use Rattle.ob_top.specs.Outside.{IsWatched}
 use Rattle.ob_opening.proofs.PlanLaws.{opened_plans}
 use Rattle.ob_opening.specs.OpeningActs.{IsLeftAt, OpensInLife}
 use Rattle.ob_opening.specs.Formats.{HasClosedLogs, IsFormatFault, formatted_standing}
-use Rattle.ob_opening.specs.OpeningRuns.{IsAtStart, IsRingOpened, OpeningLeaves, RefusedDoes, RefusedWrites}
+use Rattle.ob_opening.specs.OpeningRuns.{BeginsFirst, IsAtStart, IsRingOpened, OpeningLeaves, OpensPart, ReadsFirst, RefusedDoes, RefusedWrites, begun_notes}
+use Rattle.ob_recover.specs.Finds.{finding_notes}
+use Rattle.ob_recover.specs.declared.found.Found.{Found}
+use Rattle.ob_start.specs.Orders.{registers_notes}
 use Rattle.ob_opening.specs.Openings.{IsOpenFault, IsOpenRefusal, IsStandingRefusal, OpensWhatStood}
 use Rattle.ob_opening.specs.declared.opening.Opening.{Opening}
 use Rattle.ob_top.proofs.Running.{IsQuiet}
@@ -49,14 +55,43 @@ pub broke_early : {S : Type 0} (disk : S → Disk) (keys : Keys) (most : ℕ) (o
 broke_early disk keys most old new t u before after (failed.Fault refused) is so = absurd is
 broke_early disk keys most old new t u before after failed.Unwatched is so = so is
 
+-- a refused opening has shown some notes
+abbrev SomeShown : Trace → Trace → Type 0
+SomeShown before after = (notes : List Note) × Shows notes before after
+
+reads_shown : (keys : Keys) (p : Params) (old new : Disk) (before after : Trace) → ReadsFirst keys p old new before after → SomeShown before after
+reads_shown keys p old new before after (inl first) = (first.shown, first.tells.shows)
+reads_shown keys p old new before after (inr found) = (found.told.shown, found.told.tells.shows)
+
+begins_shown : (steps : List Note) (most : ℕ) (p : Params) (found : Found) (old new : Option (List Event)) (before after : Trace) (refused : Fault) → BeginsFirst steps most p found old new before after refused → SomeShown before after
+begins_shown steps most p found old new before after refused (inl first) = (first.shown, first.tells.shows)
+begins_shown steps most p found old new before after refused (inr r) = (_, shows_then _ _ before r.shown after r.begun.shows r.repeats.told.shows)
+
+part_shown : (keys : Keys) (most : ℕ) (p : Params) (old new : Disk) (before after : Trace) (refused : Fault) → ReadsFirst keys p old new before after ⊎ OpensPart keys most p old new before after refused → SomeShown before after
+part_shown keys most p old new before after refused (inl first) = reads_shown keys p old new before after first
+part_shown keys most p old new before after refused (inr part) = begins_shown (begun_notes p part.found) most p part.found old.seen new.seen before after refused part.told
+
+refused_shown : (keys : Keys) (most : ℕ) (p : Params) (old new : Disk) (before after : Trace) (refused : Fault) → RefusedDoes keys most p old new before after refused → SomeShown before after
+refused_shown keys most p old new before after fault.NotStore does = (registers_notes, does.shows)
+refused_shown keys most p old new before after (fault.Worn number) does = (finding_notes p does.found.epoch, does.told.shows)
+refused_shown keys most p old new before after fault.Memory does = reads_shown keys p old new before after does
+refused_shown keys most p old new before after fault.Usage does = part_shown keys most p old new before after fault.Usage does
+refused_shown keys most p old new before after (fault.BadScript line) does = part_shown keys most p old new before after (fault.BadScript line) does
+refused_shown keys most p old new before after (fault.BadParams field) does = part_shown keys most p old new before after (fault.BadParams field) does
+refused_shown keys most p old new before after (fault.Damaged cell check kept computed) does = part_shown keys most p old new before after (fault.Damaged cell check kept computed) does
+refused_shown keys most p old new before after (fault.StoreFault unsure) does = part_shown keys most p old new before after (fault.StoreFault unsure) does
+refused_shown keys most p old new before after (fault.StashFull rows) does = part_shown keys most p old new before after (fault.StashFull rows) does
+refused_shown keys most p old new before after fault.SourceFault does = part_shown keys most p old new before after fault.SourceFault does
+refused_shown keys most p old new before after fault.SinkFault does = part_shown keys most p old new before after fault.SinkFault does
+
 pub ring_quiet : IsQuiet ring_kind
 ring_quiet = record { head = λ is. is; opening = λ is. is }
 
 module _ {S : Type 0} (disk : S → Disk) (keys : Keys) (most : ℕ) (some : 1 ≤ most) (p : Params) (script : Scripts) (before : Flow) (old mid new : S) (head : (disk old).tells → IsHead keys 1 p ((disk old).cells 0)) (read : ReadsHead (disk old) (disk mid)) (came : CameIn p.keys before script) where
   -- the store was opened
   pub begun : {L : Type 0} (first shown later : Trace) (o : Opening L) (is : IsRingOpened disk keys most p mid new shown later o) → ((disk mid).tells → (disk new).tells)
-      → ((s : RingStanding) → (disk mid).tells → stand.Stands keys p s (disk mid).cells → OpensWhatStood keys p s (disk new) (Ok o)) → Shows (note.Read 0 ∷ []) first shown → IsBegun keys most p script (disk old) (disk new) first later before (found_ring is.found o)
-  begun {L} first shown later o is told stands head_shown =
+      → ((s : RingStanding) → (disk mid).tells → stand.Stands keys p s (disk mid).cells → OpensWhatStood keys p s (disk new) (Ok o)) → Shows (note.Read 0 ∷ []) first shown → shown.broken ≡ false → IsBegun keys most p script (disk old) (disk new) first later before (found_ring is.found o)
+  begun {L} first shown later o is told stands head_shown whole =
       let so = ring_opens L disk keys most p old mid new shown later o some read is in
       record {
         found = is.found;
@@ -65,19 +100,19 @@ module _ {S : Type 0} (disk : S → Disk) (keys : Keys) (most : ℕ) (some : 1 �
         start = (is.found).gates;
         opened = record { head = head; came = came; finds = so.finds; starts = so.starts };
         seen = so.seen;
-        shown = opening_shown disk keys most p old mid new first shown later o is head_shown;
+        shown = record { between = shown; head = head_shown; whole = whole; behind = subst (λ (l : List Note). Shows l shown later) (opened_notes keys p (disk old) (disk mid) (disk new) is.found o is.is) ((is.follows).told [] (is.found).gates).shows };
         stood = λ at tells here. ring_opens_at L disk keys p old mid new is.found o read tells (told (read.keeps.tells tells)) (is.told (read.keeps.tells tells)).found_in stands at here;
       }
 
   -- it was refused
-  pub unopened : {T L : Type 0} (o : Result (Opening L) Fault) (tape_old tape_new : T) (present : ℕ) (drawn : List ℕ) (first shown later : Trace) (refused : Fault) (after : Flow) → Shows (note.Read 0 ∷ []) first shown →
+  pub unopened : {T L : Type 0} (o : Result (Opening L) Fault) (tape_old tape_new : T) (present : ℕ) (drawn : List ℕ) (first shown later : Trace) (refused : Fault) (after : Flow) → Shows (note.Read 0 ∷ []) first shown → shown.broken ≡ false →
       ((c : Image) → (disk old).left_since (disk old).moment c → (disk old).may_leave c)
       → (disk old).faults ≤ (disk mid).faults → IsOpenFault refused → (IsStoreFault refused → Rose (disk mid).faults (disk new).faults) → RefusedDoes keys most p (disk mid) (disk new) shown later refused
       → ((disk mid).tells → IsOpenRefusal keys p (disk mid).cells refused) → ((s : RingStanding) → (disk mid).tells → stand.Stands keys p s (disk mid).cells → IsStandingRefusal s refused)
       → RefusedWrites disk keys p mid new tape_old tape_new present drawn refused → OpeningLeaves {L = L} disk keys p mid new (Err refused)
       → ((word_of : WordId → ℕ) (s : LifeState) → (disk mid).tells → IsLeftAt keys p word_of s None (disk mid).cells → OpensInLife keys most p word_of s None (disk mid) (disk new) shown later false) → EndsEarly ring_kind ring_lives keys most (disk old)
       (disk new) first later disk before after (failed.Fault refused)
-  unopened {T} {L} o tape_old tape_new present drawn first shown later refused after head_shown only further kind cause does refusal stood writes leaves acts =
+  unopened {T} {L} o tape_old tape_new present drawn first shown later refused after head_shown whole only further kind cause does refusal stood writes leaves acts =
       let so = ring_refuses T disk keys most p old mid new tape_old tape_new present drawn shown later refused some read kind does refusal stood writes in
       let either = opens_or_not disk keys p old mid new read.passes read.keeps leaves in
       inr (inr (record {
@@ -90,6 +125,7 @@ module _ {S : Type 0} (disk : S → Disk) (keys : Keys) (most : ℕ) (some : 1 �
         cause = λ is. rose_later (disk old).faults (disk mid).faults (disk new).faults further (cause is);
         seen = so.seen;
         shown = record { mid = mid; later = shown; read = read.seen; keeps = read.keeps; head = head_shown; does = does };
+        behind_head = let (notes, behind) = refused_shown keys most p (disk mid) (disk new) shown later refused does in (notes, record { between = shown; head = head_shown; whole = whole; behind = behind });
         unwritten = so.unwritten;
         left = λ at tells stands all. ring_leaves_standing disk keys p old new only tells all either at stands;
         opens = either;

@@ -38,7 +38,7 @@ use Rattle.ob_vault.specs.KindLives.{LifeWords}
 use Rattle.ob_vault.specs.Shapes.{Shape, refused, shapes}
 use Rattle.ob_conduct.specs.Acts.{calls}
 use Rattle.ob_desk.specs.Beats.{BeatKind}
-use Rattle.ob_top.specs.Runs.{Manner, manner, CameIn, IsInputRefused, EndsEarly, EndsFor, Ran, Went, RunDone, begin_notes}
+use Rattle.ob_top.specs.Runs.{Manner, manner, CameIn, IsInputRefused, EndsEarly, EndsFor, Ran, Went, RunDone}
 use Rattle.ob_top.specs.Complete.{CanFormat, CanRun, DoesWhatItCan, StopsFull, TraceHolds}
 use Rattle.ob_vault.proofs.Standing.{ring_keeps}
 use Rattle.ob_top.proofs.Counted.{one_lanes, one_script}
@@ -109,7 +109,7 @@ module _ (store : StoreKind) (laws : AreStandingLaws store) (life : LifeWords st
 
   early : (most : ℕ) (t u : Trace) (f : RunErr) → t.broken ≡ false → (Rose t.faults u.faults → ⊥) → EndsEarly store life can.keys most (disk old) (disk new) t u disk before.input after.input f → status_of (told_fault (Some f)) ≡ 9
   early most t u failed.Unwatched whole watch (inl head) = absurd (watch (rose_added (lines_of (note.Read 0 ∷ [])) t u head.shown whole head.broken))
-  early most t u failed.Unwatched whole watch (inr opening) = absurd (watch (rose_added (lines_of (begin_notes store opening.p opening.found opening.start)) t u opening.shown whole opening.broken))
+  early most t u failed.Unwatched whole watch (inr opening) = absurd (watch (rose_later t.faults opening.shown.between.faults u.faults opening.shown.head.faults (rose_added (lines_of (store.open_notes opening.p opening.found opening.start)) opening.shown.between u opening.shown.behind opening.shown.whole opening.broken)))
   early most t u (failed.Fault f) whole watch (inl head) =
       absurd (can.store_holds (head.cause (laws.reads_head can.keys can.p ((disk old).cells 0) f (laws.has_head can.keys can.p can.generation (disk old).cells can.at can.stands) head.kind (head.read can.tells))))
   early most t u (failed.Fault f) whole watch (inr (inl input)) = input_told input.p.keys f (many_keys input.p input.head) input.refused
@@ -186,7 +186,7 @@ module _ (store : StoreKind) (laws : AreStandingLaws store) (life : LifeWords st
     answers status None is ran = inl is
     answers status (Some f) is (inl (none, ended, lives)) = inr (inl (is ∙ early by.lanes t u f whole watch ended))
     answers status (Some (failed.Fault f)) is (inr ran) = by_fault status f is ran (ran_fault f ran ran.traced.behind (shapes (calls ran.is_served.served.acts)) (refused (calls ran.is_served.served.acts)) ran.cause)
-    answers status (Some failed.Unwatched) is (inr ran) = absurd (watch ran.cause)
+    answers status (Some failed.Unwatched) is (inr ran) = absurd (watch ran.cause.1)
 
   pub run_answers : (by : Manner) (drawn : List ℕ) (status : ℕ) (t u : Trace) → t.broken ≡ false → (Rose t.faults u.faults → ⊥) → RunDone store life disk by drawn can.keys old new before after t u status → (status ≡ 0) ⊎ ((status ≡ 9) ⊎ StopsFor by drawn status)
   run_answers by drawn status t u whole watch d = answers by drawn d.records t u whole watch status d.err d.status_is d.went

@@ -1,5 +1,5 @@
 -- How what was begun and what was served join into a run.
-use Rattle.std.proofs.Common.{◌≡◌, false, true, ◌≤◌, ◌⊎◌, ℕ, List, [], length, map, Option, Some, None, refl, inl, inr, subst, arith}
+use Rattle.std.proofs.Common.{◌≡◌, false, true, ◌≤◌, ◌⊎◌, ℕ, List, [], length, map, Option, Some, None, refl, inl, inr, subst, arith, ◌∷◌}
 use Rattle.ob_base.specs.declared.params.Params.{Params}
 use Rattle.ob_conduct.specs.declared.run_err.RunErr.{RunErr}
 use Rattle.ob_conduct.specs.declared.run_err.RunErr.TheVariants as failed
@@ -25,10 +25,12 @@ use Rattle.ob_conduct.specs.Acts.{Act, calls}
 use Rattle.ob_conduct.specs.Left.{IsLeftStanding}
 use Rattle.ob_store.proofs.Events.{joined}
 use Rattle.ob_store.proofs.Serving.{rose_later}
+use Rattle.ob_store.proofs.Showing.{shows_then}
+use Rattle.ob_store.specs.declared.watch.Note.TheVariants as note
 use Rattle.ob_serial.specs.Serial.{EpochRecord}
 use Rattle.ob_script.specs.Script.{Scripts}
 use Rattle.ob_top.specs.Outside.{Outside, outside}
-use Rattle.ob_top.specs.Runs.{Manner, EndsEarly, IsOpened, EndsFor, begin_notes, IsLeftOnDisk, LeftByWholeRun, IsReadAndOpened, ServedOver, Ran, Went, RunOn, begin_phases}
+use Rattle.ob_top.specs.Runs.{Manner, EndsEarly, IsOpened, EndsFor, begin_notes, IsLeftOnDisk, LeftByWholeRun, IsReadAndOpened, ServedOver, Ran, Went, RunOn, ShownBehindHead, begin_phases}
 use Rattle.ob_top.proofs.Lines.{Stand, stand_all, stand_unless}
 use Rattle.ob_top.proofs.Living.{whole_lives}
 use Rattle.ob_top.proofs.Sounding.{early_sound, ran_sound}
@@ -68,7 +70,7 @@ module _ (store : StoreKind) (quiet : IsQuiet store) (life : LifeWords store) wh
     -- the store's count rose since an earlier moment too, and so did that of the watch's sink
     pub cause_since : (err : Option RunErr) → EndsFor store keys p found mid h so_far n call words mid new before after midway u err → EndsFor store keys p found mid h so_far n call words old new before after t u err
     cause_since None cause = cause
-    cause_since (Some failed.Unwatched) cause = rose_later t.faults midway.faults u.faults watch_later cause
+    cause_since (Some failed.Unwatched) (broken, rose) = (broken, rose_later t.faults midway.faults u.faults watch_later rose)
     cause_since (Some (failed.Fault Memory)) cause = cause
     cause_since (Some (failed.Fault SinkFault)) cause = cause
     cause_since (Some (failed.Fault (StoreFault unsure))) (rose, which) = (rose_later old.faults mid.faults new.faults later rose, which)
@@ -106,7 +108,7 @@ module _ (store : StoreKind) (quiet : IsQuiet store) (life : LifeWords store) wh
   pub ran : (laws : AreStandingLaws store) {S : Type 0} (disk : S → Disk)
       (counts_now : (x : S) (t : Clock) (c : Image) → NotAfter t (disk x).moment → (disk x).may_leave c → (disk x).left_since t c) (by : Manner) (words : List ℕ) (keys : Keys) (old between new : S) (input input_new output output_new : Flow) (p : Params)
       (script : Scripts) (found : store.Found) (start : store.Start) (sealing : Sealing) (t midway u : Trace) (err : Option RunErr)
-      → Shows (begin_notes store p found start) t midway → midway.broken ≡ false
+      → ShownBehindHead (store.open_notes p found start) t midway → midway.broken ≡ false
       → (disk old).faults ≤ (disk between).faults
       → IsOpened store keys (disk old) input p script found start → ArePhasesMade by.lanes (begin_phases store p found start) (disk old).seen (disk between).seen
       → ((disk old).tells → (disk between).tells × IsSynced (disk between))
@@ -117,6 +119,7 @@ module _ (store : StoreKind) (quiet : IsQuiet store) (life : LifeWords store) wh
       → ServedOver store life disk by keys p found sealing script words between new output output_new midway u err
       → RunOn store life disk by words keys old new (outside input output) (outside input_new output_new) t u err
   ran laws disk counts_now by words keys old between new input input_new output output_new p script found start sealing t midway u err shown whole later opened seen durable stood before opens begun found_so s =
+      let begins : Shows (begin_notes store p found start) t midway = shows_then (note.Read 0 ∷ []) (store.open_notes p found start) t shown.between midway shown.head shown.behind in
       let its : Ran store life disk by words keys old new (outside input output) (outside input_new output_new) t u s.records err = record {
         p = p;
         script = script;
@@ -125,14 +128,14 @@ module _ (store : StoreKind) (quiet : IsQuiet store) (life : LifeWords store) wh
         opened = opened;
         between = between;
         is_served = s.is_served;
-        cause = cause_since keys p found s.traced.behind (shapes (calls s.is_served.served.acts)) (length s.records) (refused (calls s.is_served.served.acts)) words (disk old) (disk between) (disk new) output output_new t midway u later shown.faults err s.cause;
+        cause = cause_since keys p found s.traced.behind (shapes (calls s.is_served.served.acts)) (length s.records) (refused (calls s.is_served.served.acts)) words (disk old) (disk between) (disk new) output output_new t midway u later begins.faults err s.cause;
         events = s.events;
         traced = s.traced;
         opening_seen = seen;
         serving_seen = s.seen;
         seen = joined seen.events s.events (disk old).seen (disk between).seen (disk new).seen seen.noted s.seen;
         midway = midway;
-        opening_shown = shown;
+        opening_shown = begins;
         whole_midway = whole;
         shown = s.shown;
         watched = s.watched;

@@ -58,7 +58,7 @@ use Rattle.ob_outcomes.proofs.Whole.{RunsScripts, is_served, its_acts, its_desk,
 use Rattle.ob_desk.specs.Beats.{BeatKind}
 use Rattle.ob_top.specs.Endings.{err_of, told_fault}
 use Rattle.ob_top.proofs.Lines.{lines_stand, next_by_acts}
-use Rattle.ob_top.specs.Runs.{Manner, manner, EndsWith, EndsFor, IsShown, IsTraced, IsLeftOnDisk, StagedFrom, IsNextEpoch, ComesNext, ServedOver, LivesBehind}
+use Rattle.ob_top.specs.Runs.{Manner, manner, EndsWith, EachShown, EndsFor, IsShown, IsTraced, refused_row, steps_rows, IsLeftOnDisk, StagedFrom, IsNextEpoch, ComesNext, ServedOver, LivesBehind}
 
 -- an end that was refused ended nothing
 none_ended : (writes : List (ℕ × Option (List ℕ))) (refused : EndErr) → ended_by (End writes, end_answer (Err refused)) ≡ []
@@ -75,6 +75,11 @@ counted_ends (w ∷ written) (r ∷ records) (one, are) = ap suc (counted_ends w
 -- a watch that was whole and has broken: its sink's count rose
 rose_broken : (notes : List Note) (t u : Trace) → Shows notes t u → t.broken ≡ false → u.broken ≡ true → Rose t.faults u.faults
 rose_broken notes t u shows whole broken = subst (λ (b : Bool). BreaksOnly false b t.faults u.faults) broken (subst (λ (b : Bool). BreaksOnly b u.broken t.faults u.faults) whole shows.breaks)
+
+-- rows that were shown, and then others
+each_then : (xs ys : List (List Note)) (t m u : Trace) → EachShown xs t m → EachShown ys m u → EachShown (xs ++ ys) t u
+each_then [] ys t m u still rest = subst (λ (x : Trace). EachShown ys x u) still rest
+each_then (x ∷ xs) ys t m u (whole, (between, shown, more)) rest = (whole, (between, shown, each_then xs ys between m u more rest))
 
 all_answered : (steps : List (VaultCall × VaultAnswer)) → AreAnswered steps → AllAnswered steps
 all_answered [] are = tt
@@ -96,7 +101,7 @@ module _ {V S : Type 0} (k : Kind V) (store : StoreKind) (disk : S → Disk) (st
     (at_stop : (calls : List VaultCall) (taken : List (Shape × store.Drawn)) (q : store.Public) (h : store.Hidden) (so_far : List Shape) (n : ℕ) (v : V) → AreDrawn store p (store.hidden p found) calls taken h → At q h so_far n v
     → (call : VaultCall) (answer : VaultAnswer) (w : V) → Called k v call answer w → life.goes_on under p found (disk (store_of start)) calls taken h (Some call) (tape_of w) (disk (store_of w))) where
   -- Behind calls that were all answered: what they drew, what was seen, and where the vault is.
-  pub record Behind (q : store.Public) (h : store.Hidden) (so_far : List Shape) (n : ℕ) (first : V) (steps : List (VaultCall × VaultAnswer)) (notes : List Note) (last : V) : Type 0 where
+  pub record Behind (q : store.Public) (h : store.Hidden) (so_far : List Shape) (n : ℕ) (first : V) (t : Trace) (steps : List (VaultCall × VaultAnswer)) (notes : List Note) (last : V) (u : Trace) : Type 0 where
     pub taken : List (Shape × store.Drawn)
     pub shapes_are : map (λ s. s.0) taken ≡ shapes steps
     pub kept : store.Hidden
@@ -104,9 +109,10 @@ module _ {V S : Type 0} (k : Kind V) (store : StoreKind) (disk : S → Disk) (st
     pub at : At (public_behind store p q taken) kept (so_far ++ shapes steps) (n + length (ended_of steps)) last
     pub seen : ArePhasesMade most (steps_phases store p q taken) (disk (store_of first)).seen (disk (store_of last)).seen
     pub shown : notes ≡ steps_notes store p q taken
+    pub each : EachShown (steps_rows store p q taken) t u
 
-  stays : (q : store.Public) (h : store.Hidden) (so_far : List Shape) (n : ℕ) (v : V) → At q h so_far n v → Behind q h so_far n v [] [] v
-  stays q h so_far n v at = record {
+  stays : (q : store.Public) (h : store.Hidden) (so_far : List Shape) (n : ℕ) (v : V) (t u : Trace) → u ≡ t → At q h so_far n v → Behind q h so_far n v t [] [] v u
+  stays q h so_far n v t u still at = record {
     taken = [];
     shapes_are = refl;
     kept = h;
@@ -114,18 +120,19 @@ module _ {V S : Type 0} (k : Kind V) (store : StoreKind) (disk : S → Disk) (st
     at = subst (λ (l : List Shape). At q h l (n + length {A = List (ℕ × Option (List ℕ))} []) v) (sym (append-nil so_far)) (subst (λ m. At q h so_far m v) (no_more n) at);
     seen = made_none most _ _ (none_noted _);
     shown = refl;
+    each = still;
   }
     where
       no_more : (m : ℕ) → m ≡ m + length {A = List (ℕ × Option (List ℕ))} []
       no_more m = omega arith
 
   -- one call before them
-  before_it : (q : store.Public) (h : store.Hidden) (so_far : List Shape) (n : ℕ) (first mid last : V) (call : VaultCall) (m : ℕ) (step : VaultCall × VaultAnswer) (steps : List (VaultCall × VaultAnswer)) → shapes (step ∷ steps) ≡ shape_of call ∷ shapes steps
+  before_it : (q : store.Public) (h : store.Hidden) (so_far : List Shape) (n : ℕ) (first mid last : V) (t between u : Trace) → t.broken ≡ false → (call : VaultCall) (m : ℕ) (step : VaultCall × VaultAnswer) (steps : List (VaultCall × VaultAnswer)) → shapes (step ∷ steps) ≡ shape_of call ∷ shapes steps
       → answered (step ∷ steps) ≡ call ∷ answered steps
       → m + length (ended_of steps) ≡ n + length (ended_of (step ∷ steps)) → (own more : List Note) (one : IsAnsweredCall store most p At (disk (store_of first)) (disk (store_of mid)) mid q h so_far call m own)
-      → Behind (store.next p q (shape_of call) one.drawn) one.behind (so_far ++ shape_of call ∷ []) m mid steps more last
-      → Behind q h so_far n first (step ∷ steps) (own ++ more) last
-  before_it q h so_far n first mid last call m step steps is are counts own more one b = record {
+      → Shows own t between → Behind (store.next p q (shape_of call) one.drawn) one.behind (so_far ++ shape_of call ∷ []) m mid between steps more last u
+      → Behind q h so_far n first t (step ∷ steps) (own ++ more) last u
+  before_it q h so_far n first mid last t between u whole call m step steps is are counts own more one own_shown b = record {
     taken = (shape_of call, one.drawn) ∷ b.taken;
     shapes_are = ap (λ (l : List Shape). shape_of call ∷ l) b.shapes_are ∙ sym is;
     kept = b.kept;
@@ -134,19 +141,20 @@ module _ {V S : Type 0} (k : Kind V) (store : StoreKind) (disk : S → Disk) (st
         (subst (λ i. At (public_behind store p q ((shape_of call, one.drawn) ∷ b.taken)) b.kept ((so_far ++ shape_of call ∷ []) ++ shapes steps) i last) counts b.at);
     seen = made_join most (store.phases p q (shape_of call) one.drawn) (steps_phases store p (store.next p q (shape_of call) one.drawn) b.taken) _ _ _ one.seen b.seen;
     shown = ap (λ (l : List Note). l ++ more) one.shown ∙ ap (λ (l : List Note). store.notes p q (shape_of call) one.drawn ++ l) b.shown;
+    each = (whole, (between, subst (λ (l : List Note). Shows l t between) one.shown own_shown, b.each));
   }
 
   pub behind : (q : store.Public) (h : store.Hidden) (so_far : List Shape) (n : ℕ) (first : V) (t : Trace) (steps : List (VaultCall × VaultAnswer)) (notes : List Note) (last : V) (u : Trace) → At q h so_far n first → AllNoted k first t steps notes last u →
-      AreAnswered steps → Behind q h so_far n first steps notes last
-  behind q h so_far n first t [] notes last u at (same, none, still) all = subst (λ w. Behind q h so_far n first [] notes w) (sym same) (subst (λ (l : List Note). Behind q h so_far n first [] l first) (sym none) (stays q h so_far n first at))
+      AreAnswered steps → Behind q h so_far n first t steps notes last u
+  behind q h so_far n first t [] notes last u at (same, none, still) all = subst (λ w. Behind q h so_far n first t [] notes w u) (sym same) (subst (λ (l : List Note). Behind q h so_far n first t [] l first u) (sym none) (stays q h so_far n first t u still at))
   behind q h so_far n first t ((Fetch keys, Values values) ∷ steps) notes last u at (mid, between, one, more, are, rest) all =
       let goes = does q h so_far n first (Fetch keys) (Values values) mid at one.one in
-      subst (λ (l : List Note). Behind q h so_far n first ((Fetch keys, Values values) ∷ steps) l last) (sym are)
-      (before_it q h so_far n first mid last (Fetch keys) n (Fetch keys, Values values) steps refl refl refl one.one.notes more goes (behind (store.next p q Fetches goes.drawn) goes.behind (so_far ++ Fetches ∷ []) n mid between steps more last u goes.at rest all))
+      subst (λ (l : List Note). Behind q h so_far n first t ((Fetch keys, Values values) ∷ steps) l last u) (sym are)
+      (before_it q h so_far n first mid last t between u one.whole (Fetch keys) n (Fetch keys, Values values) steps refl refl refl one.one.notes more goes one.shown (behind (store.next p q Fetches goes.drawn) goes.behind (so_far ++ Fetches ∷ []) n mid between steps more last u goes.at rest all))
   behind q h so_far n first t ((End writes, Ended) ∷ steps) notes last u at (mid, between, one, more, are, rest) all =
       let goes = does q h so_far n first (End writes) Ended mid at one.one in
-      subst (λ (l : List Note). Behind q h so_far n first ((End writes, Ended) ∷ steps) l last) (sym are)
-      (before_it q h so_far n first mid last (End writes) (suc n) (End writes, Ended) steps refl refl (one_more n (length (ended_of steps))) one.one.notes more goes
+      subst (λ (l : List Note). Behind q h so_far n first t ((End writes, Ended) ∷ steps) l last u) (sym are)
+      (before_it q h so_far n first mid last t between u one.whole (End writes) (suc n) (End writes, Ended) steps refl refl (one_more n (length (ended_of steps))) one.one.notes more goes one.shown
       (behind (store.next p q Ends goes.drawn) goes.behind (so_far ++ Ends ∷ []) (suc n) mid between steps more last u goes.at rest all))
     where
       one_more : (i j : ℕ) → suc i + j ≡ i + suc j
@@ -158,14 +166,14 @@ module _ {V S : Type 0} (k : Kind V) (store : StoreKind) (disk : S → Disk) (st
   behind q h so_far n first t ((End writes, RefusedBy fault) ∷ steps) notes last u at chain all = absurd all
   behind q h so_far n first t ((End writes, DoubtBy fault) ∷ steps) notes last u at chain all = absurd all
 
-  -- a last call with these notes
-  abbrev CalledWith : V → VaultCall → VaultAnswer → V → List Note → Type 0
-  CalledWith mid call answer last own = (one : Called k mid call answer last) × (one.notes ≡ own)
+  -- a last call with these notes, made under a whole watch
+  abbrev CalledWith : V → Trace → VaultCall → VaultAnswer → V → Trace → List Note → Type 0
+  CalledWith mid at call answer last u own = (one : Called k mid call answer last) × (one.notes ≡ own) × (at.broken ≡ false) × Shows own at u
 
   split : (first : V) (t : Trace) (front : List (VaultCall × VaultAnswer)) (call : VaultCall) (answer : VaultAnswer) (notes : List Note) (last : V) (u : Trace) → AllNoted k first t (front ++ (call, answer) ∷ []) notes last u
-      → (mid : V) × (between : Trace) × (before : List Note) × (own : List Note) × AllNoted k first t front before mid between × CalledWith mid call answer last own × (notes ≡ before ++ own)
+      → (mid : V) × (between : Trace) × (before : List Note) × (own : List Note) × AllNoted k first t front before mid between × CalledWith mid between call answer last u own × (notes ≡ before ++ own)
   split first t [] call answer notes last u (end, between, one, more, are, (same, none, still)) =
-      (first, t, [], one.one.notes, (refl, refl, refl), subst (λ w. CalledWith first call answer w one.one.notes) (sym same) (one.one, refl), are ∙ ap (λ (l : List Note). one.one.notes ++ l) none ∙ append-nil one.one.notes)
+      (first, t, [], one.one.notes, (refl, refl, refl), subst (λ w. CalledWith first t call answer w u one.one.notes) (sym same) (one.one, refl, one.whole, subst (λ (x : Trace). Shows one.one.notes t x) (sym still) one.shown), are ∙ ap (λ (l : List Note). one.one.notes ++ l) none ∙ append-nil one.one.notes)
   split first t (step ∷ front) call answer notes last u (next, between, one, more, are, rest) =
       let (mid, at, before, own, chain, last_one, joined) = split next between front call answer more last u rest in (
         mid,
@@ -232,6 +240,7 @@ module _ {V S : Type 0} (k : Kind V) (store : StoreKind) (disk : S → Disk) (st
             last = [];
             cut = cut.1;
             shows = subst (λ (l : List Note). Shows l t u) (b.shown ∙ sym (append-nil (steps_notes store p (store.public p found) b.taken))) (all_shown k first t asked notes last u chain);
+            each = each_then (steps_rows store p (store.public p found) b.taken) (refused_row (refused asked) []) t u u b.each (subst (λ (o : Option VaultCall). EachShown (refused_row o []) u u) (sym none) refl);
           };
           goes_on = subst (λ (o : Option VaultCall). life.goes_on under p found (disk (store_of start)) (answered asked) b.taken b.kept o (tape_of last) (disk (store_of last))) (sym none)
               (at_rest (answered asked) b.taken (public_behind store p (store.public p found) b.taken) b.kept (shapes asked) (0 + length (ended_of asked)) last b.drawn b.at);
@@ -264,7 +273,7 @@ module _ {V S : Type 0} (k : Kind V) (store : StoreKind) (disk : S → Disk) (st
           → ((q : store.Public) (h : store.Hidden) (so_far : List Shape) (n : ℕ) (v : V) (w : V) → At q h so_far n v → (one : Called k v call answer w) → Stops store under most p found (disk (store_of start)) (disk (store_of v)) (disk (store_of w)) (tape_of w) q h so_far n call fault one.notes)
           → (IsStoreFault fault → Rose (k.disk first).faults (k.disk last).faults) → Ending (front ++ (call, answer) ∷ []) (Some (failed.Fault fault))
       cut_short front call answer fault notes chain all wrote is none none_answered stops cause =
-          let (mid, between, front_notes, own, before_last, (one, own_is), joined) = split first t front call answer notes last u chain in
+          let (mid, between, front_notes, own, before_last, (one, own_is, whole, own_shown), joined) = split first t front call answer notes last u chain in
           let b = behind (store.public p found) (store.hidden p found) [] 0 first t front front_notes mid between begun before_last all in
           let q = public_behind store p (store.public p found) b.taken in
           let s = stops q b.kept (shapes front) (0 + length (ended_of front)) mid last b.at one in
@@ -295,6 +304,8 @@ module _ {V S : Type 0} (k : Kind V) (store : StoreKind) (disk : S → Disk) (st
               shows = subst (λ (l : List Note). Shows l t u)
                   (joined ∙ ap (λ (l : List Note). l ++ own) b.shown ∙ ap (λ (l : List Note). steps_notes store p (store.public p found) b.taken ++ l) (sym own_is))
                   (all_shown k first t (front ++ (call, answer) ∷ []) notes last u chain);
+              each = each_then (steps_rows store p (store.public p found) b.taken) (refused_row (refused (front ++ (call, answer) ∷ [])) one.notes) t between u b.each
+                  (subst (λ (o : Option VaultCall). EachShown (refused_row o one.notes) between u) (sym was_cut) (whole, (u, subst (λ (l : List Note). Shows l between u) (sym own_is) own_shown, refl)));
             };
             goes_on = subst (λ (l : List VaultCall). life.goes_on under p found (disk (store_of start)) l b.taken b.kept (refused (front ++ (call, answer) ∷ [])) (tape_of last) (disk (store_of last))) (sym calls_front)
                 (subst (λ (o : Option VaultCall). life.goes_on under p found (disk (store_of start)) (answered front) b.taken b.kept o (tape_of last) (disk (store_of last))) (sym was_cut)
@@ -338,7 +349,7 @@ module _ {V S : Type 0} (k : Kind V) (store : StoreKind) (disk : S → Disk) (st
 
           -- it stopped for a watch that broke
           by_watch : AreAnswered (calls acts) → u.broken ≡ true → Ending (calls acts) (Some failed.Unwatched)
-          by_watch all broken = ends_alone (calls acts) notes chain all (Some failed.Unwatched) (λ h. rose_broken notes t u (all_shown k first t (calls acts) notes last u chain) unbroken broken)
+          by_watch all broken = ends_alone (calls acts) notes chain all (Some failed.Unwatched) (λ h. (broken, rose_broken notes t u (all_shown k first t (calls acts) notes last u chain) unbroken broken))
 
           by_act : (act : Act) → f.act ≡ act → IsReason k (scene d first t) f.front act u → AreLines act records before after → Ending (calls acts) (Some err)
           by_act (Halts given) is reason lines = its_err (Halts given) (failed.Fault Memory) is (ap (λ (x : Fault). Some (failed.Fault x)) reason) (ends_alone (calls acts) notes chain (answered_all (Halts given) is refl) (Some (failed.Fault Memory)) (λ h. tt))

@@ -146,7 +146,7 @@ module _ (p : Params) (numbers : numbers_of p ≡ drill_numbers) where
     -- a run was
     pub run_wants : (h : RingHidden) (behind : List Shape) (m : ℕ) (call : Option VaultCall) (words : List ℕ) (old : Disk) (err : RunErr) → m ≤ 20000 → EndsFor ring_kind keys p f opened h behind m call words old now no_output no_output blind blind (Some err)
         → (fault_of err ≡ fault.Memory) ⊎ IsStoreFault (fault_of err)
-    run_wants h behind m call words old failed.Unwatched few cause = absurd (omega (arith, cause))
+    run_wants h behind m call words old failed.Unwatched few (broken, rose) = absurd (omega (arith, rose))
     run_wants h behind m call words old (failed.Fault fault.Memory) few cause = inl refl
     run_wants h behind m call words old (failed.Fault (fault.StoreFault unsure)) few cause = inr tt
     run_wants h behind m call words old (failed.Fault fault.SinkFault) few cause = absurd (omega (arith, cause))

@@ -15,15 +15,15 @@ use Rattle.ob_store.specs.Disk.{Disk}
 use Rattle.ob_twin.specs.Opening.{GatesAre}
 use Rattle.ob_twin.specs.declared.gates.Gates.{Gates}
 use Rattle.ob_opening.specs.declared.opening.Opening.{Opening}
-use Rattle.ob_store.specs.Lines.{Shows, Trace}
-use Rattle.ob_top.specs.Runs.{IsOpened, begin_notes, begin_phases}
+use Rattle.ob_store.specs.Lines.{Trace}
+use Rattle.ob_top.specs.Runs.{IsOpened, ShownBehindHead, begin_phases}
 
 -- as many lanes as a run may have
 abbrev pub AreFewLanes : ℕ → Type 0
 AreFewLanes most = (1 ≤ most) × (most ≤ 16)
 
 -- This was found: the run goes on from it, with a planner that has shown its batches; the head's read and the opening were seen, by so many
--- lanes, and shown to the watch; and where the store stood it stands on.
+-- lanes, and shown to the watch, which was whole between them; and where the store stood it stands on.
 pub record IsBegun (keys : Keys) (most : ℕ) (p : Params) (script : Scripts) (old new : Disk) (t u : Trace) (before : Flow) (f : RingFound) : Type 0 where
   pub found : Found
   pub goes_on : GoesOnFrom keys p found f
@@ -31,7 +31,7 @@ pub record IsBegun (keys : Keys) (most : ℕ) (p : Params) (script : Scripts) (o
   pub start : Gates
   pub opened : IsOpened ring_kind keys old before p script f start
   pub seen : ArePhasesMade most (begin_phases ring_kind p f start) old.seen new.seen
-  pub shown : Shows (begin_notes ring_kind p f start) t u
+  pub shown : ShownBehindHead (ring_kind.open_notes p f start) t u
   pub stood : (at : Standing) → old.tells → Stands ring_kind keys p old.cells at → IsOpenedAt ring_kind keys p at f new
 
 -- A vault with so many lanes may be made of the opening, over the store and the tape as they are.

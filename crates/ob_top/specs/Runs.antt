@@ -71,13 +71,36 @@ pub record IsTraced (store : StoreKind) (most : ℕ) (p : Params) (q : store.Pub
 abbrev pub begin_notes : (store : StoreKind) → Params → store.Found → store.Start → List Note
 begin_notes store p found start = note.Read 0 ∷ store.open_notes p found start
 
+-- The head's read was shown, behind which the watch was whole, and then these notes were.
+pub record ShownBehindHead (notes : List Note) (before after : Trace) : Type 0 where
+  pub between : Trace
+  pub head : Shows (note.Read 0 ∷ []) before between
+  pub whole : between.broken ≡ false
+  pub behind : Shows notes between after
+
+-- The notes of each of the vault's calls that were answered,
+abbrev pub steps_rows : (store : StoreKind) → Params → store.Public → List (Shape × store.Drawn) → List (List Note)
+steps_rows store p q [] = []
+steps_rows store p q (step ∷ steps) = store.notes p q step.0 step.1 ∷ steps_rows store p (store.next p q step.0 step.1) steps
+
+-- and those of one that was refused, where one was.
+abbrev pub refused_row : Option VaultCall → List Note → List (List Note)
+refused_row None notes = []
+refused_row (Some call) notes = notes ∷ []
+
+-- Rows of notes were shown one behind the other, and the watch was whole before each of them.
+abbrev pub EachShown : List (List Note) → Trace → Trace → Type 0
+EachShown [] before after = after ≡ before
+EachShown (row ∷ rows) before after = (before.broken ≡ false) × ((between : Trace) × Shows row before between × EachShown rows between after)
+
 -- What the watch was shown of serving, beside what is seen of it: the notes of the vault's calls, one behind the other, filled by what they
--- drew, and of a call that was refused what its fault allows.
+-- drew, and of a call that was refused what its fault allows. Each call was made under a watch that was whole.
 pub record IsShown (store : StoreKind) (most : ℕ) (p : Params) (q : store.Public) (h : store.Hidden) (words : List ℕ) (asked : List (VaultCall × VaultAnswer)) (fault : Option Fault) (events : List Event)
     (traced : IsTraced store most p q h words asked fault events) (before after : Trace) : Type 0 where
   pub last : List Note
   pub cut : IsCutShown store most p (public_behind store p q traced.steps) traced.behind (refused asked) words fault traced.more traced.cut last
   pub shows : Shows (steps_notes store p q traced.steps ++ last) before after
+  pub each : EachShown (steps_rows store p q traced.steps ++ refused_row (refused asked) last) before after
 
 -- a script came in
 pub record CameIn (keys : ℕ) (before : Flow) (script : Scripts) : Type 0 where
@@ -116,7 +139,7 @@ module _ (store : StoreKind) (life : LifeWords store) (keys : Keys) (most : ℕ)
     pub seen : NotesReads {V = Params} (event.Read 0 ∷ []) old.seen new.seen (Err fault)
     pub shown : DoesReads {V = Params} (note.Read 0 ∷ []) old.seen new.seen t u (Err fault)
 
-  -- The input was refused, once the head was read.
+  -- The input was refused, once the head was read, behind which the watch is whole.
   pub record StopsAtInput (before after : Flow) (fault : Fault) : Type 0 where
     pub p : Params
     pub head : old.tells → store.is_head keys p (old.cells 0)
@@ -126,6 +149,7 @@ module _ (store : StoreKind) (life : LifeWords store) (keys : Keys) (most : ℕ)
     pub passes : Passes Same old new
     pub seen : Notes (event.Read 0 ∷ []) old.seen new.seen
     pub shown : Shows (note.Read 0 ∷ []) t u
+    pub whole : u.broken ≡ false
 
   -- Opening was refused, once the script had come in.
   pub record StopsAtOpening {S : Type 0} (disk : S → Disk) (before : Flow) (fault : Fault) : Type 0 where
@@ -138,6 +162,8 @@ module _ (store : StoreKind) (life : LifeWords store) (keys : Keys) (most : ℕ)
     pub cause : IsStoreFault fault → Rose old.faults new.faults
     pub seen : store.opens_partly keys most p old new fault
     pub shown : store.opens_shown disk keys most p old new t u fault
+    -- behind the head's read the watch was whole
+    pub behind_head : (notes : List Note) × ShownBehindHead notes t u
     -- unless it may have begun the next generation, no cell is written, and a crash leaves what it might have left before
     pub unwritten : (store.may_begin fault → ⊥) → Keeps old new × Passes Same old new
     -- each image that a crash leaves stands as one did before; and from the first sync on for what the store stood for
@@ -158,7 +184,7 @@ module _ (store : StoreKind) (life : LifeWords store) (keys : Keys) (most : ℕ)
     pub shown : Shows (note.Read 0 ∷ []) t u
     pub broken : u.broken ≡ true
 
-  -- It broke in the opening, which was finished.
+  -- It was whole behind the head's read, and broke in the opening, which was finished.
   pub record BreaksAtOpening {S : Type 0} (disk : S → Disk) (before : Flow) : Type 0 where
     pub p : Params
     pub script : Scripts
@@ -166,7 +192,7 @@ module _ (store : StoreKind) (life : LifeWords store) (keys : Keys) (most : ℕ)
     pub start : store.Start
     pub opened : IsOpened store keys old before p script found start
     pub seen : ArePhasesMade most (begin_phases store p found start) old.seen new.seen
-    pub shown : Shows (begin_notes store p found start) t u
+    pub shown : ShownBehindHead (store.open_notes p found start) t u
     pub broken : u.broken ≡ true
     -- where the store stood, the opened store stands for that, whatever crashes
     pub stood : (at : Standing) → old.tells → Stands store keys p old.cells at → IsOpenedAt store keys p at found new
@@ -179,13 +205,13 @@ module _ (store : StoreKind) (life : LifeWords store) (keys : Keys) (most : ℕ)
   EndsEarly disk before after (failed.Fault fault) = StopsAtHead before after fault ⊎ StopsAtInput before after fault ⊎ StopsAtOpening disk before fault
   EndsEarly disk before after failed.Unwatched = BreaksAtHead before after ⊎ BreaksAtOpening disk before
 
--- Why serving ended: the script did; memory was wanting; the output failed; the watch's sink did; the store failed, perhaps at the last
+-- Why serving ended: the script did; memory was wanting; the output failed; the watch's sink did, and it broke; the store failed, perhaps at the last
 -- write or sync of the end of the epoch behind n; or the vault refused this call for a cause of its kind, from what was hidden behind calls of these shapes.
 abbrev pub EndsFor : (store : StoreKind) → Keys → Params → store.Found → (opened : Disk) → store.Hidden → List Shape → ℕ → Option VaultCall → (words : List ℕ) → Disk → Disk → Flow → Flow → Trace → Trace → Option RunErr → Type 0
 EndsFor store keys p found opened h behind n call words old new before after t u None = Unit {0}
 EndsFor store keys p found opened h behind n call words old new before after t u (Some (failed.Fault Memory)) = Unit {0}
 EndsFor store keys p found opened h behind n call words old new before after t u (Some (failed.Fault SinkFault)) = Rose before.faults after.faults
-EndsFor store keys p found opened h behind n call words old new before after t u (Some failed.Unwatched) = Rose t.faults u.faults
+EndsFor store keys p found opened h behind n call words old new before after t u (Some failed.Unwatched) = (u.broken ≡ true) × Rose t.faults u.faults
 EndsFor store keys p found opened h behind n call words old new before after t u (Some (failed.Fault (StoreFault unsure))) = Rose old.faults new.faults × ((unsure ≡ None) ⊎ (unsure ≡ Some (suc (store.epoch found + n))))
 EndsFor store keys p found opened h behind n call words old new before after t u (Some (failed.Fault fault)) = store.causes keys p found opened new h behind n call words fault
 

@@ -48,6 +48,7 @@ returns-in-Err-read_script-clause-refused g c = inr (inl (record {
   passes = c.in-Ok.ensures.passes;
   seen = c.in-Ok.ensures.does.seen;
   shown = c.in-Ok.ensures.does.shows;
+  whole = c.in-Ok-still_watched.ensures;
 }))
 
 pub returns-in-Err-runners-clause-refused : goal.returns-in-Err-runners-clause-refused
@@ -59,6 +60,7 @@ returns-in-Err-runners-clause-refused g c = inr (inl (record {
   passes = c.in-Ok.ensures.passes;
   seen = c.in-Ok.ensures.does.seen;
   shown = c.in-Ok.ensures.does.shows;
+  whole = c.in-Ok-still_watched.ensures;
 }))
 
 pub returns-in-Ok-prepare-clause-begun : goal.returns-in-Ok-prepare-clause-begun
@@ -68,7 +70,7 @@ returns-in-Ok-prepare-clause-begun g c =
       found_ring e.opened.found c.in-Ok-prepare.opening,
       refl,
       begun (λ s. g.S.Store.disk s) c.args.keys.now c.args.lanes c.requires.lanes.0 c.in-Ok.params c.in-Ok-read_script.scripts _ c.args.store.now c.head.new.store c.prepare.new.store head.value (record { keeps = head.keeps; passes = head.passes; seen = head.does.seen })
-          c.in-Ok-read_script.ensures.came _ _ _ c.in-Ok-prepare.opening e.opened e.serves.tells e.stands head.does.shows,
+          c.in-Ok-read_script.ensures.came _ _ _ c.in-Ok-prepare.opening e.opened e.serves.tells e.stands head.does.shows c.in-Ok-still_watched.ensures,
     )
 
 pub returns-in-Ok-prepare-clause-serves : goal.returns-in-Ok-prepare-clause-serves
@@ -100,7 +102,7 @@ returns-in-Err-prepare-clause-refused g c =
     let head = c.in-Ok.ensures in
     let e = c.in-Err-prepare.ensures in
     unopened (λ s. g.S.Store.disk s) c.args.keys.now c.args.lanes c.requires.lanes.0 c.in-Ok.params c.in-Ok-read_script.scripts _ c.args.store.now c.head.new.store c.prepare.new.store head.value (record { keeps = head.keeps; passes = head.passes; seen = head.does.seen })
-    c.in-Ok-read_script.ensures.came c.prepare.result _ _ _ _ _ _ _ c.in-Err-prepare.fault _ head.does.shows (g.met.S.Store.only_now c.args.store.now) head.serves.goes.faults e.faults e.serves.cause e.does_err e.refused e.stands e.unwritten e.leaves
+    c.in-Ok-read_script.ensures.came c.prepare.result _ _ _ _ _ _ _ c.in-Err-prepare.fault _ head.does.shows c.in-Ok-still_watched.ensures (g.met.S.Store.only_now c.args.store.now) head.serves.goes.faults e.faults e.serves.cause e.does_err e.refused e.stands e.unwritten e.leaves
     (λ word_of s told at. e.acts word_of s None told at)
 
 -- ---- the life of the store
