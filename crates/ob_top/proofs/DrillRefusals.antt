@@ -1,8 +1,8 @@
--- A self-test over a ring vault is refused for want of memory, or by its store.
+-- What a self-test does over a ring vault; and that it is refused for want of memory, or by its store.
 use Rattle.std.specs.Borrow.{GName}
 use Rattle.std.specs.FinMap.{empty}
 use Rattle.ob_base.specs.Causes.{Rose}
-use Rattle.std.proofs.Common.{◌≡◌, ◌∙◌, ◌⊎◌, ◌+◌, ◌≤◌, ℕ, true, List, [], ◌∷◌, ◌++◌, length, Result, Ok, Err, IfErr, refl, sym, ap, subst, arith, inl, inr}
+use Rattle.std.proofs.Common.{◌≡◌, ◌∙◌, ◌⊎◌, ◌+◌, ◌*◌, ◌≤◌, ℕ, true, List, [], ◌∷◌, ◌++◌, length, Result, Ok, Err, IfErr, None, refl, sym, ap, subst, arith, inl, inr}
 use Rattle.ob_base.specs.declared.fault.Fault.{Fault}
 use Rattle.ob_base.specs.declared.fault.Fault.TheVariants.{Memory}
 use Rattle.ob_base.specs.declared.params.Params.{Params}
@@ -38,13 +38,18 @@ use Rattle.ob_conduct.specs.Records.{AreAnswered}
 use Rattle.ob_conduct.proofs.Going.{answered_join}
 use Rattle.ob_outcomes.proofs.Counting.{few_epochs, few_txns}
 use Rattle.ob_drill.specs.Reading.{ChangesNone, IsRefusal}
-use Rattle.ob_top.specs.Drilling.{DrillFails, IsWant, no_output}
+use Rattle.ob_top.specs.Drilling.{DrillFails, HasDrilled, IsWant, WasRun, no_output}
+use Rattle.ob_top.specs.Endings.{err_of}
+use Rattle.ob_top.specs.Runs.{ServedOver, manner}
+use Rattle.ob_top.specs.SelfTests.{IsServedAndRead}
+use Rattle.ob_top.specs.declared.drill.Drilled.{Drilled}
+use Rattle.ob_conduct.specs.declared.run_err.RunErr.{RunErr}
 use Rattle.ob_top.specs.Drills.{drill_numbers}
 use Rattle.ob_top.specs.Outside.{blind}
 use Rattle.ob_top.proofs.Lent.{IsLent, rest_same, serves_lent}
 use Rattle.ob_top.proofs.RingServing.{at_rest, at_stop, tells}
-use Rattle.ob_top.proofs.SelfTest.{holds_behind, its, its_length, keys_are, reads_called}
-use Rattle.ob_top.proofs.Serving.{behind, counted_ends}
+use Rattle.ob_top.proofs.SelfTest.{holds_behind, all_committed, its, its_length, keys_are, reads_called}
+use Rattle.ob_top.proofs.Serving.{Behind, CallsBehind, behind, counted_ends}
 use Rattle.ob_top.proofs.Wanting.{blind_chain, call_wants, chained, few_ended, reads_answered, run_wants}
 
 ended_join : (xs ys : List (VaultCall × VaultAnswer)) → length (ended_of (xs ++ ys)) ≤ length (ended_of xs) + length ys
@@ -57,6 +62,10 @@ ended_join ((Fetch keys, Ended) ∷ xs) ys = let f = ended_join xs ys in omega (
 ended_join ((Fetch keys, Values values) ∷ xs) ys = let f = ended_join xs ys in omega (arith, f)
 ended_join ((Fetch keys, RefusedBy fault) ∷ xs) ys = let f = ended_join xs ys in omega (arith, f)
 ended_join ((Fetch keys, DoubtBy fault) ∷ xs) ys = let f = ended_join xs ys in omega (arith, f)
+
+-- what goes on of the store that a vault was lent
+pub lent_goes : (a b c d : GName) (x y : Disk) → GoesOn (lent_both a b x) (lent_both c d y) → GoesOn x y
+lent_goes a b c d x y both = record { anchors = rest_same _ _ _ _ (rest_same _ _ _ _ both.anchors); faults = both.faults; later = both.later; kept = both.kept; told = both.told; leaves = both.leaves; seen = both.seen }
 
 module _ {V S : Type 0} (k : Kind V) (counts : V → VaultCounts) (agrees : (x : V) (u : VaultState) → k.holds x u → counts_of u ≡ counts x) (disk : S → Disk) (counts_now : (x : S) (t : Clock) (c : Image) → NotAfter t (disk x).moment → (disk x).may_leave c → (disk x).left_since t c)
     (only_now : (x : S) (c : Image) → (disk x).left_since (disk x).moment c → (disk x).may_leave c) (runs : V → Running S) (words : HasRingWords k disk runs) (lent : IsLent k disk runs) (keys : Keys) (p : Params) (numbers : numbers_of p ≡ drill_numbers)
@@ -77,13 +86,19 @@ module _ {V S : Type 0} (k : Kind V) (counts : V → VaultCounts) (agrees : (x :
   held : k.holds first (held_with f.run empty)
   held = holding (held_with f.run empty) (holds_found keys p f opened empty goes.serving is_map)
 
+  -- where the vault is behind calls that were answered, and what was seen of them
+  behind_blind : (steps : List (VaultCall × VaultAnswer)) (last : V) → (chain : AllCalled k first steps last) → AreAnswered steps
+      → Behind k ring_kind disk (λ v. (runs v).store) keys 4 p f first At (λ v. (runs v).drawn) (ring_does k disk runs words keys 4 p f opened) (tells k disk counts_now only_now runs words keys 4 p f first) ring_lives (at_rest k disk counts_now only_now runs words keys 4 p f first)
+      (at_stop k disk counts_now only_now runs words keys 4 p f first) (ring_public p f) (ring_hidden f) [] 0 first blind steps (blind_chain k first steps last chain).0 last blind
+  behind_blind steps last chain all =
+      behind k ring_kind disk (λ v. (runs v).store) keys 4 p f first At (λ v. (runs v).drawn) (ring_does k disk runs words keys 4 p f opened) (tells k disk counts_now only_now runs words keys 4 p f first) ring_lives (at_rest k disk counts_now only_now runs words keys 4 p f first)
+      (at_stop k disk counts_now only_now runs words keys 4 p f first) (ring_public p f) (ring_hidden f) [] 0 first blind steps (blind_chain k first steps last chain).0 last blind begun (blind_chain k first steps last chain).1 all
+
   -- a call was refused behind calls that were answered
   refused_behind : (steps : List (VaultCall × VaultAnswer)) (mid : V) → AllCalled k first steps mid → AreAnswered steps → length (ended_of steps) ≤ 20000 → (call : VaultCall) (answer : VaultAnswer) (last : V) (fault : Fault) → Called k mid call answer last → ChangesNone call → IsRefusal fault answer
       → (fault ≡ Memory) ⊎ IsStoreFault fault
   refused_behind steps mid chain all few call answer last fault one none_changed is =
-      let noted = blind_chain k first steps mid chain in
-      let b = behind k ring_kind disk (λ v. (runs v).store) keys 4 p f first At (λ v. (runs v).drawn) (ring_does k disk runs words keys 4 p f opened) (tells k disk counts_now only_now runs words keys 4 p f first) ring_lives (at_rest k disk counts_now only_now runs words keys 4 p f first)
-      (at_stop k disk counts_now only_now runs words keys 4 p f first) (ring_public p f) (ring_hidden f) [] 0 first blind steps noted.0 mid blind begun noted.1 all in
+      let b = behind_blind steps mid chain all in
       let does = ring_does k disk runs words keys 4 p f opened _ b.kept ([] ++ shapes steps) (0 + length (ended_of steps)) mid call answer last b.at one in
       let (u, holds, serving) = b.at.held empty is_map in
       by_call one.notes _ u.content b.kept ([] ++ shapes steps) (0 + length (ended_of steps)) (omega (arith, few)) call answer none_changed is does (one.answered u holds)
@@ -103,10 +118,34 @@ module _ {V S : Type 0} (k : Kind V) (counts : V → VaultCounts) (agrees : (x :
     many_txns : length script.txns ≡ n
     many_txns = ap (λ (s : Scripts). length s.txns) script_is ∙ its_length n
 
+    -- the script was served as `run` serves one
+    served_as : (mid : V) (result : Result (Unit {0}) RunErr) → WasRun k counts beat p script runners first mid result
+        → (s : ServedOver ring_kind ring_lives disk (manner beat true 4) keys p f (f.run).sealer script (runs mid).drawn (runs first).store (runs mid).store no_output no_output blind blind (err_of result))
+        × CallsBehind k first (calls s.is_served.served.acts) mid (err_of result)
+    served_as mid result run =
+        serves_lent first k beat true p script blind runners no_output mid blind run.ran no_output result _ _ (run.desk, run.by) refl (subst AreSound (sym script_is) (drill_sound n)) are disk counts_now only_now runs words lent keys 4 found f f.run goes run_is refl epoch_is left_is
+        (omega (arith, begins)) (omega (arith, left)) lanes (omega arith, omega arith) has none
+
+    -- all was served, and then read
+    pub served_and_read : (last : V) (d : Drilled) → HasDrilled k counts beat p script runners first last d → IsServedAndRead disk beat keys p n f (runs first).store (runs last).store
+    served_and_read last d h =
+        let (s, its) = subst (λ (x : Scripts). (s : ServedOver ring_kind ring_lives disk (manner beat true 4) keys p f (f.run).sealer x (runs h.mid).drawn (runs first).store (runs h.mid).store no_output no_output blind blind None) × CallsBehind k first (calls s.is_served.served.acts) h.mid None) script_is (served_as h.mid (Ok tt) h.run) in
+        let asked = calls s.is_served.served.acts in
+        let reads = h.reads.steps in
+        let read = reads_called k h.mid blind reads last blind h.reads.chain in
+        let all = answered_join asked reads (its.answered refl) (reads_answered k h.mid _ reads last (holds_behind k first asked h.mid _ its.called held) read h.reads.reads) in
+        let b = behind_blind (asked ++ reads) last (chained k first asked h.mid reads last its.called read) all in
+        record {
+          between = (runs h.mid).store;
+          words = (runs h.mid).drawn;
+          served = s;
+          committed = λ patient. all_committed p numbers n few beat keys opened f left is_map s.records s.is_served patient;
+          read = record { reads = reads; few = h.reads.few; reading = h.reads.reads; steps = b.taken; shapes_are = b.shapes_are; behind = b.kept; drawn = b.drawn; seen = b.seen };
+        }
+
     pub drill_wants : (last : V) (fault : Fault) → DrillFails k counts beat p script runners first last fault → (fault ≡ Memory) ⊎ IsStoreFault fault
     drill_wants last fault (inl (err, run, same)) =
-        let s = serves_lent first k beat true p script blind runners no_output last blind run.ran no_output (Err err) _ _ (run.desk, run.by) refl (subst AreSound (sym script_is) (drill_sound n)) are disk counts_now only_now runs words lent keys 4 found f f.run goes run_is refl epoch_is left_is
-        (omega (arith, begins)) (omega (arith, left)) lanes (omega arith, omega arith) has none in
+        let s = (served_as last (Err err) run).0 in
         let epochs = few_epochs s.records s.is_served.served.some in
         let txns = few_txns script.txns s.records s.is_served.served.first in
         subst (λ (x : Fault). (x ≡ Memory) ⊎ IsStoreFault x) (sym same) (run_wants p numbers keys f opened (disk (runs last).store) begins is_map s.traced.behind (shapes (calls s.is_served.served.acts)) (length s.records)
@@ -123,10 +162,6 @@ module _ {V S : Type 0} (k : Kind V) (counts : V → VaultCounts) (agrees : (x :
         refused_behind (calls i.acts ++ r.behind.steps) r.mid (chained k first (calls i.acts) mid r.behind.steps r.mid i.chain read)
         (answered_join (calls i.acts) r.behind.steps i.answered (reads_answered k mid _ r.behind.steps r.mid (holds_behind k first (calls i.acts) mid _ i.chain held) read r.behind.reads))
         (omega (arith, ends, joined, short, ended, few, bound)) r.call r.answer last fault r.one r.reads r.refused
-
--- what the store that the vault was lent is wanted for
-pub lent_goes : (a b c d : GName) (x y : Disk) → GoesOn (lent_both a b x) (lent_both c d y) → GoesOn x y
-lent_goes a b c d x y both = record { anchors = rest_same _ _ _ _ (rest_same _ _ _ _ both.anchors); faults = both.faults; later = both.later; kept = both.kept; told = both.told; leaves = both.leaves; seen = both.seen }
 
 pub want_is : (old new : Disk) (refused : Fault) → (refused ≡ Memory) ⊎ IsStoreFault refused → (IsStoreFault refused → Rose old.faults new.faults) → IsWant old new refused
 want_is old new refused (inl memory) cause = inl memory

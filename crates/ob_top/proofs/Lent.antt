@@ -41,7 +41,9 @@ use Rattle.ob_conduct.specs.Records.{AreAnswered}
 use Rattle.ob_top.specs.Endings.{err_of}
 use Rattle.ob_top.specs.Runs.{manner, ServedOver}
 use Rattle.ob_top.proofs.Opens.{may_open}
+use Rattle.ob_conduct.specs.Acts.{calls}
 use Rattle.ob_top.proofs.RingServing.{IsRingLender, ring_serves}
+use Rattle.ob_top.proofs.Serving.{CallsBehind}
 
 pub rest_same : (a b : GName) (xs ys : List GName) → ◌≡◌ {A = List GName} (a ∷ xs) (b ∷ ys) → xs ≡ ys
 rest_same a b xs ys is = cc is
@@ -124,7 +126,8 @@ pub serves_lent : {V S : Type 0} (first : V) (k : Kind V) (beat : BeatKind) (thr
     (only_now : (x : S) (c : Image) → (disk x).left_since (disk x).moment c → (disk x).may_leave c) (runs : V → Running S) → HasRingWords k disk runs → IsLent k disk runs
     → (keys : Keys) (most : ℕ) (found : Found) (f : RingFound) (start : Run) → GoesOnFrom keys p found f → (runs first).run ≡ start → f.run ≡ start → epoch ≡ (runs first).run.epoch → left ≡ (runs first).run.left
     → start.epoch < 2 ^ 62 → start.left ≤ p.batches → (runs first).lanes ≡ most → (1 ≤ most) × (most ≤ 16) → HasPlanned f.run f.content f.records → (runs first).drawn ≡ []
-    → ServedOver ring_kind ring_lives disk (manner beat threads most) keys p f f.run.sealer script (runs last).drawn (runs first).store (runs last).store before after trace seen (err_of result)
+    → (s : ServedOver ring_kind ring_lives disk (manner beat threads most) keys p f f.run.sealer script (runs last).drawn (runs first).store (runs last).store before after trace seen (err_of result))
+    × CallsBehind k first (calls s.is_served.served.acts) last (err_of result)
 serves_lent first k beat threads p script trace runners before last seen ran after result epoch left done unbroken sound are disk counts_now only_now runs words lent keys most found f start goes is same epoch_is left_is small few lanes many has none =
     let (new, run) = done in
     let run_is : (runs first).run ≡ f.run = is ∙ sym same in

@@ -29,7 +29,8 @@ use Rattle.ob_outcomes.proofs.Whole.{RunsScripts}
 use Rattle.ob_desk.specs.Beats.{BeatKind}
 use Rattle.ob_top.specs.Endings.{err_of}
 use Rattle.ob_top.specs.Runs.{manner, ServedOver}
-use Rattle.ob_top.proofs.Serving.{IsLender, serves_on}
+use Rattle.ob_conduct.specs.Acts.{calls}
+use Rattle.ob_top.proofs.Serving.{CallsBehind, IsLender, serves_on}
 
 module _ {V S : Type 0} (k : Kind V) (disk : S → Disk) (counts_now : (x : S) (t : Clock) (c : Image) → NotAfter t (disk x).moment → (disk x).may_leave c → (disk x).left_since t c)
     (only_now : (x : S) (c : Image) → (disk x).left_since (disk x).moment c → (disk x).may_leave c) (runs : V → Running S) (words : HasRingWords k disk runs) (keys : Keys) (most : ℕ) (p : Params) (f : RingFound) (first : V) where
@@ -52,7 +53,8 @@ module _ {V S : Type 0} (k : Kind V) (disk : S → Disk) (counts_now : (x : S) (
       → trace.broken ≡ false → map kind.client runners ≡ script.clients → All (λ u. kind.plan u ≡ asks_by (kind.client u) script.txns) runners → epoch ≡ (f.run).epoch → left ≡ (f.run).left
       → RunsBy threads k kind beat (run_state (scene (new_desk (record { params = p }) (suc epoch) left script.clients) first trace) runners before) end result
       → IsRingLender → RingAt k disk runs keys most p f (disk (runs first).store) (ring_public p f) (ring_hidden f) 0 first
-      → ServedOver ring_kind ring_lives disk (manner beat threads most) keys p f (f.run).sealer script (runs end.scene.vault).drawn (runs first).store (runs end.scene.vault).store before end.output trace end.scene.trace (err_of result)
+      → (s : ServedOver ring_kind ring_lives disk (manner beat threads most) keys p f (f.run).sealer script (runs end.scene.vault).drawn (runs first).store (runs end.scene.vault).store before end.output trace end.scene.trace (err_of result))
+      × CallsBehind k first (calls s.is_served.served.acts) end.scene.vault (err_of result)
   ring_serves beat threads kind means script sound may trace runners before end result epoch left unbroken named planned epoch_is left_is run l begun =
       serves_on k ring_kind disk (λ v. (runs v).store) keys most p f first (RingBehind k disk runs words keys most p f (disk (runs first).store)) (λ v. (runs v).drawn) (ring_does k disk runs words keys most p f (disk (runs first).store)) tells ring_lives at_rest at_stop
       beat threads kind means (f.run).sealer script sound may trace runners before end result epoch left unbroken named planned epoch_is left_is run l begun

@@ -1,6 +1,6 @@
 -- What a self-test comes to, over any vault: its script was served by threads from a map without keys on, and the map was read behind that.
 use Rattle.std.specs.List.{All}
-use Rattle.std.proofs.Common.{◌≡◌, ◌∙◌, ◌==◌, ◌+◌, ◌<◌, ◌≤◌, ◌^◌, ℕ, suc, true, false, List, [], ◌∷◌, length, map, get_or, Option, Result, Ok, refl, sym, ap, subst, arith, nat_cmp, inl, inr, Err, ⊎_elim, ◌&&◌, Bool, nat_lt, eqb-true}
+use Rattle.std.proofs.Common.{◌≡◌, ◌∙◌, ◌==◌, ◌+◌, ◌<◌, ◌≤◌, ◌^◌, ℕ, suc, true, false, List, [], ◌∷◌, ◌++◌, length, length-append, map, get_or, Option, None, Result, Ok, refl, sym, ap, subst, arith, nat_cmp, inl, inr, Err, ⊎_elim, ◌&&◌, Bool, nat_lt, eqb-true}
 use Rattle.std.specs.FinMap as finite
 use Rattle.std.proofs.lemmas.List.Elements.{All-map, All-weaker}
 use Rattle.std.proofs.lemmas.List.FromFn.{length-map-range_with_len}
@@ -12,14 +12,24 @@ use Rattle.ob_base.specs.Tree.{below}
 use Rattle.ob_opening.specs.Formats.{IsFormatFault, formatted_standing}
 use Rattle.ob_opening.specs.declared.opening.Opening.{Opening}
 use Rattle.ob_seal.specs.declared.keys.Keys.{Keys}
-use Rattle.ob_vault.specs.RingKind.{RingFound}
-use Rattle.ob_opening.specs.Openings.{IsStandingRefusal}
+use Rattle.ob_vault.specs.RingKind.{IsRingMap, RingFound, ring_kind}
+use Rattle.ob_opening.specs.Openings.{IsOpeningOf, IsStandingRefusal}
+use Rattle.ob_recover.proofs.Dealing.{made_as}
+use Rattle.ob_recover.specs.Telling.{ArePhasesMade}
+use Rattle.ob_recover.specs.declared.found.Found.{Found}
+use Rattle.ob_seal.specs.Sealing.{Sealing}
+use Rattle.ob_vault.specs.RingLaws.{found_ring}
+use Rattle.ob_vault.specs.Seen.{opening_phases}
 use Rattle.ob_store.specs.Calls.{GoesOn, IsStoreFault}
 use Rattle.ob_store.proofs.Serving.{goes_same, goes_then, rose_later}
 use Rattle.ob_store.specs.Disk.{Disk}
 use Rattle.ob_store.specs.Lines.{Trace}
 use Rattle.ob_start.specs.Heads.{numbers_of}
-use Rattle.ob_serial.specs.Serial.{Map}
+use Rattle.ob_serial.specs.Serial.{EpochRecord, Map, TxnRecord, committed_of, is_committed}
+use Rattle.ob_serial.specs.declared.records.Outcome.{Outcome}
+use Rattle.ob_serial.specs.declared.records.Outcome.TheVariants.{Committed}
+use Rattle.std.specs.Prelude.{filter}
+use Rattle.ob_desk.proofs.Runs.{committed_append}
 use Rattle.ob_serial.specs.Vaults.{VaultCall, Fetch, End, VaultAnswer, Values, Ended, RefusedBy, DoubtBy, VaultCounts, VaultState, counts_of, vault_next}
 use Rattle.ob_serial.specs.VaultKinds.{AllCalled, Kind, after_calls, ended_of}
 use Rattle.ob_script.specs.Drill.{counter, drill_script, drill_txn, key_added, key_read}
@@ -37,7 +47,7 @@ use Rattle.ob_conduct.specs.Scenes.{run_state, scene}
 use Rattle.ob_conduct.proofs.Moving.{called}
 use Rattle.ob_run.specs.Threaded.{AreShaped, RunsBy}
 use Rattle.ob_run.proofs.Shapes.{runs_shaped}
-use Rattle.ob_outcomes.specs.Lone.{AsksFew}
+use Rattle.ob_outcomes.specs.Lone.{AsksFew, HasOneCommitted}
 use Rattle.ob_outcomes.specs.Served.{IsPatient}
 use Rattle.ob_outcomes.specs.Sums.{CountsAll, IsAdder, adds_to, count_value}
 use Rattle.ob_outcomes.proofs.Adders.{adds_are_counted}
@@ -53,6 +63,8 @@ use Rattle.ob_report.specs.Summaries.{summary_text}
 use Rattle.ob_report.specs.declared.summary.Summary.{Summary}
 use Rattle.ob_top.specs.Drilling.{WasRun, IsOpenedEmpty, IsWant, script_runners, no_output}
 use Rattle.ob_top.specs.Outside.{blind}
+use Rattle.ob_top.specs.Runs.{ScriptServed, manner}
+use Rattle.ob_top.specs.SelfTests.{AllCommitted}
 use Rattle.ob_top.specs.Drills.{counted_value, drill_digest, drill_numbers, drill_summary}
 use Rattle.ob_top.proofs.Lent.{runs_scripts}
 use Rattle.ob_top.proofs.Opens.{may_open}
@@ -62,6 +74,14 @@ use Rattle.ob_top.proofs.Serving.{counted_ends}
 
 pub all_left : (left batches : ℕ) → left + 0 ≡ batches → left ≡ batches
 all_left left batches is = omega (arith, is)
+
+-- its phases are those of its kind
+pub opens_seen : {L : Type 0} (keys : Keys) (p : Params) (found : Found) (o : Opening L) → IsOpeningOf keys p found o → (old new : Disk)
+    → ArePhasesMade 4 (opening_phases p (found_ring found o).content (found_ring found o).records found.epoch (suc found.generation) found.gates) old.seen new.seen → ArePhasesMade 4 (ring_kind.opens p (found_ring found o) found.gates) old.seen new.seen
+opens_seen keys p found o is old new seen =
+    let f = found_ring found o in
+    made_as 4 (opening_phases p f.content f.records found.epoch (suc found.generation) found.gates) (ring_kind.opens p f found.gates) old.seen new.seen
+    (ap (λ e. opening_phases p f.content f.records e (suc found.generation) found.gates) (sym is.epoch) ∙ ap (λ g. opening_phases p f.content f.records o.epoch g found.gates) (sym (ap (λ (x : Sealing). x.generation) is.sealer))) seen
 
 pub ready_as : {L : Type 0} (keys : Keys) (p q : Params) (new : Disk) (f : RingFound) (o : Opening L) → p ≡ q → IsOpenedEmpty keys p new f o → IsOpenedEmpty keys q new f o
 ready_as keys p q new f o same is = subst (λ (x : Params). IsOpenedEmpty keys x new f o) same is
@@ -258,6 +278,38 @@ module _ {V : Type 0} (k : Kind V) (counts : V → VaultCounts) (agrees : (x : V
       ∙ ap (λ (m : Map nat_cmp). digest_of (rows_below (finite.get m) p.keys)) is
       ∙ ap (λ bound. digest_of (rows_below (finite.get (contents finite.empty (records its.acts))) bound)) (keys_are p numbers)
       ∙ same_digest (finite.get (contents finite.empty (records its.acts))) (counted_value n) 256 (λ key. (its.counts patient).counts key ∙ ap count_value (adds_counted n key))
+
+-- ---- what its records tell
+
+kept_one : {X : Type 0} (test : X → Bool) (x : X) → test x ≡ true → length (filter test (x ∷ [])) ≡ 1
+kept_one test x passes = rw passes refl
+
+one_kept : (ts : List (TxnRecord ℕ)) → length ts ≡ 1 → All (λ t. t.outcome ≡ Committed) ts → length (filter (λ t. is_committed t) (ts ++ [])) ≡ 1
+one_kept [] one all = absurd (omega (arith, one))
+one_kept (t ∷ []) one all = kept_one (λ t. is_committed t) t (ap (λ (o : Outcome ℕ). is_committed (record t { outcome = o })) (all 0 t (omega arith)))
+one_kept (t ∷ u ∷ ts) one all = absurd (omega (arith, one))
+
+one_more : (r : EpochRecord ℕ) (records : List (EpochRecord ℕ)) → HasOneCommitted r → length (committed_of (r ∷ records)) ≡ suc (length (committed_of records))
+one_more r records one =
+    let first = one_kept r.txns one.one one.committed in
+    ap (λ (l : List (TxnRecord ℕ)). length l) (committed_append (r ∷ []) records) ∙ length-append (committed_of (r ∷ [])) (committed_of records) ∙ ap (λ m. m + length (committed_of records)) first ∙ one_and (length (committed_of records))
+  where
+    one_and : (m : ℕ) → 1 + m ≡ suc m
+    one_and m = omega arith
+
+all_kept : (records : List (EpochRecord ℕ)) → All HasOneCommitted records → length (committed_of records) ≡ length records
+all_kept [] all = refl
+all_kept (r ∷ records) all = one_more r records (all 0 r (omega arith)) ∙ ap suc (all_kept records (λ i d lt. all (suc i) d (omega (arith, lt))))
+
+-- each transaction of the script is committed, where it was served from an empty map on
+pub all_committed : (p : Params) → numbers_of p ≡ drill_numbers → (n : ℕ) → n ≤ 10000 → (beat : BeatKind) (keys : Keys) (opened : Disk) (f : RingFound) → (f.run).left ≡ p.batches → IsRingMap keys p opened f finite.empty → (records : List (EpochRecord ℕ))
+    → ScriptServed ring_kind (manner beat true 4) keys p opened f (drill_script n) records None → IsPatient beat → AllCommitted n records
+all_committed p numbers n few beat keys opened f left is_map records s patient =
+    let script = drill_script n in
+    let counted = served_counts (AreShaped true script.clients) beat p (f.run).epoch (f.run).left 1 script records finite.empty (contents finite.empty records) s.served refl patient s.opens (s.fed finite.empty is_map)
+    (adders n) (all_its_own n) (ask_few n (f.run).left p (omega (arith, left, batches_are p numbers)) (omega (arith, writes_are p numbers))) (let many = its_length n in omega (arith, many, few)) (λ key. finite.get-empty nat_cmp key) in
+    let epochs : length records ≡ n = (counted.1 (s.all refl)).epochs ∙ its_length n in
+    record { epochs = epochs; each = counted.0.one_each; committed = all_kept records counted.0.one_each ∙ epochs }
 
 -- ---- whatever it answers
 

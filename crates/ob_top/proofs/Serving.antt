@@ -76,6 +76,11 @@ counted_ends (w ∷ written) (r ∷ records) (one, are) = ap suc (counted_ends w
 rose_broken : (notes : List Note) (t u : Trace) → Shows notes t u → t.broken ≡ false → u.broken ≡ true → Rose t.faults u.faults
 rose_broken notes t u shows whole broken = subst (λ (b : Bool). BreaksOnly false b t.faults u.faults) broken (subst (λ (b : Bool). BreaksOnly b u.broken t.faults u.faults) whole shows.breaks)
 
+-- The calls of a vault that lead there, all of them answered where nothing cut the run off.
+pub record CallsBehind {V : Type 0} (k : Kind V) (start : V) (asked : List (VaultCall × VaultAnswer)) (last : V) (err : Option RunErr) : Type 0 where
+  pub called : AllCalled k start asked last
+  pub answered : err ≡ None → AreAnswered asked
+
 -- rows that were shown, and then others
 each_then : (xs ys : List (List Note)) (t m u : Trace) → EachShown xs t m → EachShown ys m u → EachShown (xs ++ ys) t u
 each_then [] ys t m u still rest = subst (λ (x : Trace). EachShown ys x u) still rest
@@ -474,6 +479,13 @@ module _ {V S : Type 0} (k : Kind V) (store : StoreKind) (disk : S → Disk) (st
       chain = called k start trace (calls acts) d.notes last end.scene.trace d.chain
 
       -- without a fault all calls were answered
+      all_given : (r : Result (Unit {0}) RunErr) → RunEnds k begin end acts r → err_of r ≡ None → AreAnswered (calls acts)
+      all_given (Ok done) (answered, over, written, still) none = answered
+      all_given (Err err) ends none = absurd (no_err none)
+        where
+          no_err : ◌≡◌ {A = Option RunErr} (Some err) None → ⊥
+          no_err e = cc e
+
       still_told : (r : Result (Unit {0}) RunErr) → RunEnds k begin end acts r → err_of r ≡ None → (disk (store_of start)).tells → (disk (store_of last)).tells
       still_told (Ok done) (answered, over, written, still) none = l.told last (calls acts) chain answered
       still_told (Err err) ends none = absurd (no_err none)
@@ -502,37 +514,44 @@ module _ {V S : Type 0} (k : Kind V) (store : StoreKind) (disk : S → Disk) (st
           × life.goes_on under p found (disk (store_of start)) (answered (calls xs)) t.steps t.behind (refused (calls xs)) (tape_of last) (disk (store_of last))
           × EndsFor store under p found (disk (store_of start)) t.behind (shapes (calls xs)) (length records) (refused (calls xs)) (tape_of last) (disk (store_of start)) (disk (store_of last)) before after trace end.scene.trace (err_of result)
 
+      -- the vault's calls, beside what serving does
+      calls_behind : CallsBehind k start (calls is_run.acts) last (err_of result)
+      calls_behind = subst (λ (xs : List Act). CallsBehind k start (calls xs) last (err_of result)) acts_are (record { called = chain; answered = all_given result d.ends })
+
       -- what serving does
-      pub serves : At (store.public p found) (store.hidden p found) [] 0 start → ServedOver store life disk (manner beat threads most) under p found sealing script (tape_of last) (store_of start) (store_of last) before after trace end.scene.trace (err_of result)
+      pub serves : At (store.public p found) (store.hidden p found) [] 0 start → (s : ServedOver store life disk (manner beat threads most) under p found sealing script (tape_of last) (store_of start) (store_of last) before after trace end.scene.trace (err_of result))
+          × CallsBehind k start (calls s.is_served.served.acts) last (err_of result)
       serves begun =
           let e = ending start last trace end.scene.trace unbroken before after records begun l.faults acts d.notes refl d.chain d.wrote base end.scene.desk runners end.runners result d.ends in
           let told = subst (λ (xs : List Act). TracesLife xs e.events) acts_are (e.traced, e.shown, e.goes_on, e.cause) in
-          let stand = lines_stand k begin end acts result d.ends in
-          record {
-            records = records;
-            is_served = record {
-              served = is_run;
-              all = whole result d.ends refl;
-              ends = subst (λ (x : DeskState). EndsWith (err_of result) is_run.acts x) desk_is (subst (λ (xs : List Act). EndsWith (err_of result) xs end.scene.desk) acts_are (ends_with result d.ends));
-              opens = may;
-              fed = λ m of. subst (λ (x : DeskState). Run m base (history is_run.acts) (contents m records) x) desk_is
-                  (subst (λ (xs : List Act). Run m base (history xs) (contents m records) end.scene.desk) acts_are (d.serial m (l.holds m of)).0);
-              one_by_one = λ m of. d.one_by_one m (l.holds m of);
-            };
-            cause = told.3;
-            shown = told.1;
-            watched = watch_whole result d.ends;
-            whole = stand.0;
-            lines = stand.1;
-            events = e.events;
-            traced = told.0;
-            seen = e.seen;
-            goes = l.goes start last (goes_all k start trace (calls acts) d.notes last end.scene.trace d.chain);
-            tells = still_told result d.ends;
-            left = λ at tells settled opened. subst (λ (xs : List Act). IsLeftOnDisk store under p found at script records (err_of result) xs disk (disk (store_of start)) (disk (store_of last))) acts_are (left at tells settled opened);
-            lives = subst (λ (xs : List Act). LivesBehind disk under sealing (store_of start) (store_of last) (map (λ s. s.1) (calls xs))) acts_are (l.lives last (calls acts) chain);
-            goes_on = told.2;
-          }
+          let stand = lines_stand k begin end acts result d.ends in (
+            record {
+              records = records;
+              is_served = record {
+                served = is_run;
+                all = whole result d.ends refl;
+                ends = subst (λ (x : DeskState). EndsWith (err_of result) is_run.acts x) desk_is (subst (λ (xs : List Act). EndsWith (err_of result) xs end.scene.desk) acts_are (ends_with result d.ends));
+                opens = may;
+                fed = λ m of. subst (λ (x : DeskState). Run m base (history is_run.acts) (contents m records) x) desk_is
+                    (subst (λ (xs : List Act). Run m base (history xs) (contents m records) end.scene.desk) acts_are (d.serial m (l.holds m of)).0);
+                one_by_one = λ m of. d.one_by_one m (l.holds m of);
+              };
+              cause = told.3;
+              shown = told.1;
+              watched = watch_whole result d.ends;
+              whole = stand.0;
+              lines = stand.1;
+              events = e.events;
+              traced = told.0;
+              seen = e.seen;
+              goes = l.goes start last (goes_all k start trace (calls acts) d.notes last end.scene.trace d.chain);
+              tells = still_told result d.ends;
+              left = λ at tells settled opened. subst (λ (xs : List Act). IsLeftOnDisk store under p found at script records (err_of result) xs disk (disk (store_of start)) (disk (store_of last))) acts_are (left at tells settled opened);
+              lives = subst (λ (xs : List Act). LivesBehind disk under sealing (store_of start) (store_of last) (map (λ s. s.1) (calls xs))) acts_are (l.lives last (calls acts) chain);
+              goes_on = told.2;
+            },
+            calls_behind,
+          )
 
   -- the same, from the epoch and the batches left that the vault tells
   pub serves_on : {U : Type 0} (beat : BeatKind) (threads : Bool) (kind : RunnerKind U (List ScriptTxn))
@@ -542,7 +561,8 @@ module _ {V S : Type 0} (k : Kind V) (store : StoreKind) (disk : S → Disk) (st
       → trace.broken ≡ false → map kind.client runners ≡ script.clients → All (λ u. kind.plan u ≡ asks_by (kind.client u) script.txns) runners → epoch ≡ store.epoch found → left ≡ store.left p found
       → RunsBy threads k kind beat (run_state (scene (new_desk (record { params = p }) (suc epoch) left script.clients) start trace) runners before) end result
       → IsLender sealing → At (store.public p found) (store.hidden p found) [] 0 start
-      → ServedOver store life disk (manner beat threads most) under p found sealing script (tape_of end.scene.vault) (store_of start) (store_of end.scene.vault) before end.output trace end.scene.trace (err_of result)
+      → (s : ServedOver store life disk (manner beat threads most) under p found sealing script (tape_of end.scene.vault) (store_of start) (store_of end.scene.vault) before end.output trace end.scene.trace (err_of result))
+      × CallsBehind k start (calls s.is_served.served.acts) end.scene.vault (err_of result)
   serves_on beat threads kind means sealing script sound may trace runners before end result epoch left unbroken named planned epoch_is left_is run l begun =
       let run_is = subst (λ n. RunsBy threads k kind beat (run_state (scene (new_desk (record { params = p }) (suc (store.epoch found)) n script.clients) start trace) runners before) end result) left_is
       (subst (λ e. RunsBy threads k kind beat (run_state (scene (new_desk (record { params = p }) (suc e) left script.clients) start trace) runners before) end result) epoch_is run) in

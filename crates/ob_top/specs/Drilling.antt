@@ -13,7 +13,9 @@ use Rattle.ob_serial.specs.Vaults.{VaultCounts, VaultState}
 use Rattle.ob_serial.specs.VaultKinds.{Kind}
 use Rattle.ob_recover.specs.declared.found.Found.{Found}
 use Rattle.ob_opening.specs.declared.opening.Opening.{Opening}
-use Rattle.ob_vault.specs.RingKind.{GoesOnFrom, IsRingMap, RingFound}
+use Rattle.ob_recover.specs.Telling.{ArePhasesMade}
+use Rattle.ob_twin.specs.declared.gates.Gates.{Gates}
+use Rattle.ob_vault.specs.RingKind.{GoesOnFrom, IsRingMap, RingFound, ring_kind}
 use Rattle.ob_vault.specs.RingVaults.{HasPlanned, run_over}
 use Rattle.ob_script.specs.Script.{ScriptTxn, Scripts}
 use Rattle.ob_runner.specs.declared.runner.ScriptRunner.{ScriptRunner}
@@ -50,6 +52,12 @@ pub record IsOpenedEmpty {L : Type 0} (keys : Keys) (p : Params) (new : Disk) (f
   pub left : (f.run).left ≡ p.batches
   pub epoch : (f.run).epoch ≡ 0
   pub map : IsRingMap keys p new f empty
+
+-- and these phases were seen of that
+pub record OpensEmpty {L : Type 0} (keys : Keys) (p : Params) (old new : Disk) (f : RingFound) (o : Opening L) : Type 0 where
+  pub opened : IsOpenedEmpty keys p new f o
+  pub start : Gates
+  pub seen : ArePhasesMade 4 (ring_kind.opens p f start) old.seen new.seen
 
 module _ {V : Type 0} (k : Kind V) (counts : V → VaultCounts) (beat : BeatKind) (p : Params) (script : Scripts) (runners : List ScriptRunner) (old : V) where
   -- the script was run by threads over the vault, from a new desk on, and no watch was shown anything

@@ -19,7 +19,8 @@ ghost use Rattle.ob_top.specs.Begun.{MayServe};
 ghost use Rattle.ob_io.specs.Streams.{Flow, outflow};
 ghost use Rattle.ob_top.specs.Drills.{drill_numbers, drill_digest, DrillDone};
 ghost use Rattle.ob_top.specs.Outside.{outside};
-ghost use Rattle.ob_top.specs.Drilling.{IsOpenedEmpty, IsWant, HasDrilled, DrillFails};
+ghost use Rattle.ob_top.specs.Drilling.{IsOpenedEmpty, OpensEmpty, IsWant, HasDrilled, DrillFails};
+ghost use Rattle.ob_top.specs.SelfTests.{IsDrilled, IsServedAndRead};
 
 use crate::endings::finish;
 use crate::run::{Begun, conduct, hand_back};
@@ -85,8 +86,8 @@ fn ready<R: AllocGlobal + Threads + Sync, S: Lanes, T: Tape>(
     ensures runners { IfOk result (λ begun. AreRunners begun.scripts begun.runners.items) }
     ensures serves { IfOk result (λ begun. MayServe 4 begun.params (S.disk store.new)
         (T.present tape.new) (T.drawn tape.new) begun.opening) }
-    ensures ready { IfOk result (λ begun. (f : RingFound) × IsOpenedEmpty keys.now params.now
-        (S.disk store.new) f begun.opening) }
+    ensures ready { IfOk result (λ begun. (f : RingFound) × OpensEmpty keys.now params.now
+        (S.disk store.old) (S.disk store.new) f begun.opening) }
     ensures refused { IfErr result (λ fault. IsWant (S.disk store.old) (S.disk store.new) fault) }
 {
     let scripts = match drill(rt.alloc(), count) {
@@ -188,6 +189,11 @@ fn drill_over<R: AllocGlobal + Threads + Wait + Sync, S: Lanes, T: Tape, B: Beat
     ensures digest { (n : ℕ) → begun.scripts ≡ drill_script n → n ≤ 10000
         → IsPatient (beat_kind B.passes B.exact)
         → IfOk result (λ d. d.digest ≡ drill_digest n) }
+    ensures drilled { (keys : Secrets) (f : RingFound) (n : ℕ)
+        → IsOpenedEmpty keys begun.params (S.disk store.old) f begun.opening
+        → begun.scripts ≡ drill_script n → n ≤ 10000
+        → IfOk result (λ d. IsServedAndRead S.disk (beat_kind B.passes B.exact) keys begun.params n
+        f store.old store.new) }
     ensures refused { IfErr result (λ fault. IsWant (S.disk store.old) (S.disk store.new) fault) }
 {
     let Begun {
@@ -224,7 +230,10 @@ pub fn drill_on<R: AllocGlobal + Threads + Wait + Sync, S: Lanes, T: Tape, B: Be
     requires not_begun { T.present tape.old ≡ 0 }
     ensures goes { GoesOn (S.disk store.old) (S.disk store.new) }
     ensures none_out { (S.disk store.new).out ≡ 0 }
-    // Each transaction is committed, in an epoch of its own, and the map is what they come to.
+    // An empty store was made, opened, served and read. Each transaction is committed, in an epoch
+    // of its own, as the records of its run tell; and the map is what they come to.
+    ensures drilled { IfOk result (λ d. IsDrilled S.disk (beat_kind B.passes B.exact) count
+        store.old store.new) }
     ensures epochs { IsPatient (beat_kind B.passes B.exact)
         → IfOk result (λ d. d.epochs ≡ count) }
     ensures digest { IsPatient (beat_kind B.passes B.exact)

@@ -2,8 +2,12 @@ use Rattle.std.proofs.Common.{◌≡◌, arith, subst, sym}
 use Rattle.ob_base.specs.declared.params.Params.{Params}
 use Rattle.ob_start.specs.Heads.{numbers_of}
 use Rattle.ob_top.specs.Drills.{drill_numbers}
-use Rattle.std.proofs.lemmas.Result.{IfErr-weaker}
+use Rattle.std.proofs.lemmas.Result.{IfErr-weaker, IfOk-weaker}
 use Rattle.ob_store.proofs.Serving.{goes_then}
+use Rattle.ob_desk.specs.Beats.{beat_kind}
+use Rattle.ob_vault.proofs.Formatted.{formats}
+use Rattle.ob_top.specs.SelfTests.{IsServedAndRead}
+use Rattle.ob_top.proofs.Beginnings.{formatted}
 use Rattle.ob_top.proofs.SelfTest.{format_want, later_want, ready_as}
 use Rattle.ob_top.proofs.drill.drill_on.Goals as goal
 
@@ -43,7 +47,7 @@ drill_over-requires-clause-runners g c κs within = c.in-Ok-ready.ensures.runner
 pub drill_over-requires-clause-ready : goal.drill_over-requires-clause-ready
 drill_over-requires-clause-ready g c κs within =
     let (f, is) = c.in-Ok-ready.ensures.ready in
-    (_, f, ready_as _ _ _ _ f _ (sym c.in-Ok-ready.ensures.params) is)
+    (_, f, ready_as _ _ _ _ f _ (sym c.in-Ok-ready.ensures.params) is.opened)
 
 -- ---- refusals
 
@@ -70,6 +74,32 @@ returns-clause-refused g c = IfErr-weaker c.drill_over.result _ _ (λ refused wa
     (goes_then _ _ _ c.in-Ok.ensures.serves.goes c.in-Ok-ready.ensures.goes).faults want) c.drill_over.ensures.refused
 
 -- ---- what it comes to
+
+pub returns-clause-drilled : goal.returns-clause-drilled
+returns-clause-drilled g c =
+    let e = c.in-Ok.ensures in
+    let p = c.drill_params-params.result in
+    let keys = c.from_bytes-keys.result in
+    let (f, r) = c.in-Ok-ready.ensures.ready in
+    let own = ready_as _ _ _ _ f _ (sym c.in-Ok-ready.ensures.params) r.opened in
+    IfOk-weaker c.drill_over.result _ _
+    (λ d served.
+    record {
+      keys = keys;
+      p = p;
+      numbers = c.drill_params-params.ensures;
+      made = c.format.new.store;
+      formatted = formatted (λ s. g.S.Store.disk s) keys p (g.T.Tape.drawn c.format.new.tape) c.args.store.now c.format.new.store e.does.all.seen e.stands e.images e.durable e.closed e.act
+          (λ tells. formats p (g.T.Tape.drawn c.format.new.tape) e.drawn.1 keys (g.S.Store.disk c.format.new.store) (e.life tells)) e.serves.tells;
+      opened = c.ready.new.store;
+      found = f;
+      start = r.start;
+      seen = r.seen;
+      first = r.opened.epoch;
+      none_there = r.opened.map;
+      served = subst (λ (q : Params). IsServedAndRead g.S.Store.disk (beat_kind g.B.Beat.passes g.B.Beat.exact) keys q c.args.count f c.ready.new.store c.drill_over.new.store) c.in-Ok-ready.ensures.params served;
+    })
+    (c.drill_over.ensures.drilled keys f c.args.count own c.in-Ok-ready.ensures.script c.requires.few)
 
 pub returns-clause-epochs : goal.returns-clause-epochs
 returns-clause-epochs g c = λ patient. c.drill_over.ensures.epochs c.args.count c.in-Ok-ready.ensures.script c.requires.few patient

@@ -2,13 +2,15 @@ use Rattle.std.proofs.Common.{◌≡◌, ◌∙◌, ◌∷◌, [], List, ℕ, le
 use Rattle.std.specs.Borrow.{GName}
 use Rattle.std.specs.FinMap.{empty}
 use Rattle.ob_fetch.specs.declared.run.Run.{Run}
-use Rattle.std.proofs.lemmas.Result.{IfErr-weaker}
+use Rattle.std.proofs.lemmas.Result.{IfErr-weaker, IfOk-weaker}
 use Rattle.ob_cells.specs.Jobs.{Manned}
 use Rattle.ob_store.specs.Calls.{GoesOn}
 use Rattle.ob_vault.specs.RingKind.{IsRingMap}
 use Rattle.ob_vault.specs.RingVaults.{RingHolds, counts_of_run, running}
+use Rattle.ob_desk.specs.Beats.{beat_kind}
 use Rattle.ob_top.specs.Drilling.{IsWant}
-use Rattle.ob_top.proofs.DrillRefusals.{both_refused, drill_wants, lent_goes, want_is}
+use Rattle.ob_top.specs.SelfTests.{IsServedAndRead}
+use Rattle.ob_top.proofs.DrillRefusals.{both_refused, drill_wants, lent_goes, served_and_read, want_is}
 use Rattle.ob_vault.proofs.Begun.{held_with, holds_found}
 use Rattle.ob_top.proofs.drill.drill_over.Goals as goal
 
@@ -24,6 +26,24 @@ returns-clause-goes g c =
     let names : c.over-arg-1.given ≡ c.into_lent-store.result.0.ghost_name = sym (c.into_lent-store.ensures.name ∙ first_same _ _ _ _ c.drill_vault-drilled.ensures.anchors ∙ c.over-vault.ensures.name) in
     subst (λ x. GoesOn (g.S.Store.disk x) (g.S.Store.disk c.store-1.given.0)) c.over-vault.ensures.store
     (subst (λ x. GoesOn (g.S.Store.disk c.over-vault.result.lent.store.now) (g.S.Store.disk x)) (sym (c.store-1.given.1 names ∙ c.hand_back.ensures.store ∙ c.into_lent-store.ensures.store)) (lent_goes _ _ _ _ _ _ c.drill_vault-drilled.ensures.goes))
+
+pub returns-clause-drilled : goal.returns-clause-drilled
+returns-clause-drilled g c = λ keys f n r is few.
+    let names : c.over-arg-1.given ≡ c.into_lent-store.result.0.ghost_name = sym (c.into_lent-store.ensures.name ∙ first_same _ _ _ _ c.drill_vault-drilled.ensures.anchors ∙ c.over-vault.ensures.name) in
+    let first = c.over-vault.result in
+    let run_is : first.run ≡ f.run = c.over-vault.ensures.run ∙ sym r.run_is in
+    let map_is : IsRingMap keys c.args.begun.params (g.S.Store.disk first.lent.store.now) f empty = subst (λ x. IsRingMap keys c.args.begun.params (g.S.Store.disk x) f empty) (sym c.over-vault.ensures.store) r.map in
+    IfOk-weaker c.drill_vault-drilled.result _ _
+    (λ d has.
+    subst (λ x. IsServedAndRead g.S.Store.disk (beat_kind g.B.Beat.passes g.B.Beat.exact) keys c.args.begun.params n f x c.store-1.given.0) c.over-vault.ensures.store
+    (subst (λ x. IsServedAndRead g.S.Store.disk (beat_kind g.B.Beat.passes g.B.Beat.exact) keys c.args.begun.params n f first.lent.store.now x) (sym (c.store-1.given.1 names ∙ c.hand_back.ensures.store ∙ c.into_lent-store.ensures.store))
+    (served_and_read _ (λ v. counts_of_run v.run) (λ v u holds. holds.counts_are) g.S.Store.disk (λ x t image at left. g.met.S.Store.counts_now x t image at left) (λ x image left. g.met.S.Store.only_now x image left) (λ v. running v.lent.store.now (g.T.Tape.drawn v.lent.tape.now) v.crew.lanes v.run)
+    (record { called = λ v call answer notes w one. one; holds = λ v u is. is })
+    (record { disk_is = λ v. (v.lent.store.ghost_name, v.lent.tape.ghost_name, refl); holds = λ v u is. is; sound = λ v u is. is; stands = λ v i at is. is; rests = λ w v i sound left. sound.images i left })
+    keys c.args.begun.params c.requires.numbers r.found f first r.goes_on run_is (ap (λ (w : Manned). w.lanes) c.over-vault.ensures.crew ∙ c.requires.serves.lanes) r.planned
+    (ap (λ x. g.T.Tape.drawn x) c.over-vault.ensures.tape ∙ none_in _ c.requires.serves.none_drawn) r.epoch r.left map_is refl refl
+    _ n few c.args.begun.scripts is c.args.begun.runners.items c.requires.runners _ d has)))
+    c.drill_vault-drilled.ensures.drilled
 
 pub returns-clause-refused : goal.returns-clause-refused
 returns-clause-refused g c =

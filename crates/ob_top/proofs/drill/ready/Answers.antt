@@ -1,4 +1,4 @@
-use Rattle.std.proofs.Common.{refl, sym, nat_cmp}
+use Rattle.std.proofs.Common.{refl, sym, nat_cmp, []}
 use Rattle.std.specs.FinMap.{get-empty}
 use Rattle.ob_store.proofs.Keeping.{keeps_none}
 use Rattle.ob_stand.proofs.VaultLaws.{ring_stands}
@@ -8,7 +8,7 @@ use Rattle.ob_vault.specs.Formats.{beginning}
 use Rattle.ob_vault.specs.RingLaws.{found_ring}
 use Rattle.ob_vault.proofs.Opening.{goes_on, opened_at}
 use Rattle.ob_top.proofs.Beginnings.{may_serve}
-use Rattle.ob_top.proofs.SelfTest.{all_left, want_of}
+use Rattle.ob_top.proofs.SelfTest.{all_left, opens_seen, want_of}
 use Rattle.ob_top.proofs.drill.ready.Goals as goal
 
 pub returns-clause-serves : goal.returns-clause-serves
@@ -30,14 +30,18 @@ returns-clause-ready g c =
     let told = e.opened.told c.requires.tells in (
       found_ring e.opened.found o,
       record {
-        found = e.opened.found;
-        goes_on = goes_on keys p old old new e.opened.found o e.opened.is;
-        planned = opened_plans (λ x. g.S.Store.disk x) keys 4 p c.args.store.now c.prepare.new.store _ _ o e.opened;
-        run_is = refl;
-        left = all_left _ _ opened.left;
-        epoch = opened.epoch;
-        map = (opened_at keys p old old new e.opened.found o (keeps_none old) c.requires.tells (e.serves.tells c.requires.tells) told.found_in e.stands beginning
-            (1, ring_stands keys p s old.cells beginning (record { epoch = refl; map = λ k. sym (get-empty nat_cmp k) }) here)).content;
+        opened = record {
+          found = e.opened.found;
+          goes_on = goes_on keys p old old new e.opened.found o e.opened.is;
+          planned = opened_plans (λ x. g.S.Store.disk x) keys 4 p c.args.store.now c.prepare.new.store _ _ o e.opened;
+          run_is = refl;
+          left = all_left _ _ opened.left;
+          epoch = opened.epoch;
+          map = (opened_at keys p old old new e.opened.found o (keeps_none old) c.requires.tells (e.serves.tells c.requires.tells) told.found_in e.stands beginning
+              (1, ring_stands keys p s old.cells beginning (record { epoch = refl; map = λ k. sym (get-empty nat_cmp k) }) here)).content;
+        };
+        start = (e.opened.found).gates;
+        seen = opens_seen keys p e.opened.found o e.opened.is old new ((e.opened.follows).told [] (e.opened.found).gates).seen;
       },
     )
 

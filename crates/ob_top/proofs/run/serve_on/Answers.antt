@@ -23,7 +23,7 @@ none_in (x ∷ l) is = absurd (cc)
 pub returns-clause-serves : goal.returns-clause-serves
 returns-clause-serves g c = λ f found same goes planned.
     let first = c.over-vault.result in
-    let s = serves_lent first _ _ c.args.means.threads c.args.begun.params c.args.begun.scripts _ c.args.begun.runners.items _ _ _ _ _ c.conduct-ended.result _ _ c.conduct-ended.ensures.done c.requires.whole c.requires.sound c.requires.runners
+    let (s, its) = serves_lent first _ _ c.args.means.threads c.args.begun.params c.args.begun.scripts _ c.args.begun.runners.items _ _ _ _ _ c.conduct-ended.result _ _ c.conduct-ended.ensures.done c.requires.whole c.requires.sound c.requires.runners
     g.S.Store.disk (λ x t image at left. g.met.S.Store.counts_now x t image at left) (λ x image left. g.met.S.Store.only_now x image left) (λ v. running v.lent.store.now (g.T.Tape.drawn v.lent.tape.now) v.crew.lanes v.run)
     (record { called = λ v call answer notes w one. one; holds = λ v u is. is })
     (record { disk_is = λ v. (v.lent.store.ghost_name, v.lent.tape.ghost_name, refl); holds = λ v u is. is; sound = λ v u is. is; stands = λ v i at is. is; rests = λ w v i sound left. sound.images i left })
