@@ -19,11 +19,11 @@ use Rattle.ob_top.specs.Begun.{AreFewLanes}
 use Rattle.ob_conduct.specs.declared.run_err.RunErr.{RunErr}
 use Rattle.ob_conduct.specs.declared.run_err.RunErr.TheVariants as failed
 use Rattle.ob_io.specs.Streams.{Flow}
-use Rattle.ob_top.specs.Outside.{blind, Outside, IsEnded, IsFinished, IsOnlyTold}
+use Rattle.ob_top.specs.Outside.{blind, Outside, IsCommandFinished, IsFinished, IsOnlyTold}
 use Rattle.ob_top.specs.Formats.{FormatDone}
 use Rattle.ob_vault.specs.RingKind.{ring_kind}
 use Rattle.ob_vault.specs.Lives.{ring_lives}
-use Rattle.ob_top.specs.Runs.{manner, RunOn, RunDone}
+use Rattle.ob_top.specs.Runs.{manner, RunDone}
 use Rattle.ob_store.specs.Lines.{Trace, first_line, open_line, start_line}
 use Rattle.ob_top.specs.Top.{AskForSomething, ByTrace, CommandDoes, IsRefusedWithout, TracedDoes, WatchedDoes, start_for, traced_of}
 use Rattle.ob_top.proofs.Beginnings.{ring_quiet}
@@ -95,9 +95,9 @@ refusals words SourceFault never = absurd never
 refusals words SinkFault never = absurd never
 
 -- a command that was refused before anything was touched
-as_finished : (before after : Flow) (f : Fault) (status : ℕ) (err : Option RunErr) → err ≡ Some (failed.Fault f) → IsEnded before after err status → IsFinished before after (Some f) status
+as_finished : (before after : Flow) (f : Fault) (status : ℕ) (err : Option RunErr) → err ≡ Some (failed.Fault f) → IsCommandFinished before after err status → IsFinished before after (Some f) status
 as_finished before after f status err is done =
-    let now : IsEnded before after (Some (failed.Fault f)) status = subst (λ (x : Option RunErr). IsEnded before after x status) is done in
+    let now : IsCommandFinished before after (Some (failed.Fault f)) status = subst (λ (x : Option RunErr). IsCommandFinished before after x status) is done in
     record { status_is = now.status_is; line = now.line }
 
 -- one of the first two of three
@@ -235,7 +235,7 @@ module _ (before mid after : Outside) (status : ℕ) (input : after.input ≡ mi
         ⊎ ((k : ℕ) × AreLanes lanes k × (KeysTell ⊎ ((keys : Keys) × HasKeys text keys × RunsBy keys k turns trace))))
 
     abbrev Ended : Option RunErr → Type 0
-    Ended err = IsEnded mid.output after.output err status
+    Ended err = IsCommandFinished mid.output after.output err status
 
     pub usage_done : (err : Option RunErr) → CommandDoes disk flow beat drawn words text old new before mid was is err → Ended err → asked_by words ≡ None → Tell Usage ⊎ Tell Memory
     usage_done err (inl (f, told, inl refused, kept, same)) done nothing = usage_tells Kept kept same words text (Some f) f refl (as_finished mid.output after.output f status err told done) refused nothing

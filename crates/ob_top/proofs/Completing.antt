@@ -109,7 +109,8 @@ module _ (store : StoreKind) (laws : AreStandingLaws store) (life : LifeWords st
 
   early : (most : ℕ) (t u : Trace) (f : RunErr) → t.broken ≡ false → (Rose t.faults u.faults → ⊥) → EndsEarly store life can.keys most (disk old) (disk new) t u disk before.input after.input f → status_of (told_fault (Some f)) ≡ 9
   early most t u failed.Unwatched whole watch (inl head) = absurd (watch (rose_added (lines_of (note.Read 0 ∷ [])) t u head.shown whole head.broken))
-  early most t u failed.Unwatched whole watch (inr opening) = absurd (watch (rose_later t.faults opening.shown.between.faults u.faults opening.shown.head.faults (rose_added (lines_of (store.open_notes opening.p opening.found opening.start)) opening.shown.between u opening.shown.behind opening.shown.whole opening.broken)))
+  early most t u failed.Unwatched whole watch (inr opening) = absurd (watch (rose_later t.faults opening.shown.between.faults u.faults opening.shown.head.faults
+      (rose_added (lines_of (store.open_notes opening.p opening.found opening.start)) opening.shown.between u opening.shown.behind opening.shown.whole opening.broken)))
   early most t u (failed.Fault f) whole watch (inl head) =
       absurd (can.store_holds (head.cause (laws.reads_head can.keys can.p ((disk old).cells 0) f (laws.has_head can.keys can.p can.generation (disk old).cells can.at can.stands) head.kind (head.read can.tells))))
   early most t u (failed.Fault f) whole watch (inr (inl input)) = input_told input.p.keys f (many_keys input.p input.head) input.refused

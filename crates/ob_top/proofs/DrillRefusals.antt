@@ -2,7 +2,7 @@
 use Rattle.std.specs.Borrow.{GName}
 use Rattle.std.specs.FinMap.{empty}
 use Rattle.ob_base.specs.Causes.{Rose}
-use Rattle.std.proofs.Common.{◌≡◌, ◌∙◌, ◌⊎◌, ◌+◌, ◌*◌, ◌≤◌, ℕ, true, List, [], ◌∷◌, ◌++◌, length, Result, Ok, Err, IfErr, None, refl, sym, ap, subst, arith, inl, inr}
+use Rattle.std.proofs.Common.{◌≡◌, ◌∙◌, ◌⊎◌, ◌+◌, ◌≤◌, ℕ, true, List, [], ◌∷◌, ◌++◌, length, Result, Ok, Err, IfErr, None, refl, sym, ap, subst, arith, inl, inr}
 use Rattle.ob_base.specs.declared.fault.Fault.{Fault}
 use Rattle.ob_base.specs.declared.fault.Fault.TheVariants.{Memory}
 use Rattle.ob_base.specs.declared.params.Params.{Params}
@@ -33,7 +33,7 @@ use Rattle.ob_script.proofs.Drills.{drill_sound}
 use Rattle.ob_runner.specs.Runners.{AreRunners}
 use Rattle.ob_runner.specs.declared.runner.ScriptRunner.{ScriptRunner}
 use Rattle.ob_desk.specs.Beats.{BeatKind}
-use Rattle.ob_conduct.specs.Acts.{calls, fault_of, records}
+use Rattle.ob_conduct.specs.Acts.{calls, records}
 use Rattle.ob_conduct.specs.Records.{AreAnswered}
 use Rattle.ob_conduct.proofs.Going.{answered_join}
 use Rattle.ob_outcomes.proofs.Counting.{few_epochs, few_txns}
@@ -129,7 +129,8 @@ module _ {V S : Type 0} (k : Kind V) (counts : V → VaultCounts) (agrees : (x :
     -- all was served, and then read
     pub served_and_read : (last : V) (d : Drilled) → HasDrilled k counts beat p script runners first last d → IsServedAndRead disk beat keys p n f (runs first).store (runs last).store
     served_and_read last d h =
-        let (s, its) = subst (λ (x : Scripts). (s : ServedOver ring_kind ring_lives disk (manner beat true 4) keys p f (f.run).sealer x (runs h.mid).drawn (runs first).store (runs h.mid).store no_output no_output blind blind None) × CallsBehind k first (calls s.is_served.served.acts) h.mid None) script_is (served_as h.mid (Ok tt) h.run) in
+        let (s, its) = subst (λ (x : Scripts). (s : ServedOver ring_kind ring_lives disk (manner beat true 4) keys p f (f.run).sealer x (runs h.mid).drawn (runs first).store (runs h.mid).store no_output no_output blind blind None) × CallsBehind k first
+        (calls s.is_served.served.acts) h.mid None) script_is (served_as h.mid (Ok tt) h.run) in
         let asked = calls s.is_served.served.acts in
         let reads = h.reads.steps in
         let read = reads_called k h.mid blind reads last blind h.reads.chain in

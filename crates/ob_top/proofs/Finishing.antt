@@ -23,7 +23,7 @@ use Rattle.ob_conduct.specs.declared.run_err.RunErr.TheVariants as failed
 use Rattle.ob_store.proofs.Serving.{rose_later}
 use Rattle.ob_serial.specs.Serial.{EpochRecord}
 use Rattle.ob_serial.specs.Vaults.{VaultCall}
-use Rattle.ob_top.specs.Outside.{Outside, ErrTold, IsEnded}
+use Rattle.ob_top.specs.Outside.{Outside, ErrTold, IsCommandFinished}
 use Rattle.ob_top.specs.Formats.{FormatEnds, FormatTold, FormatDone}
 use Rattle.ob_vault.specs.Kinds.{StoreKind}
 use Rattle.ob_vault.specs.KindLives.{LifeWords}
@@ -94,7 +94,7 @@ module _ (store : StoreKind) (quiet : IsQuiet store) (life : LifeWords store) wh
     }
 
     module _ (status : ℕ) where
-      done_whole : (r : RunOn store life disk by words keys old new before mid t u None) → IsEnded mid.output after.output None status → RunDone store life disk by words keys old new before after t u status
+      done_whole : (r : RunOn store life disk by words keys old new before mid t u None) → IsCommandFinished mid.output after.output None status → RunDone store life disk by words keys old new before after t u status
       done_whole r f =
           let bytes : after.output.bytes ≡ appended before.output.bytes (report decimal r.records) = ap (λ (o : Flow). o.bytes) f.line ∙ r.lines.0.bytes in
           record {
@@ -121,7 +121,7 @@ module _ (store : StoreKind) (quiet : IsQuiet store) (life : LifeWords store) wh
       sink_went records same (inl (none, early, lives)) = inl (none, early_on (failed.Fault SinkFault) early, lives)
       sink_went records same (inr ran) = inr (ran_on records (Some (failed.Fault SinkFault)) ran (subst (λ (f : Flow). Rose before.output.faults f.faults) (sym same) ran.cause))
 
-      done_sink : (r : RunOn store life disk by words keys old new before mid t u (Some (failed.Fault SinkFault))) → IsEnded mid.output after.output (Some (failed.Fault SinkFault)) status → RunDone store life disk by words keys old new before after t u status
+      done_sink : (r : RunOn store life disk by words keys old new before mid t u (Some (failed.Fault SinkFault))) → IsCommandFinished mid.output after.output (Some (failed.Fault SinkFault)) status → RunDone store life disk by words keys old new before after t u status
       done_sink r f = record {
         err = Some (failed.Fault SinkFault);
         status_is = f.status_is;
@@ -168,7 +168,7 @@ module _ (store : StoreKind) (quiet : IsQuiet store) (life : LifeWords store) wh
       went_other err records same (inl (none, early, lives)) = inl (none, early_on err early, lives)
       went_other err records same (inr ran) = inr (ran_on records (Some err) ran (same ran.p ran.found (disk ran.between) ran.traced.behind (shapes (calls ran.is_served.served.acts)) (length records) (refused (calls ran.is_served.served.acts)) ran.cause))
 
-      pub run_done : (err : Option RunErr) → RunOn store life disk by words keys old new before mid t u err → IsEnded mid.output after.output err status → RunDone store life disk by words keys old new before after t u status
+      pub run_done : (err : Option RunErr) → RunOn store life disk by words keys old new before mid t u err → IsCommandFinished mid.output after.output err status → RunDone store life disk by words keys old new before after t u status
       run_done None r f = done_whole r f
       run_done (Some (failed.Fault SinkFault)) r f = done_sink r f
       run_done (Some failed.Unwatched) r f = done_other failed.Unwatched r.records r.whole r.lines f.line r.lines.0.bytes r.lines.0.later f.line f.status_is (went_other failed.Unwatched r.records (λ p found opened h so_far n call cause. cause) r.went) r.sound
@@ -216,7 +216,7 @@ module _ (store : StoreKind) (quiet : IsQuiet store) (life : LifeWords store) wh
 
   pub format_done : {S : Type 0} (disk : S → Disk) (keys : Keys) (p : Params) (old new : S) (before mid after : Outside) (t u : Trace) (status : ℕ) (err : Option RunErr) → FormatEnds store life disk keys p old new before.output mid.output t u err
       → ((disk old).tells → LeavesOnly (disk old) (disk new) (store.format_leaves keys p (disk old))) → mid.input ≡ before.input → after.input ≡ mid.input
-      → IsEnded mid.output after.output err status → FormatDone store life disk keys p old new before after t u status
+      → IsCommandFinished mid.output after.output err status → FormatDone store life disk keys p old new before after t u status
   format_done disk keys p old new before mid after t u status err ends leaves first second f = record {
     err = err;
     status_is = f.status_is;

@@ -1,5 +1,5 @@
 -- How what was begun and what was served join into a run.
-use Rattle.std.proofs.Common.{◌≡◌, false, true, ◌≤◌, ◌⊎◌, ℕ, List, [], length, map, Option, Some, None, refl, inl, inr, subst, arith, ◌∷◌}
+use Rattle.std.proofs.Common.{◌≡◌, false, ◌≤◌, ◌⊎◌, ℕ, List, [], length, map, Option, Some, None, refl, inl, inr, subst, arith, ◌∷◌}
 use Rattle.ob_base.specs.declared.params.Params.{Params}
 use Rattle.ob_conduct.specs.declared.run_err.RunErr.{RunErr}
 use Rattle.ob_conduct.specs.declared.run_err.RunErr.TheVariants as failed
@@ -30,7 +30,7 @@ use Rattle.ob_store.specs.declared.watch.Note.TheVariants as note
 use Rattle.ob_serial.specs.Serial.{EpochRecord}
 use Rattle.ob_script.specs.Script.{Scripts}
 use Rattle.ob_top.specs.Outside.{Outside, outside}
-use Rattle.ob_top.specs.Runs.{Manner, EndsEarly, IsOpened, EndsFor, begin_notes, IsLeftOnDisk, LeftByWholeRun, IsReadAndOpened, ServedOver, Ran, Went, RunOn, ShownBehindHead, begin_phases}
+use Rattle.ob_top.specs.Runs.{Manner, EndsEarly, IsOpened, EndsFor, beginning_notes, IsLeftOnDisk, LeftByWholeRun, IsReadAndOpened, ServedOver, Ran, Went, RunOn, ShownBehindHead, begin_phases}
 use Rattle.ob_top.proofs.Lines.{Stand, stand_all, stand_unless}
 use Rattle.ob_top.proofs.Living.{whole_lives}
 use Rattle.ob_top.proofs.Sounding.{early_sound, ran_sound}
@@ -119,7 +119,7 @@ module _ (store : StoreKind) (quiet : IsQuiet store) (life : LifeWords store) wh
       → ServedOver store life disk by keys p found sealing script words between new output output_new midway u err
       → RunOn store life disk by words keys old new (outside input output) (outside input_new output_new) t u err
   ran laws disk counts_now by words keys old between new input input_new output output_new p script found start sealing t midway u err shown whole later opened seen durable stood before opens begun found_so s =
-      let begins : Shows (begin_notes store p found start) t midway = shows_then (note.Read 0 ∷ []) (store.open_notes p found start) t shown.between midway shown.head shown.behind in
+      let begins : Shows (beginning_notes store p found start) t midway = shows_then (note.Read 0 ∷ []) (store.open_notes p found start) t shown.between midway shown.head shown.behind in
       let its : Ran store life disk by words keys old new (outside input output) (outside input_new output_new) t u s.records err = record {
         p = p;
         script = script;

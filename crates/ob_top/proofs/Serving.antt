@@ -58,7 +58,7 @@ use Rattle.ob_outcomes.proofs.Whole.{RunsScripts, is_served, its_acts, its_desk,
 use Rattle.ob_desk.specs.Beats.{BeatKind}
 use Rattle.ob_top.specs.Endings.{err_of, told_fault}
 use Rattle.ob_top.proofs.Lines.{lines_stand, next_by_acts}
-use Rattle.ob_top.specs.Runs.{Manner, manner, EndsWith, EachShown, EndsFor, IsShown, IsTraced, refused_row, steps_rows, IsLeftOnDisk, StagedFrom, IsNextEpoch, ComesNext, ServedOver, LivesBehind}
+use Rattle.ob_top.specs.Runs.{Manner, manner, EndsWith, EachShown, EndsFor, IsShownToWatch, IsTraced, refused_row, steps_rows, IsLeftOnDisk, StagedFrom, IsNextEpoch, ComesNext, ServedOver, LivesBehind}
 
 -- an end that was refused ended nothing
 none_ended : (writes : List (ℕ × Option (List ℕ))) (refused : EndErr) → ended_by (End writes, end_answer (Err refused)) ≡ []
@@ -132,7 +132,8 @@ module _ {V S : Type 0} (k : Kind V) (store : StoreKind) (disk : S → Disk) (st
       no_more m = omega arith
 
   -- one call before them
-  before_it : (q : store.Public) (h : store.Hidden) (so_far : List Shape) (n : ℕ) (first mid last : V) (t between u : Trace) → t.broken ≡ false → (call : VaultCall) (m : ℕ) (step : VaultCall × VaultAnswer) (steps : List (VaultCall × VaultAnswer)) → shapes (step ∷ steps) ≡ shape_of call ∷ shapes steps
+  before_it : (q : store.Public) (h : store.Hidden) (so_far : List Shape) (n : ℕ) (first mid last : V) (t between u : Trace) → t.broken ≡ false → (call : VaultCall) (m : ℕ) (step : VaultCall × VaultAnswer) (steps : List (VaultCall × VaultAnswer)) → shapes
+      (step ∷ steps) ≡ shape_of call ∷ shapes steps
       → answered (step ∷ steps) ≡ call ∷ answered steps
       → m + length (ended_of steps) ≡ n + length (ended_of (step ∷ steps)) → (own more : List Note) (one : IsAnsweredCall store most p At (disk (store_of first)) (disk (store_of mid)) mid q h so_far call m own)
       → Shows own t between → Behind (store.next p q (shape_of call) one.drawn) one.behind (so_far ++ shape_of call ∷ []) m mid between steps more last u
@@ -177,8 +178,16 @@ module _ {V S : Type 0} (k : Kind V) (store : StoreKind) (disk : S → Disk) (st
 
   split : (first : V) (t : Trace) (front : List (VaultCall × VaultAnswer)) (call : VaultCall) (answer : VaultAnswer) (notes : List Note) (last : V) (u : Trace) → AllNoted k first t (front ++ (call, answer) ∷ []) notes last u
       → (mid : V) × (between : Trace) × (before : List Note) × (own : List Note) × AllNoted k first t front before mid between × CalledWith mid between call answer last u own × (notes ≡ before ++ own)
-  split first t [] call answer notes last u (end, between, one, more, are, (same, none, still)) =
-      (first, t, [], one.one.notes, (refl, refl, refl), subst (λ w. CalledWith first t call answer w u one.one.notes) (sym same) (one.one, refl, one.whole, subst (λ (x : Trace). Shows one.one.notes t x) (sym still) one.shown), are ∙ ap (λ (l : List Note). one.one.notes ++ l) none ∙ append-nil one.one.notes)
+  split first t [] call answer notes last u (end, between, one, more, are, (same, none, still)) = (
+    first,
+    t,
+    [],
+    one.one.notes,
+    (refl, refl, refl),
+    subst (λ w. CalledWith first t call answer w u one.one.notes) (sym same) (one.one, refl, one.whole, subst (λ (x : Trace). Shows one.one.notes t x) (sym still) one.shown),
+    are ∙ ap
+        (λ (l : List Note). one.one.notes ++ l) none ∙ append-nil one.one.notes,
+  )
   split first t (step ∷ front) call answer notes last u (next, between, one, more, are, rest) =
       let (mid, at, before, own, chain, last_one, joined) = split next between front call answer more last u rest in (
         mid,
@@ -205,7 +214,7 @@ module _ {V S : Type 0} (k : Kind V) (store : StoreKind) (disk : S → Disk) (st
     pub record Ending (asked : List (VaultCall × VaultAnswer)) (err : Option RunErr) : Type 0 where
       pub events : List Event
       pub traced : IsTraced store most p (store.public p found) (store.hidden p found) (tape_of last) asked (told_fault err) events
-      pub shown : IsShown store most p (store.public p found) (store.hidden p found) (tape_of last) asked (told_fault err) events traced t u
+      pub shown : IsShownToWatch store most p (store.public p found) (store.hidden p found) (tape_of last) asked (told_fault err) events traced t u
       pub cause : EndsFor store under p found (disk (store_of start)) traced.behind (shapes asked) (length records) (refused asked) (tape_of last) (disk (store_of first)) (disk (store_of last)) before after t u err
       pub seen : Notes events (disk (store_of first)).seen (disk (store_of last)).seen
       pub goes_on : life.goes_on under p found (disk (store_of start)) (answered asked) traced.steps traced.behind (refused asked) (tape_of last) (disk (store_of last))
@@ -510,7 +519,7 @@ module _ {V S : Type 0} (k : Kind V) (store : StoreKind) (disk : S → Disk) (st
       -- the trace, what goes on in the life with its steps, and why it ended there
       abbrev TracesLife : List Act → List Event → Type 0
       TracesLife xs events = (t : IsTraced store most p (store.public p found) (store.hidden p found) (tape_of last) (calls xs) (told_fault (err_of result)) events)
-          × IsShown store most p (store.public p found) (store.hidden p found) (tape_of last) (calls xs) (told_fault (err_of result)) events t trace end.scene.trace
+          × IsShownToWatch store most p (store.public p found) (store.hidden p found) (tape_of last) (calls xs) (told_fault (err_of result)) events t trace end.scene.trace
           × life.goes_on under p found (disk (store_of start)) (answered (calls xs)) t.steps t.behind (refused (calls xs)) (tape_of last) (disk (store_of last))
           × EndsFor store under p found (disk (store_of start)) t.behind (shapes (calls xs)) (length records) (refused (calls xs)) (tape_of last) (disk (store_of start)) (disk (store_of last)) before after trace end.scene.trace (err_of result)
 

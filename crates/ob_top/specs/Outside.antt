@@ -60,7 +60,7 @@ IsWatched trace (Some (failed.Fault fault)) = ⊥
 IsWatched trace (Some failed.Unwatched) = trace.broken ≡ true
 
 -- what the end of a command over a store tells
-pub record IsEnded (before after : Flow) (err : Option RunErr) (status : ℕ) : Type 0 where
+pub record IsCommandFinished (before after : Flow) (err : Option RunErr) (status : ℕ) : Type 0 where
   pub status_is : status ≡ status_of (told_fault err)
   pub line : ErrTold before after err
 

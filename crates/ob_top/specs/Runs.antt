@@ -68,8 +68,8 @@ pub record IsTraced (store : StoreKind) (most : ℕ) (p : Params) (q : store.Pub
   pub events_are : events ≡ first ++ more
 
 -- What the watch is shown of the opening: the head's read, and the notes that the kind of store gives.
-abbrev pub begin_notes : (store : StoreKind) → Params → store.Found → store.Start → List Note
-begin_notes store p found start = note.Read 0 ∷ store.open_notes p found start
+abbrev pub beginning_notes : (store : StoreKind) → Params → store.Found → store.Start → List Note
+beginning_notes store p found start = note.Read 0 ∷ store.open_notes p found start
 
 -- The head's read was shown, behind which the watch was whole, and then these notes were.
 pub record ShownBehindHead (notes : List Note) (before after : Trace) : Type 0 where
@@ -95,7 +95,7 @@ EachShown (row ∷ rows) before after = (before.broken ≡ false) × ((between :
 
 -- What the watch was shown of serving, beside what is seen of it: the notes of the vault's calls, one behind the other, filled by what they
 -- drew, and of a call that was refused what its fault allows. Each call was made under a watch that was whole.
-pub record IsShown (store : StoreKind) (most : ℕ) (p : Params) (q : store.Public) (h : store.Hidden) (words : List ℕ) (asked : List (VaultCall × VaultAnswer)) (fault : Option Fault) (events : List Event)
+pub record IsShownToWatch (store : StoreKind) (most : ℕ) (p : Params) (q : store.Public) (h : store.Hidden) (words : List ℕ) (asked : List (VaultCall × VaultAnswer)) (fault : Option Fault) (events : List Event)
     (traced : IsTraced store most p q h words asked fault events) (before after : Trace) : Type 0 where
   pub last : List Note
   pub cut : IsCutShown store most p (public_behind store p q traced.steps) traced.behind (refused asked) words fault traced.more traced.cut last
@@ -325,7 +325,7 @@ pub record ServedOver (store : StoreKind) (life : LifeWords store) {S : Type 0} 
   pub lines : LinesStand err records whole before after
   pub events : List Event
   pub traced : IsTraced store by.lanes p (store.public p found) (store.hidden p found) words (calls is_served.served.acts) (told_fault err) events
-  pub shown : IsShown store by.lanes p (store.public p found) (store.hidden p found) words (calls is_served.served.acts) (told_fault err) events traced t u
+  pub shown : IsShownToWatch store by.lanes p (store.public p found) (store.hidden p found) words (calls is_served.served.acts) (told_fault err) events traced t u
   -- one that is over has a whole watch
   pub watched : err ≡ None → u.broken ≡ false
   pub cause : EndsFor store keys p found (disk old) traced.behind (shapes (calls is_served.served.acts)) (length records) (refused (calls is_served.served.acts)) words (disk old) (disk new) before after t u err
@@ -359,9 +359,9 @@ module _ (store : StoreKind) (life : LifeWords store) {S : Type 0} (disk : S →
     -- What the watch is shown: the notes of the opening, behind which it is whole, and then those of the vault's calls; and one that is over
     -- has a whole watch.
     pub midway : Trace
-    pub opening_shown : Shows (begin_notes store p found start) t midway
+    pub opening_shown : Shows (beginning_notes store p found start) t midway
     pub whole_midway : midway.broken ≡ false
-    pub shown : IsShown store by.lanes p (store.public p found) (store.hidden p found) words (calls is_served.served.acts) (told_fault err) events traced midway u
+    pub shown : IsShownToWatch store by.lanes p (store.public p found) (store.hidden p found) words (calls is_served.served.acts) (told_fault err) events traced midway u
     pub watched : err ≡ None → u.broken ≡ false
     pub opens : OpensStanding store disk keys p (disk old) (disk between)
     -- unless there was a fault, cells are told where they were

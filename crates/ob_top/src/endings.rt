@@ -1,7 +1,7 @@
 //! How a call ends.
 
 ghost use Rattle.ob_io.specs.Streams.{outflow};
-ghost use Rattle.ob_top.specs.Outside.{IsEnded, IsFinished, IsWatched};
+ghost use Rattle.ob_top.specs.Outside.{IsCommandFinished, IsFinished, IsWatched};
 ghost use Rattle.ob_top.specs.Endings.{err_of, fault_of};
 
 use ob_base::Fault;
@@ -42,8 +42,8 @@ pub fn finish<O: Sink>(output: &mut O, ended: Result<(), Fault>) -> u8
 /// The same of a command over a store. Where its watch broke, and the output didn't fail, that is
 /// told as the output's fault.
 pub fn finish_run<O: Sink>(output: &mut O, ended: Result<(), RunErr>) -> u8
-    ensures { IsEnded (outflow O.Sink output.old) (outflow O.Sink output.new) (err_of ended)
-        result }
+    ensures { IsCommandFinished (outflow O.Sink output.old) (outflow O.Sink output.new)
+        (err_of ended) result }
 {
     match ended {
         Ok(()) => 0,
