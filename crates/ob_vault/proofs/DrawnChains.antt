@@ -1,21 +1,25 @@
 -- What calls draw, one behind the other, is what a life shows.
-use Rattle.std.specs.Prelude.{◌≡◌, ℕ, ◌<◌, List, [], ◌∷◌, ◌++◌, length, slice_index}
+use Rattle.std.specs.Prelude.{◌≡◌, ℕ, ◌<◌, List, [], ◌∷◌, ◌++◌, length, map, slice_index}
 use Rattle.std.proofs.Common.{arith, length-append, refl, sym, ap, subst, ◌∙◌}
 use Rattle.std.proofs.lemmas.List.{append-nil, append_assoc, get_or_append_left}
 use Rattle.ob_base.specs.declared.params.Params.{Params}
 use Rattle.ob_vault.specs.Shapes.{Shape}
 use Rattle.ob_vault.specs.KindShown.{AreDrawn}
 use Rattle.ob_recover.proofs.FreshLaws.{lives_are_fresh}
+use Rattle.ob_end.specs.EndRuns.{end_writes}
 use Rattle.ob_recover.proofs.Pads.{life_goes_on}
+use Rattle.ob_recover.specs.Known.{slot_kept}
+use Rattle.ob_recover.specs.Lives.{life_batch}
 use Rattle.ob_recover.specs.Life.{IsLife, LifeAct, LifeState, WordId, formatted_life, life_step, reached}
-use Rattle.ob_vault.specs.Acts.{AreTapeWords}
+use Rattle.ob_vault.specs.Acts.{AreTapeWords, id_write}
 use Rattle.ob_vault.specs.Hidden.{RingDraws, RingHidden}
 use Rattle.ob_vault.specs.RingKind.{ring_kind}
+use Rattle.ob_vault.specs.RingVaults.{write_from}
 use Rattle.ob_schedule.specs.Schedule.{Fills}
 use Rattle.ob_serial.specs.Vaults.{End, Fetch, VaultCall}
 use Rattle.ob_vault.proofs.Batches as batches
 use Rattle.ob_vault.proofs.Ends as ends
-use Rattle.ob_vault.specs.Shown.{AreFilledBy, AreShownBy, DrawnIsShown, IsInLife}
+use Rattle.ob_vault.specs.Shown.{AreActsOf, AreFilledBy, AreShownBy, DrawnIsShown, IsInLife}
 
 -- ---- words go on
 
@@ -55,6 +59,7 @@ record IsOne (p : Params) (word_of : WordId → ℕ) (s : LifeState) (call : Vau
   acts : List LifeAct
   is_life : IsLife p word_of s acts
   then : IsInLife p word_of behind (reached p word_of s acts)
+  own : AreActsOf call acts
   filled : AreFilledBy p word_of s acts call f
 
 one_call : (p : Params) (word_of : WordId → ℕ) (s : LifeState) (h : RingHidden) (call : VaultCall) (f : Fills) (behind : RingHidden) → IsInLife p word_of h s → RingDraws p h call f behind → AreTapeWords word_of behind.generation behind.words
@@ -66,6 +71,7 @@ one_call p word_of s h (Fetch asks) f behind here (d, fit) tape =
       acts = batches.acts p word_of s h here asks f behind d some own;
       is_life = batches.batch_life p word_of s h here asks f behind d some own;
       then = batches.batch_then p word_of s h here asks f behind d some own fit;
+      own = (life_batch d.next, (d.is_next).asked, refl);
       filled = batches.batch_filled p word_of s h here asks f behind d some own;
     }
 one_call p word_of s h (End ws) f behind here d tape =
@@ -74,6 +80,7 @@ one_call p word_of s h (End ws) f behind here d tape =
       acts = ends.acts p word_of s h here ws f behind d own;
       is_life = ends.end_life p word_of s h here ws f behind d own;
       then = ends.end_then p word_of s h here ws f behind d own;
+      own = (map id_write (end_writes p (map write_from ws) d.words h.generation (length h.words)), length behind.words, slot_kept behind.content, refl);
       filled = ends.end_filled p word_of s h here ws f behind d own;
     }
 
@@ -99,7 +106,7 @@ all p word_of s h behind (call ∷ calls) (step ∷ steps) here (mid, draws, res
       acts = one.acts ++ more.acts;
       is_life = life_goes_on p word_of s one.acts more.acts one.is_life more.is_life;
       then = subst (λ (t : LifeState). IsInLife p word_of behind t) (sym (reached_on p word_of s one.acts more.acts)) more.then;
-      shown = (one.acts, more.acts, refl, one.filled, more.shown);
+      shown = (one.acts, more.acts, refl, one.own, one.filled, more.shown);
     }
 all p word_of s h behind [] (step ∷ steps) here none tape = absurd none
 all p word_of s h behind (call ∷ calls) [] here none tape = absurd none

@@ -6,7 +6,7 @@ use mathlib.Core.Path.{fun_ext}
 use Rattle.ob_base.specs.declared.params.Params.{Params}
 use Rattle.ob_recover.proofs.FreshLaws.{lives_are_fresh}
 use Rattle.ob_recover.proofs.Pads.{life_goes_on}
-use Rattle.ob_recover.specs.Calls.{repeated}
+use Rattle.ob_recover.specs.Calls.{Finds, repeated}
 use Rattle.ob_recover.specs.Life.{IsLife, LifeAct, LifeState, Open, ShowBatch, WordId, formatted_life, life_step, reached}
 use Rattle.ob_vault.specs.Acts.{AreBatchesSmall}
 use Rattle.ob_seal.specs.declared.keys.Keys.{Keys}
@@ -61,18 +61,20 @@ module _ {S : Type 0} (disk : S → Disk) (keys : Keys) (p : Params) (word_of : 
   join s part parts first life is later = record { acts = first ++ later.acts; is_life = life_goes_on p word_of s first later.acts life later.is_life; parts_are = (first, later.acts, refl, is, later.parts_are) }
 
   -- where the next one begins, the acts are those, those that were made of a refused call, and some more; behind the last one, no more
-  record Ahead (s : LifeState) (acts made : List LifeAct) (parts : List (RunPart S)) : Type 0 where
+  record Ahead (s : LifeState) (acts made : List LifeAct) (in_flight : Option LifeAct) (parts : List (RunPart S)) : Type 0 where
     more : List LifeAct
     rest : List LifeAct
     begins : more ≡ made ++ rest
+    finds : Finds in_flight rest
     is_life : IsLife p word_of s (acts ++ more)
     here : Here (reached p word_of s (acts ++ more)) parts
 
-  ahead : (s : LifeState) (acts made : List LifeAct) (may_leave : Image → Type 0) → IsLife p word_of s (acts ++ made) → ((c : Image) → may_leave c → IsNextInLife keys p word_of s acts made c) → (parts : List (RunPart S)) → AreRunsFrom disk keys p may_leave parts → Ahead s acts made parts
-  ahead s acts made may_leave life next [] from = record { more = made; rest = []; begins = sym (append-nil made); is_life = life; here = tt }
-  ahead s acts made may_leave life next (part ∷ parts) from =
-      let n : IsNextInLife keys p word_of s acts made (disk (begun_at part)).cells = next (disk (begun_at part)).cells from.0 in
-      record { more = n.more; rest = n.rest; begins = n.begins; is_life = n.is_life; here = (n.stands, n.small) }
+  ahead : (s : LifeState) (acts made : List LifeAct) (in_flight : Option LifeAct) (may_leave : Image → Type 0) → IsLife p word_of s (acts ++ made) → ((c : Image) → may_leave c → IsNextInLife keys p word_of s acts made in_flight c) → (parts : List (RunPart S)) → AreRunsFrom disk keys p may_leave parts
+      → Ahead s acts made in_flight parts
+  ahead s acts made in_flight may_leave life next [] from = record { more = made; rest = []; begins = sym (append-nil made); finds = inl refl; is_life = life; here = tt }
+  ahead s acts made in_flight may_leave life next (part ∷ parts) from =
+      let n : IsNextInLife keys p word_of s acts made in_flight (disk (begun_at part)).cells = next (disk (begun_at part)).cells from.0 in
+      record { more = n.more; rest = n.found; begins = n.begins; finds = n.finds; is_life = n.is_life; here = (n.stands, n.small) }
 
   -- behind an opening that was refused
   stopped_next : (s : LifeState) (new : Disk) → IsStoppedInLife keys p word_of s new → AreBatchesSmall s.log → (c : Image) → new.may_leave c → (first : List LifeAct) × IsLife p word_of s first × StandsInLife keys p word_of (reached p word_of s first) c
@@ -112,9 +114,9 @@ module _ {S : Type 0} (disk : S → Disk) (keys : Keys) (p : Params) (word_of : 
       let left = (run.goes).left m is_map in
       let with_made : IsLife p word_of s ((opening_acts s ++ (run.goes).acts) ++ left.made) =
       life_goes_on p word_of s (opening_acts s ++ (run.goes).acts) left.made run.is_life (subst (λ (t : LifeState). IsLife p word_of t left.made) (sym run.leads) left.is_life) in
-      let a : Ahead s (opening_acts s ++ (run.goes).acts) left.made parts = ahead s (opening_acts s ++ (run.goes).acts) left.made (disk new).may_leave with_made (λ c will. run.next m is_map c will) parts from.2 in
+      let a : Ahead s (opening_acts s ++ (run.goes).acts) left.made left.in_flight parts = ahead s (opening_acts s ++ (run.goes).acts) left.made left.in_flight (disk new).may_leave with_made (λ c will. run.next m is_map c will) parts from.2 in
       join s (Served most old found opened calls steps behind refused words seen new) parts ((opening_acts s ++ (run.goes).acts) ++ a.more) a.is_life
-      (run, m, is_map, a.rest, ap (λ (l : List LifeAct). (opening_acts s ++ (run.goes).acts) ++ l) a.begins)
+      (run, m, is_map, a.rest, a.finds, ap (λ (l : List LifeAct). (opening_acts s ++ (run.goes).acts) ++ l) a.begins)
       (runs parts (reached p word_of s ((opening_acts s ++ (run.goes).acts) ++ a.more)) (disk new).may_leave a.here from.2 given.1)
   runs (Stopped old new ∷ []) s may_leave here from given = join s (Stopped old new) [] [] tt (opening_acts s, refl) (runs [] s (disk new).may_leave tt tt tt)
   runs (Stopped old new ∷ part ∷ parts) s may_leave here from given =

@@ -41,8 +41,8 @@ use Rattle.ob_store.specs.declared.watch.Note.{Note}
 use Rattle.ob_opening.specs.OpeningActs.{IsLeftAt, StandsInLife}
 use Rattle.ob_vault.proofs.DrawnChains.{GoesOn, all_on, drawn_shown, tape_before}
 use Rattle.ob_vault.proofs.Cutting.{cut_batch, cut_end, filled_batch, filled_end}
-use Rattle.ob_vault.specs.Lives.{AreActsOf, AreFirstActs, IsCutInLife, IsLeftInLife, IsShownInLife, RingGoesOn}
-use Rattle.ob_vault.specs.Shown.{AreFilledBy, AreOfLife, IsInLife}
+use Rattle.ob_vault.specs.Lives.{AreFirstActs, IsCutInLife, IsLeftInLife, IsShownInLife, RingGoesOn}
+use Rattle.ob_vault.specs.Shown.{AreActsOf, AreFilledBy, AreOfLife, IsInLife}
 
 none_cut : (call : VaultCall) → ◌≡◌ {A = Option VaultCall} None (Some call) → ⊥
 none_cut call e = cc e

@@ -1,6 +1,6 @@
 -- A whole run is a part of a life.
 use Rattle.std.specs.Prelude.{◌≡◌, ℕ, List, [], ◌∷◌, ◌++◌, Option, Some}
-use Rattle.std.proofs.Common.{refl, sym, ap, subst, ◌∙◌, ⊎_elim}
+use Rattle.std.proofs.Common.{refl, sym, ap, subst, ◌∙◌, inl, inr, ⊎_elim}
 use Rattle.std.proofs.lemmas.List.{append-nil}
 use Rattle.ob_base.proofs.Repeats.{has_push}
 use Rattle.ob_base.specs.Repeats.{Has}
@@ -8,6 +8,7 @@ use Rattle.ob_base.specs.declared.params.Params.{Params}
 use Rattle.ob_vault.specs.Shapes.{Shape}
 use Rattle.ob_recover.proofs.FreshLaws.{lives_are_fresh}
 use Rattle.ob_recover.proofs.Pads.{life_goes_on}
+use Rattle.ob_recover.specs.Calls.{Finds}
 use Rattle.ob_recover.specs.Life.{Append, End, IsLife, LifeAct, LifeBatch, LifeState, Open, ShowBatch, ShowLifts, WordId, formatted_life, life_step, reached}
 use Rattle.ob_vault.specs.Acts.{AreBatchesSmall, AreTapeWords, IsBatchSmall}
 use Rattle.ob_vault.specs.Hidden.{RingHidden}
@@ -35,25 +36,26 @@ small_step p word_of t (End ws drawn slot) small own = λ b none. absurd none
 module _ (keys : Keys) (p : Params) (word_of : WordId → ℕ) (s : LifeState) (acts : List LifeAct) (life : IsLife p word_of s acts) where
   module _ (t : LifeState) (leads : reached p word_of s acts ≡ t) where
     -- behind these acts and some more
-    behind_more : (made rest more : List LifeAct) (c : Image) → more ≡ made ++ rest → IsLife p word_of t more → StandsInLife keys p word_of (reached p word_of t more) c → AreBatchesSmall (reached p word_of t more).log → IsNextInLife keys p word_of s acts made c
-    behind_more made rest more c is on stands small =
+    behind_more : (made found more : List LifeAct) (in_flight : Option LifeAct) (c : Image) → more ≡ made ++ found → Finds in_flight found → IsLife p word_of t more → StandsInLife keys p word_of (reached p word_of t more) c → AreBatchesSmall (reached p word_of t more).log → IsNextInLife keys p word_of s acts made in_flight c
+    behind_more made found more in_flight c is finds on stands small =
         let there : reached p word_of s (acts ++ more) ≡ reached p word_of t more = reached_join p word_of s acts more ∙ ap (λ (u : LifeState). reached p word_of u more) leads in
         record {
           more = more;
-          rest = rest;
+          found = found;
           begins = is;
+          finds = finds;
           is_life = life_goes_on p word_of s acts more life (subst (λ (u : LifeState). IsLife p word_of u more) (sym leads) on);
           stands = subst (λ (u : LifeState). StandsInLife keys p word_of u c) (sym there) stands;
           small = subst (λ (u : LifeState). AreBatchesSmall u.log) (sym there) small;
         }
 
-    pub next_of : (most : ℕ) (behind : RingHidden) (refused : Option VaultCall) (words : List ℕ) (seen : List Event) (new : Disk) (l : IsLeftInLife keys most p word_of t behind refused words seen new) (c : Image) → new.may_leave c → IsNextInLife keys p word_of s acts l.made c
+    pub next_of : (most : ℕ) (behind : RingHidden) (refused : Option VaultCall) (words : List ℕ) (seen : List Event) (new : Disk) (l : IsLeftInLife keys most p word_of t behind refused words seen new) (c : Image) → new.may_leave c → IsNextInLife keys p word_of s acts l.made l.in_flight c
     next_of most behind refused words seen new l c left =
         let at : IsLeftAt keys p word_of (reached p word_of t l.made) l.in_flight c = l.images c left in
         ⊎_elim
-        (λ (stands : StandsInLife keys p word_of (reached p word_of t l.made) c). behind_more l.made [] l.made c (sym (append-nil l.made)) l.is_life stands (l.small).0)
+        (λ (stands : StandsInLife keys p word_of (reached p word_of t l.made) c). behind_more l.made [] l.made l.in_flight c (sym (append-nil l.made)) (inl refl) l.is_life stands (l.small).0)
         (λ (one : (a : LifeAct) × (l.in_flight ≡ Some a) × StandsInLife keys p word_of (life_step p word_of (reached p word_of t l.made) a) c).
-        behind_more l.made (one.0 ∷ []) (l.made ++ one.0 ∷ []) c refl (life_goes_on p word_of t l.made (one.0 ∷ []) l.is_life (at.allowed one.0 one.1, tt))
+        behind_more l.made (one.0 ∷ []) (l.made ++ one.0 ∷ []) l.in_flight c refl (inr (one.0, one.1, refl)) (life_goes_on p word_of t l.made (one.0 ∷ []) l.is_life (at.allowed one.0 one.1, tt))
         (subst (λ (u : LifeState). StandsInLife keys p word_of u c) (sym (reached_join p word_of t l.made (one.0 ∷ []))) one.2)
         (subst (λ (u : LifeState). AreBatchesSmall u.log) (sym (reached_join p word_of t l.made (one.0 ∷ []))) (small_step p word_of (reached p word_of t l.made) one.0 (l.small).0 (λ b e. (l.small).1 b (one.1 ∙ e)))))
         (at.stands c refl)

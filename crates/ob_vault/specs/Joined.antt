@@ -3,6 +3,7 @@ use Rattle.std.specs.Prelude.{◌≡◌, ℕ, ◌<◌, List, [], ◌∷◌, ◌+
 use Rattle.std.specs.Ordering.{nat_cmp}
 use Rattle.ob_base.specs.declared.params.Params.{Params}
 use Rattle.ob_vault.specs.Shapes.{Shape}
+use Rattle.ob_recover.specs.Calls.{Finds}
 use Rattle.ob_recover.specs.Life.{HolesAreFresh, IsLife, LifeAct, LifeState, WordId, formatted_life, life_labels, life_slots, reached}
 use Rattle.ob_vault.specs.Acts.{AreTapeWords}
 use Rattle.ob_vault.specs.Hidden.{RingHidden}
@@ -55,10 +56,11 @@ module _ {S : Type 0} (disk : S → Disk) (keys : Keys) (p : Params) where
 
   module _ (word_of : WordId → ℕ) where
     -- The acts of a run: the opening's, those of its calls, which show what fills its holes, those that were made of a call that was refused,
-    -- which show what that showed, and what the next run found of it besides. Or the first acts of an opening.
+    -- which show what that showed, and what the next run found of the act in flight. Or the first acts of an opening.
     abbrev pub IsPart : LifeState → RunPart S → List LifeAct → Type 0
     IsPart s (Served most old found opened calls steps behind refused words seen new) acts = (run : IsRunInLife keys most p word_of s found (disk opened) calls steps behind refused words seen (disk new))
-        × (m : Map nat_cmp) × (is : IsRingMap keys p (disk opened) found m) × (rest : List LifeAct) × (acts ≡ (opening_acts s ++ run.goes.acts) ++ ((run.goes.left m is).made ++ rest))
+        × (m : Map nat_cmp) × (is : IsRingMap keys p (disk opened) found m) × (rest : List LifeAct) × Finds (run.goes.left m is).in_flight rest
+        × (acts ≡ (opening_acts s ++ run.goes.acts) ++ ((run.goes.left m is).made ++ rest))
     IsPart s (Stopped old new) acts = (rest : List LifeAct) × (opening_acts s ≡ acts ++ rest)
 
     -- the runs' acts, one behind the other

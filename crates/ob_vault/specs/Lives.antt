@@ -10,8 +10,8 @@ use Rattle.ob_tables.specs.Rank.{IsRanking}
 use Rattle.ob_vault.specs.KindLives.{LifeWords}
 use Rattle.ob_vault.specs.Shapes.{Shape}
 use Rattle.ob_vault.specs.KindShown.{AreDrawn}
-use Rattle.ob_recover.specs.Calls.{repeated}
-use Rattle.ob_recover.specs.Life.{Append, End as EndAct, HolesAreFresh, IsLife, LifeAct, LifeBatch, LifeState, Open, ShowBatch, ShowLifts, SlotFill, WordId, formatted_life, leaf_of_word, life_labels, life_slots, reached}
+use Rattle.ob_recover.specs.Calls.{Finds, repeated}
+use Rattle.ob_recover.specs.Life.{Append, HolesAreFresh, IsLife, LifeAct, LifeBatch, LifeState, Open, ShowBatch, ShowLifts, SlotFill, WordId, formatted_life, leaf_of_word, life_labels, life_slots, reached}
 use Rattle.ob_vault.specs.Acts.{AreBatchesSmall, AreTapeWords, IsBatchSmall}
 use Rattle.ob_vault.specs.Hidden.{AreFirst, RingCut, RingCutShown, RingDrawsCut, RingHidden}
 use Rattle.ob_vault.specs.RingLaws.{ReadsHead}
@@ -33,7 +33,7 @@ use Rattle.ob_store.specs.Lines.{Trace}
 use Rattle.ob_store.specs.declared.event.Event.{Event}
 use Rattle.ob_opening.specs.Formats.{drawn_ranks, format_words}
 use Rattle.ob_opening.specs.OpeningActs.{AreSlotsIn, IsLeftAt, OpensInLife, StandsInLife}
-use Rattle.ob_vault.specs.Shown.{AreFilledBy, AreShownBy, IsInLife}
+use Rattle.ob_vault.specs.Shown.{AreActsOf, AreFilledBy, AreShownBy, IsInLife}
 
 -- ---- a format
 
@@ -83,11 +83,6 @@ abbrev pub RingStops : Keys → Params → (old new : Disk) → Type 0
 RingStops keys p old new = (word_of : WordId → ℕ) (s : LifeState) → StandsInLife keys p word_of s old.cells → ((c : Image) → old.may_leave c → StandsInLife keys p word_of s c) → IsStoppedInLife keys p word_of s new
 
 -- ---- what is left
-
--- the acts of a batch with these keys, or of an end
-abbrev pub AreActsOf : VaultCall → List LifeAct → Type 0
-AreActsOf (Fetch asks) acts = (b : LifeBatch) × (b.asks ≡ asks) × (acts ≡ Append b ∷ ShowBatch ∷ [])
-AreActsOf (End writes) acts = (ws : List (ℕ × Option WordId)) × (drawn : ℕ) × (slot : ℕ → ℕ → ℕ) × (acts ≡ ShowLifts ∷ EndAct ws drawn slot ∷ [])
 
 -- Of a call that was refused the first acts were made, and the next may be in flight. Without such a call there are none.
 abbrev pub AreFirstActs : Option VaultCall → (made : List LifeAct) → (in_flight : Option LifeAct) → Type 0
@@ -169,12 +164,13 @@ RunsGoOn {V} {S} k disk = (runs : V → Running S) → HasRingWords k disk runs 
     × ((call : VaultCall) (answer : VaultAnswer) (w : V) (one : Called k v call answer w) (c : Fills) (refused : Fault) (seen : List Event) → RingCut most p q h call c (runs w).drawn refused seen → RingCutShown most p q call c refused seen one.notes
     → RingGoesOn keys most p f (disk (runs first).store) calls steps h (Some call) (runs w).drawn seen (disk (runs w).store))
 
--- Behind these acts and some more, the first of which these are that were made of a refused call, the life is where this image stands, so
--- that the next run begins there.
-pub record IsNextInLife (keys : Keys) (p : Params) (word_of : WordId → ℕ) (s : LifeState) (acts made : List LifeAct) (image : Image) : Type 0 where
+-- Behind these acts and those that were made of a refused call, and what is found of the act that was in flight, the life is where this image
+-- stands, so that the next run begins there.
+pub record IsNextInLife (keys : Keys) (p : Params) (word_of : WordId → ℕ) (s : LifeState) (acts made : List LifeAct) (in_flight : Option LifeAct) (image : Image) : Type 0 where
   pub more : List LifeAct
-  pub rest : List LifeAct
-  pub begins : more ≡ made ++ rest
+  pub found : List LifeAct
+  pub begins : more ≡ made ++ found
+  pub finds : Finds in_flight found
   pub is_life : IsLife p word_of s (acts ++ more)
   pub stands : StandsInLife keys p word_of (reached p word_of s (acts ++ more)) image
   pub small : AreBatchesSmall (reached p word_of s (acts ++ more)).log
@@ -190,7 +186,7 @@ pub record IsRunInLife (keys : Keys) (most : ℕ) (p : Params) (word_of : WordId
   pub leads : reached p word_of s (opening_acts s ++ goes.acts) ≡ reached p word_of (reached p word_of s (opening_acts s)) goes.acts
   pub fresh : (slot : ℕ → ℕ → ℕ) (before : List LifeAct) → 0 < p.dummies → ((u : ℕ) → IsRanking (p.real + p.dummies) (slot u)) → IsLife p word_of (formatted_life slot) before → reached p word_of (formatted_life slot) before ≡ s
       → HolesAreFresh (life_labels p word_of (formatted_life slot) (before ++ (opening_acts s ++ goes.acts))) (life_slots p word_of (formatted_life slot) (before ++ (opening_acts s ++ goes.acts)))
-  pub next : (m : Map nat_cmp) (is : IsRingMap keys p opened f m) (c : Image) → new.may_leave c → IsNextInLife keys p word_of s (opening_acts s ++ goes.acts) (goes.left m is).made c
+  pub next : (m : Map nat_cmp) (is : IsRingMap keys p opened f m) (c : Image) → new.may_leave c → IsNextInLife keys p word_of s (opening_acts s ++ goes.acts) (goes.left m is).made (goes.left m is).in_flight c
 
 -- What an opening begins with, and what then goes on, are one: over a store that stood for a life the whole run is a part of that, and all
 -- that was ever shown of it is fresh.

@@ -1,12 +1,12 @@
 -- What a ring store's vault draws, as acts of a life of its store.
-use Rattle.std.specs.Prelude.{◌≡◌, ℕ, ◌+◌, ◌<◌, List, [], ◌∷◌, ◌++◌, map, length}
+use Rattle.std.specs.Prelude.{◌≡◌, ℕ, ◌+◌, ◌<◌, List, [], ◌∷◌, ◌++◌, map, length, Option}
 use Rattle.ob_base.specs.Repeats.{Has}
 use Rattle.ob_base.specs.declared.params.Params.{Params}
 use Rattle.ob_tables.specs.Rank.{IsRanking}
 use Rattle.ob_tables.specs.Content.{Obeys}
 use Rattle.ob_vault.specs.Shapes.{Shape}
 use Rattle.ob_vault.specs.KindShown.{AreDrawn}
-use Rattle.ob_recover.specs.Life.{HolesAreFresh, IsLife, LifeAct, LifeState, SlotFill, WordId, formatted_life, leaf_of_word, life_labels, life_slots, reached}
+use Rattle.ob_recover.specs.Life.{Append, End as EndAct, HolesAreFresh, IsLife, LifeAct, LifeBatch, LifeState, ShowBatch, ShowLifts, SlotFill, WordId, formatted_life, leaf_of_word, life_labels, life_slots, reached}
 use Rattle.ob_log.specs.Logs.{RecordsFit}
 use Rattle.ob_vault.specs.Acts.{AreBatchesSmall, AreTapeWords}
 use Rattle.ob_vault.specs.Hidden.{RingHidden}
@@ -38,11 +38,16 @@ pub record AreFilledBy (p : Params) (word_of : WordId → ℕ) (s : LifeState) (
   pub labels : map (λ l. leaf_of_word p word_of l.word) (life_labels p word_of s acts) ≡ leaves_filled p (length s.log) call f
   pub slots : (x : SlotFill) → Has (life_slots p word_of s acts) x → x.slot ≡ f.slot (record { bucket = x.bucket; number = x.number })
 
--- each of these calls makes some of the acts, one behind the other, and is filled by what they show
+-- the acts of a batch with these keys, or of an end
+abbrev pub AreActsOf : VaultCall → List LifeAct → Type 0
+AreActsOf (Fetch asks) acts = (b : LifeBatch) × (b.asks ≡ asks) × (acts ≡ Append b ∷ ShowBatch ∷ [])
+AreActsOf (End writes) acts = (ws : List (ℕ × Option WordId)) × (drawn : ℕ) × (slot : ℕ → ℕ → ℕ) × (acts ≡ ShowLifts ∷ EndAct ws drawn slot ∷ [])
+
+-- each of these calls makes its acts, one behind the other, and is filled by what they show
 abbrev pub AreShownBy : (p : Params) → (word_of : WordId → ℕ) → LifeState → List VaultCall → List (Shape × Fills) → List LifeAct → Type 0
 AreShownBy p word_of s [] [] acts = acts ≡ []
 AreShownBy p word_of s (call ∷ calls) (step ∷ steps) acts = (first : List LifeAct) × (rest : List LifeAct) × (acts ≡ first ++ rest)
-    × AreFilledBy p word_of s first call step.1 × AreShownBy p word_of (reached p word_of s first) calls steps rest
+    × AreActsOf call first × AreFilledBy p word_of s first call step.1 × AreShownBy p word_of (reached p word_of s first) calls steps rest
 AreShownBy p word_of s _ _ acts = ⊥
 
 -- The calls are a life's: their acts lead on to where this is hidden. And from a format on the whole life is fresh: no word is shown in two
