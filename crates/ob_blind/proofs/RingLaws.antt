@@ -2,6 +2,7 @@
 use Rattle.std.specs.Prelude.{◌≡◌, ℕ, ◌+◌, ◌<◌, ◌≤◌, List, map, filter, MatchResult, Option, Result, Ok, Err}
 use Rattle.std.proofs.Common.{arith, refl, sym, ap, subst, ◌∙◌}
 use mathlib.Core.Path.{fun_ext}
+use Rattle.ob_base.specs.Planned.{Planned}
 use Rattle.ob_base.specs.declared.fault.StashFull.{StashFull}
 use Rattle.ob_base.specs.declared.params.Params.{Params}
 use Rattle.ob_base.specs.declared.value.Write.{Write}
@@ -23,13 +24,13 @@ behind next one other params one_keeps other_keeps one_stands other_stands = rec
 
 -- ---- batches
 
-fetches : (t : FlatTable) (one other : RingCall) (asked others : List (Option ℕ × Entry)) → AreOfTable t one.old other.old → leaf_places asked ≡ leaf_places others → IsFetchPlanned one asked → IsFetchPlanned other others
-    → ArePickedAlike t (Batch (leaf_places asked)) one other × ((one.now).places ≡ (other.now).places)
-fetches t one other asked others both same does did = (
+fetches : (t : FlatTable) (one other : RingCall) (planned likewise : Planned) (asked others : List (Option ℕ × Entry)) → AreOfTable t one.old other.old → leaf_places asked ≡ leaf_places others
+    → IsFetchPlanned one planned asked → IsFetchPlanned other likewise others → ArePickedAlike t (Batch (leaf_places asked)) one other planned likewise × (planned.places ≡ likewise.places)
+fetches t one other planned likewise asked others both same does did = (
   record {
     picked = batch_picked p t (leaf_places asked);
     shown = jobs_read_picks.batch p t (leaf_places asked);
-    one_jobs = first.jobs;
+    jobs = first.jobs;
     other_jobs = second.jobs ∙ ap (λ (x : Params). map (job_of (other.old).p ((other.old).metas).versions) (batch_picked x t (leaf_places others))) (sym both.params)
         ∙ ap (λ (xs : List (Option ℕ × ℕ)). map (job_of (other.old).p ((other.old).metas).versions) (batch_picked p t xs)) (sym same);
     behind = behind (after p t (Batch (leaf_places asked))) one other both.params (ap (λ (r : Kept). r.p) does.kept) (ap (λ (r : Kept). r.p) did.kept) first.table
@@ -41,11 +42,11 @@ fetches t one other asked others both same does did = (
     p : Params
     p = (one.old).p
 
-    first : IsBatch one.old one.new one.now asked t
-    first = does.planned t both.one_stands
+    first : IsBatch one.old one.new planned asked t
+    first = does.batch t both.one_stands
 
-    second : IsBatch other.old other.new other.now others t
-    second = did.planned t both.other_stands
+    second : IsBatch other.old other.new likewise others t
+    second = did.batch t both.other_stands
 
 -- ---- lifts
 
@@ -54,13 +55,13 @@ listed_alike : (t : FlatTable) (one other : Kept) → AreOfTable t one other →
 listed_alike t one other both = ap (λ q. filter q (by_falling_level ((one.p).levels + 1))) (fun_ext (λ u. sym (both.one_stands.arrays.lifted_is u) ∙ both.other_stands.arrays.lifted_is u))
     ∙ ap (λ (x : Params). filter (λ u. is_lifted other.metas u) (by_falling_level (x.levels + 1))) both.params
 
-lifts : (t : FlatTable) (one other : RingCall) → AreOfTable t one.old other.old → AreLiftsPlanned one → AreLiftsPlanned other
-    → ArePickedAlike t FinalLifts one other × (((one.new).metas).order ≡ ((other.new).metas).order)
-lifts t one other both does did = (
+lifts : (t : FlatTable) (one other : RingCall) (planned likewise : Planned) → AreOfTable t one.old other.old → AreLiftsPlanned one planned → AreLiftsPlanned other likewise
+    → ArePickedAlike t FinalLifts one other planned likewise × (((one.new).metas).order ≡ ((other.new).metas).order)
+lifts t one other planned likewise both does did = (
   record {
     picked = final_picked p t (eviction_path p t.counter);
     shown = jobs_read_picks.lifts p t;
-    one_jobs = first.jobs;
+    jobs = first.jobs;
     other_jobs = second.jobs ∙ ap (λ (x : Params). map (job_of (other.old).p ((other.old).metas).versions) (final_picked x t (eviction_path x t.counter))) (sym both.params);
     behind = then;
   },
@@ -70,11 +71,11 @@ lifts t one other both does did = (
     p : Params
     p = (one.old).p
 
-    first : IsLifting one.old one.new one.now t
-    first = does.planned t both.one_stands
+    first : IsLifting one.old one.new planned t
+    first = does.lifting t both.one_stands
 
-    second : IsLifting other.old other.new other.now t
-    second = did.planned t both.other_stands
+    second : IsLifting other.old other.new likewise t
+    second = did.lifting t both.other_stands
 
     then : AreOfTable (after p t FinalLifts) one.new other.new
     then = behind (after p t FinalLifts) one other both.params (ap (λ (r : Kept). r.p) does.kept) (ap (λ (r : Kept). r.p) did.kept) first.table (subst (λ (x : Params). StandsFor other.new (after x t FinalLifts)) (sym both.params) second.table)

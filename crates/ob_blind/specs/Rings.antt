@@ -20,22 +20,21 @@ pub record AreOfTable (t : FlatTable) (one other : Kept) : Type 0 where
 
 -- ---- the calls, as far as the law needs their contracts
 
--- a call: the ring before it and behind it, and what is planned then
+-- a call of a ring: the ring before it, and behind it
 pub record RingCall : Type 0 where
   pub old : Kept
   pub new : Kept
-  pub now : Planned
 
--- `plan_fetch` of these places
-pub record IsFetchPlanned (c : RingCall) (asked : List (Option ℕ × Entry)) : Type 0 where
+-- `plan_fetch` of these places, with what is planned then
+pub record IsFetchPlanned (c : RingCall) (planned : Planned) (asked : List (Option ℕ × Entry)) : Type 0 where
   pub kept : c.new ≡ record c.old { book = (c.new).book; metas = (c.new).metas }
-  pub planned : (t : FlatTable) → StandsFor c.old t → IsBatch c.old c.new c.now asked t
+  pub batch : (t : FlatTable) → StandsFor c.old t → IsBatch c.old c.new planned asked t
 
 -- `plan_lifts`
-pub record AreLiftsPlanned (c : RingCall) : Type 0 where
+pub record AreLiftsPlanned (c : RingCall) (planned : Planned) : Type 0 where
   pub kept : c.new ≡ record c.old { metas = (c.new).metas; counter = ((c.old).counter + ((c.old).p).evictions) % 2 ^ ((c.old).p).levels }
   pub listed : IsListed c.new
-  pub planned : (t : FlatTable) → StandsFor c.old t → IsLifting c.old c.new c.now t
+  pub lifting : (t : FlatTable) → StandsFor c.old t → IsLifting c.old c.new planned t
 
 -- `apply_writes` of these writes
 pub record AreWritesMade (c : RingCall) (ws : List (Write × Entry)) : Type 0 where
@@ -57,20 +56,20 @@ ChangesRows c = c.new ≡ record c.old { stash = (c.new).stash }
 
 -- Both plan the jobs of one list of picked indexes, those that the table shows in this step, in its order: a job's cell, and the number that
 -- its slot is sealed with, are of the ring's own versions, and which index it is isn't. Behind it both stand for one table.
-pub record ArePickedAlike (t : FlatTable) (step : Step) (one other : RingCall) : Type 0 where
+pub record ArePickedAlike (t : FlatTable) (step : Step) (one other : RingCall) (planned likewise : Planned) : Type 0 where
   pub picked : List Picked
   pub shown : map place_picked_at picked ≡ map place_shown_at (picks (one.old).p t step)
-  pub one_jobs : (one.now).jobs ≡ map (job_of (one.old).p ((one.old).metas).versions) picked
-  pub other_jobs : (other.now).jobs ≡ map (job_of (other.old).p ((other.old).metas).versions) picked
+  pub jobs : planned.jobs ≡ map (job_of (one.old).p ((one.old).metas).versions) picked
+  pub other_jobs : likewise.jobs ≡ map (job_of (other.old).p ((other.old).metas).versions) picked
   pub behind : AreOfTable (after (one.old).p t step) one.new other.new
 
 pub record RingsPickAlike : Type 0 where
   -- batches of equal asks and leaves, whose places then show equal leaves
-  pub fetches : (t : FlatTable) (one other : RingCall) (asked others : List (Option ℕ × Entry)) → AreOfTable t one.old other.old → leaf_places asked ≡ leaf_places others → IsFetchPlanned one asked → IsFetchPlanned other others
-      → ArePickedAlike t (Batch (leaf_places asked)) one other × ((one.now).places ≡ (other.now).places)
+  pub fetches : (t : FlatTable) (one other : RingCall) (planned likewise : Planned) (asked others : List (Option ℕ × Entry)) → AreOfTable t one.old other.old → leaf_places asked ≡ leaf_places others
+      → IsFetchPlanned one planned asked → IsFetchPlanned other likewise others → ArePickedAlike t (Batch (leaf_places asked)) one other planned likewise × (planned.places ≡ likewise.places)
   -- final lifts, behind which both list the same buckets to be filled anew, in one order
-  pub lifts : (t : FlatTable) (one other : RingCall) → AreOfTable t one.old other.old → AreLiftsPlanned one → AreLiftsPlanned other
-      → ArePickedAlike t FinalLifts one other × (((one.new).metas).order ≡ ((other.new).metas).order)
+  pub lifts : (t : FlatTable) (one other : RingCall) (planned likewise : Planned) → AreOfTable t one.old other.old → AreLiftsPlanned one planned → AreLiftsPlanned other likewise
+      → ArePickedAlike t FinalLifts one other planned likewise × (((one.new).metas).order ≡ ((other.new).metas).order)
   -- writes of equal keys, put with equal leaves or deleted, whatever their values are
   pub writes : (t : FlatTable) (one other : RingCall) (ws others : List (Write × Entry)) → AreOfTable t one.old other.old → leaf_writes ws ≡ leaf_writes others → AreWritesMade one ws → AreWritesMade other others
       → AreOfTable (after (one.old).p t (Writes (leaf_writes ws))) one.new other.new

@@ -2,6 +2,14 @@
 //! indexes, and words of buckets decide no label. Laws of definitions; nothing here runs.
 #![tactic(auto)]
 
+mod calls;
+mod draws;
+mod formats;
 mod rings;
+mod samples;
 
+pub use calls::{apply_writes, plan_fetch, plan_lifts, refill};
+pub use draws::draws_are_blind;
+pub use formats::formats_are_alike;
 pub use rings::rings_pick_alike;
+pub use samples::sampled;
