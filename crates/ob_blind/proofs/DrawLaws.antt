@@ -26,7 +26,7 @@ use Rattle.ob_vault.specs.KindShown.{AreDrawn}
 use Rattle.ob_vault.specs.RingKind.{ring_kind}
 use Rattle.ob_vault.specs.RingVaults.{write_from}
 use Rattle.ob_vault.specs.Shapes.{Shape}
-use Rattle.ob_blind.specs.Draws.{AgreeInLabels, AreAllFilledAlike, AreFilledAlike, AreHiddenAlike, DrawsAreBlind, HaveSameSlots, bucket_words, call_erased, label_words, unnumbered, write_erased}
+use Rattle.ob_blind.specs.Draws.{AgreeInLabels, AreAllFilledAlike, AreFilledAlike, AreHiddenAlike, DrawsAreBlind, HaveSameSlots, words_of_buckets, call_erased, label_words, unnumbered, write_erased}
 use Rattle.ob_blind.proofs.EraseLaws.{AreWritesAlike, end_entries, end_leaves, entries_unnumbered, leaves_unnumbered, of_unnumbered, picks_unnumbered, table_unnumbered, writes_alike}
 
 -- what stands behind the first ones
@@ -177,7 +177,7 @@ filled_same order fresh c d old older anew again stays stay same u = by (is_one_
     by false off = stays u off ∙ same u ∙ sym (stay u off)
 
 slots : (p : Params) (one other : RingHidden) (writes others : List (ℕ × Option (List ℕ))) (f g : Fills) (behind then : RingHidden) → table_hidden p one ≡ table_hidden p other → HaveSameSlots one.content other.content
-    → RingDraws p one (End writes) f behind → RingDraws p other (End others) g then → bucket_words p one behind ≡ bucket_words p other then → HaveSameSlots behind.content then.content
+    → RingDraws p one (End writes) f behind → RingDraws p other (End others) g then → words_of_buckets p one behind ≡ words_of_buckets p other then → HaveSameSlots behind.content then.content
 slots p one other writes others f g behind then tables same d e agree =
     filled_same (order (table_hidden p one)) (λ i. ranks_of (words_of p (drop p.writes d.words) i)) (λ u. (version_at (behind.content).versions u).ranks) (λ u. (version_at (then.content).versions u).ranks)
     (λ u. (version_at (one.content).versions u).ranks) (λ u. (version_at (other.content).versions u).ranks)

@@ -16,7 +16,7 @@ use Rattle.ob_ring.specs.FlatTable.{FlatTable, Batch, FinalLifts, Writes, Refill
 use Rattle.ob_ring.specs.Picked.{batch_picked, final_picked, job_of, places_from}
 use Rattle.ob_ring.specs.Ring.{IsBatch, IsLifting, Kept, StandsFor}
 use Rattle.ob_ring.specs.Writing.{leaf_writes}
-use Rattle.ob_blind.specs.Rings.{AreLiftsPlanned, AreOfTable, ArePickedAlike, AreWritesMade, ChangesRows, IsFetchPlanned, IsRefilled, RingCall, RingsPickAlike}
+use Rattle.ob_blind.specs.Rings.{AreLiftsPlanned, AreOfTable, ArePickedAlike, AreWritesMade, ChangesRows, IsFetchPlanned, IsRefillDone, RingCall, RingsPickAlike}
 
 -- the rings behind two calls, each of which keeps its parameters
 behind : (next : FlatTable) (one other : RingCall) → (one.old).p ≡ (other.old).p → (one.new).p ≡ (one.old).p → (other.new).p ≡ (other.old).p → StandsFor one.new next → StandsFor other.new next → AreOfTable next one.new other.new
@@ -96,7 +96,7 @@ one_answer size room (Err full) (Ok done) over fits = absurd (omega (arith, fits
 one_answer size room (Err full) (Err many) over above = ap (λ (n : ℕ). Err (record { rows = n })) (over.0 ∙ sym above.0)
 
 refills : (t : FlatTable) (one other : RingCall) (answer reply : Result (Unit {0}) StashFull) → AreOfTable t one.old other.old → HasJustStashRows t ((one.old).stash).rows → HasJustStashRows t ((other.old).stash).rows
-    → IsRefilled one answer → IsRefilled other reply → AreOfTable (after (one.old).p t Refill) one.new other.new × (answer ≡ reply)
+    → IsRefillDone one answer → IsRefillDone other reply → AreOfTable (after (one.old).p t Refill) one.new other.new × (answer ≡ reply)
 refills t one other answer reply both one_rows other_rows does did = (
   behind (after p t Refill) one other both.params (ap (λ (r : Kept). r.p) does.kept) (ap (λ (r : Kept). r.p) did.kept) (does.refilled t both.one_stands one_rows)
       (subst (λ (x : Params). StandsFor other.new (after x t Refill)) (sym both.params) (did.refilled t both.other_stands other_rows)),

@@ -54,8 +54,8 @@ label_words p (Fetch asks) h behind = words_since h.words behind.words
 label_words p (End writes) h behind = take p.writes (words_since h.words behind.words)
 
 -- and those that an end draws for the slots of the buckets that it fills anew
-abbrev pub bucket_words : Params → (h behind : RingHidden) → List ℕ
-bucket_words p h behind = drop p.writes (words_since h.words behind.words)
+abbrev pub words_of_buckets : Params → (h behind : RingHidden) → List ℕ
+words_of_buckets p h behind = drop p.writes (words_since h.words behind.words)
 
 -- ---- what they fill
 
@@ -99,4 +99,4 @@ pub record DrawsAreBlind : Type 0 where
   -- The other way round: from one table, ends of any writes, with any words for these, leave the same slots where the words of the buckets
   -- agree.
   pub slots : (p : Params) (one other : RingHidden) (writes others : List (ℕ × Option (List ℕ))) (f g : Fills) (behind then : RingHidden) → table_hidden p one ≡ table_hidden p other → HaveSameSlots one.content other.content
-      → RingDraws p one (End writes) f behind → RingDraws p other (End others) g then → bucket_words p one behind ≡ bucket_words p other then → HaveSameSlots behind.content then.content
+      → RingDraws p one (End writes) f behind → RingDraws p other (End others) g then → words_of_buckets p one behind ≡ words_of_buckets p other then → HaveSameSlots behind.content then.content

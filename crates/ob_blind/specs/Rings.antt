@@ -42,7 +42,7 @@ pub record AreWritesMade (c : RingCall) (ws : List (Write × Entry)) : Type 0 wh
   pub written : (t : FlatTable) → StandsFor c.old t → StandsFor c.new (after (c.old).p t (Writes (leaf_writes ws)))
 
 -- `refill_indexed`, which answers this
-pub record IsRefilled (c : RingCall) (answer : Result (Unit {0}) StashFull) : Type 0 where
+pub record IsRefillDone (c : RingCall) (answer : Result (Unit {0}) StashFull) : Type 0 where
   pub kept : c.new ≡ record c.old { metas = (c.new).metas }
   pub refilled : (t : FlatTable) → StandsFor c.old t → HasJustStashRows t ((c.old).stash).rows → StandsFor c.new (after (c.old).p t Refill)
   pub rows : (t : FlatTable) → StandsFor c.old t → HasJustStashRows t ((c.old).stash).rows
@@ -75,6 +75,6 @@ pub record RingsPickAlike : Type 0 where
       → AreOfTable (after (one.old).p t (Writes (leaf_writes ws))) one.new other.new
   -- refills, where the stash of each has the rows of just the keys that lie in no bucket: both answer the same
   pub refills : (t : FlatTable) (one other : RingCall) (answer reply : Result (Unit {0}) StashFull) → AreOfTable t one.old other.old → HasJustStashRows t ((one.old).stash).rows → HasJustStashRows t ((other.old).stash).rows
-      → IsRefilled one answer → IsRefilled other reply → AreOfTable (after (one.old).p t Refill) one.new other.new × (answer ≡ reply)
+      → IsRefillDone one answer → IsRefillDone other reply → AreOfTable (after (one.old).p t Refill) one.new other.new × (answer ≡ reply)
   -- and what changes rows alone leaves them with that table
   pub rows : (t : FlatTable) (one other : RingCall) → AreOfTable t one.old other.old → ChangesRows one → ChangesRows other → AreOfTable t one.new other.new

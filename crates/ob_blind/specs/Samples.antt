@@ -1,6 +1,6 @@
 -- Two stores on the small tree, computed: the slots of the one are its indexes, and those of the other the ranks of other words. And what would break
 -- the laws: a dummy that is chosen by its slot, a put that takes a bucket's word, a bucket that takes a write's.
-use Rattle.std.specs.Prelude.{◌≡◌, ℕ, zero, suc, nat_le, List, [], ◌∷◌, ◌++◌, drop, filter, map, None, Option, replicate, Some, unwrap_or}
+use Rattle.std.specs.Prelude.{◌≡◌, ℕ, zero, suc, nat_le, List, [], ◌∷◌, ◌++◌, drop, filter, map, None, replicate, Some, unwrap_or}
 use Rattle.ob_base.specs.declared.params.Params.{Params}
 use Rattle.ob_base.specs.declared.value.Write.{Write}
 use Rattle.ob_base.specs.Tree.{below}
@@ -15,7 +15,7 @@ use Rattle.ob_ring.specs.Picked.{Picked, batch_picked, final_picked}
 use Rattle.ob_ring.specs.Plain.{index_with}
 use Rattle.ob_stand.specs.Fresh.{Ranks, fresh_content, fresh_version}
 use Rattle.ob_stand.specs.Table.{flat_of}
-use Rattle.ob_stand.specs.ValueSamples.{numbers_of}
+use Rattle.ob_stand.specs.ValueSamples.{numbers_of, pads}
 use Rattle.ob_end.specs.EndRuns.{end_writes, table_ended}
 
 -- ---- two planners, over an epoch
@@ -28,20 +28,16 @@ abbrev pub turned_ranks : Ranks
 turned_ranks zero = ranks_of (9 ∷ 8 ∷ 1 ∷ 7 ∷ 6 ∷ [])
 turned_ranks (suc u) = ranks_of (replicate 5 0)
 
--- two places that ask for nothing, of leaf 0
-abbrev pub two_pads : List (Option ℕ × ℕ)
-two_pads = (None, 0) ∷ (None, 0) ∷ []
-
--- the table after batches of those, once and twice
+-- the table after a batch of two pads of leaf 0, and after two such batches
 abbrev pub once : Params → FlatTable → FlatTable
-once p t = after p t (Batch two_pads)
+once p t = after p t (Batch pads)
 
 abbrev pub twice : Params → FlatTable → FlatTable
 twice p t = once p (once p t)
 
 -- what two batches and the final lifts pick, of a store that was formatted with these slots
 abbrev pub picked_from : Params → FlatTable → List Picked
-picked_from p t = batch_picked p t two_pads ++ (batch_picked p (once p t) two_pads ++ final_picked p (twice p t) (eviction_path p t.counter))
+picked_from p t = batch_picked p t pads ++ (batch_picked p (once p t) pads ++ final_picked p (twice p t) (eviction_path p t.counter))
 
 abbrev pub epoch_picked : Params → Ranks → List (ℕ × ℕ)
 epoch_picked p ranks = map place_picked_at (picked_from p (flat_of p (fresh_content p ranks)))
@@ -57,11 +53,11 @@ dummies_by_slot p ranks = filter (nat_le p.real) (map (λ slot. unwrap_or (index
 -- ---- an end, by other words
 
 -- behind two batches of pads key 5 is put, with the first of these words
-abbrev pub put_five : List Write
-put_five = record { key = 5; value = Some (7 ∷ []) } ∷ []
+abbrev pub five_put : List Write
+five_put = record { key = 5; value = Some (7 ∷ []) } ∷ []
 
 abbrev pub table_put : Params → List ℕ → FlatTable
-table_put p words = table_ended p (twice p (flat_of p (fresh_content p own_ranks))) (end_writes p put_five words 1 4)
+table_put p words = table_ended p (twice p (flat_of p (fresh_content p own_ranks))) (end_writes p five_put words 1 4)
 
 -- the leaves of a batch that then asks for it, beside a pad
 abbrev pub leaves_then : Params → List ℕ → List ℕ

@@ -1,14 +1,14 @@
 //! The planner's calls are those that the law of two rings speaks of.
 
 ghost use Rattle.std.specs.Prelude.{◌≡◌, ◌≤◌, ◌<◌, ◌*◌, ℕ, IfSome, length, None, replicate, slice_index_or};
-ghost use Rattle.ob_base.specs.Planned.{most_jobs};
+ghost use Rattle.ob_base.specs.Planned.{job_at, most_jobs};
 ghost use Rattle.ob_base.specs.Tree.{buckets, width};
 ghost use Rattle.ob_ring.specs.Fetching.{places_of};
-ghost use Rattle.ob_ring.specs.Ring.{IsListed};
+ghost use Rattle.ob_ring.specs.Ring.{AreListedWithin, IsListed};
 ghost use Rattle.ob_ring.specs.Writing.{write_at, writes_of};
-ghost use Rattle.ob_blind.specs.Rings.{AreLiftsPlanned, AreWritesMade, IsFetchPlanned, IsRefilled};
+ghost use Rattle.ob_blind.specs.Rings.{AreLiftsPlanned, AreWritesMade, ChangesRows, IsFetchPlanned, IsRefillDone};
 
-use ob_base::{Jobs, Key, StashFull, Write};
+use ob_base::{Damaged, Jobs, Key, StashFull, Write};
 use ob_ring::{Index, Ring, Steps};
 use std::sync::ledger::Ledger;
 
@@ -40,6 +40,14 @@ pub fn plan_lifts(ring: &mut Ring, jobs: &mut Jobs)
     ring.plan_lifts(jobs);
 }
 
+/// Puts what the jobs read into the stash.
+pub fn settle(ring: &mut Ring, jobs: &Jobs) -> Result<(), Damaged>
+    requires { (i : ℕ) → IfSome (job_at jobs.now.jobs i).key (λ k. k < ring.old.p.keys) }
+    ensures { ChangesRows (record { old = ring.old; new = ring.new }) }
+{
+    ring.settle(jobs)
+}
+
 /// Makes an epoch's writes.
 pub fn apply_writes(ring: &mut Ring, writes: &[Write], words: &[u64], first: (u64, u64))
     requires keys { (i : ℕ) → i < length writes.now → (write_at writes.now i).key < ring.old.p.keys }
@@ -61,7 +69,15 @@ pub fn refill<C: Ledger>(
     requires listed { IsListed ring.old }
     requires words { length words.now ≡ length ring.old.metas.order * width ring.old.p }
     requires index { index.old ≡ replicate (buckets ring.old.p) 0 }
-    ensures { IsRefilled (record { old = ring.old; new = ring.new }) result }
+    ensures { IsRefillDone (record { old = ring.old; new = ring.new }) result }
 {
     ring.refill_indexed(index, words, first, steps)
+}
+
+/// The rows that were written leave the stash.
+pub fn forget_written(ring: &mut Ring)
+    requires { AreListedWithin ring.old }
+    ensures { ChangesRows (record { old = ring.old; new = ring.new }) }
+{
+    ring.forget_written();
 }
