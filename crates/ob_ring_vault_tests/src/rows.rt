@@ -136,3 +136,57 @@ fn a_ring_vault_shows_what_another_implementation_shows(rt: HostRuntime) {
         }
     }
 }
+
+// On both tapes the put's word is 1. They differ in words of buckets alone: of the 25 slots that
+// the first end fills anew.
+const PUT_ONE: &[u64] = &[0, 0, 0, 0, 1];
+
+const BUCKETS_APART: &[u64] = &[
+    0, 0, 0, 0, 1, 0, 9, 8, 1, 7, 6, 5, 4, 3, 2, 1, 7, 7, 1, 0, 3, 2, 9, 4, 4, 8, 6, 1, 5, 0, 2,
+];
+
+// The leaves that another implementation showed on the first of them.
+const LEAVES: &[u8] = b"00001000";
+
+// What two epochs over a new store show, on a tape of these words.
+fn shown_on<R: Abort + Threads + Sync>(
+    rt: &R,
+    alloc: Global,
+    setting: &Setting,
+    words: &[u64],
+) -> MemSink {
+    let calls = requests_of(rt, alloc, &setting.p, TWO_EPOCHS);
+    let mut sink = MemSink::new(alloc, 4000, Vec::new(alloc)).expect(rt, "memory");
+    let mut watch = SinkWatch::new(&mut sink);
+    let mut tape = ListTape::new(alloc, words).expect(rt, "memory");
+    let mut store = new_store(rt, alloc, &setting.p, &[], &mut Blind);
+    let served = serve_store(
+        rt, alloc, &mut store, &mut tape, setting, &calls, &mut watch,
+    );
+    assert!(rt; served.is_ok());
+    sink
+}
+
+// Whether these leaves, each of one digit, are those that the lines show, in order.
+fn are_leaves(shown: &[u8], leaves: &[u8]) -> bool {
+    let mut found = 0;
+    for i in 0..shown.len() {
+        if shown[i..].starts_with(b"L ") {
+            if found >= leaves.len() || shown.get(i + 2) != Some(&leaves[found]) {
+                return false;
+            }
+            found += 1;
+        }
+    }
+    found == leaves.len()
+}
+
+#[test]
+fn words_of_buckets_decide_no_label(rt: HostRuntime) {
+    let setting = setting_of(&rt, [8, 2, 2, 3, 2, 2, 2, 2, 8], 1);
+    let one = shown_on(&rt, rt.alloc(), &setting, PUT_ONE);
+    let other = shown_on(&rt, rt.alloc(), &setting, BUCKETS_APART);
+    assert!(rt; are_leaves(one.written(), LEAVES));
+    assert!(rt; are_leaves(other.written(), LEAVES));
+    assert!(rt; one.written() != other.written());
+}
