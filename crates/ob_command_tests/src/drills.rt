@@ -86,6 +86,7 @@ fn drill_into<R: AllocGlobal + Threads + Wait + Sync + Abort>(
     let mut input = MemSource::new(Vec::new(rt.alloc()), Vec::new(rt.alloc()));
     let output = MemSink::new(rt.alloc(), room, Vec::new(rt.alloc()));
     let mut output = output.expect(rt, "memory");
+    let mut trace: Option<MemSink> = None;
     let words = ["drill", "1"];
     let status = obladi(
         rt,
@@ -95,6 +96,7 @@ fn drill_into<R: AllocGlobal + Threads + Wait + Sync + Abort>(
         &mut tape,
         &mut input,
         &mut output,
+        &mut trace,
         &mut Eager,
     );
     (status, output)

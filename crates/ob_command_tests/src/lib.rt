@@ -1,5 +1,5 @@
 //! Commands of the top call, each by itself: what is refused in its order, audits of a trace, each
-//! form of a run, a hasty beat, many clients in threads, whose reports are replayed, and traces.
+//! form of a run, a hasty beat, and many clients in threads, whose reports are replayed.
 #![tactic(auto)]
 
 #[cfg(test)]
@@ -16,5 +16,3 @@ mod many;
 mod refused;
 #[cfg(test)]
 mod replay;
-#[cfg(test)]
-mod traces;

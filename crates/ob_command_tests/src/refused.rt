@@ -12,13 +12,20 @@ enum With {
 }
 
 // Words that are refused, with these keys, and what is told.
-static REFUSED: [(With, &str, u8, &str); 19] = [
+static REFUSED: [(With, &str, u8, &str); 21] = [
     (With::Keys, "", 2, "fault: usage/"),
     (With::None, "run", 2, "fault: usage/"),
     (With::Keys, "run S K X", 2, "fault: usage/"),
     (With::Keys, "run S -k", 2, "fault: usage/"),
     (With::Keys, "run S K --turns --turns", 2, "fault: usage/"),
-    (With::Keys, "run S K --trace F", 2, "fault: usage/"),
+    (With::Keys, "run S K --trace", 2, "fault: usage/"),
+    (
+        With::Keys,
+        "run S K --trace T --trace T",
+        2,
+        "fault: usage/",
+    ),
+    (With::Keys, "run S K --trace T", 5, "fault: store/"),
     (With::Keys, "audit x", 2, "fault: usage/"),
     (With::Keys, "--help", 2, "fault: usage/"),
     (With::Keys, "format S K 8 2 2 3 2 2 2 2", 2, "fault: usage/"),
@@ -97,31 +104,40 @@ fn refusals_come_in_their_order(rt: HostRuntime) {
     }
 }
 
-// Words, and whether they call for the keys `K` and for the store `S`, which may be made or not.
-static WANTED: [(&str, Option<bool>); 8] = [
-    ("audit", None),
-    ("run S K", Some(false)),
-    ("run --lanes 2 S K --turns", Some(false)),
-    ("run S --lanes 17 K", None),
-    ("run S", None),
-    ("format S K 8 2 2 3 2 2 2 2 8", Some(true)),
-    ("format S K 9 2 2 3 2 2 2 2 8", None),
-    ("format S K 8 2 2 3 2 2 2 2", None),
+// Words, whether they call for the keys `K` and for the store `S`, which may be made or not, and
+// whether for the trace `T`.
+static WANTED: [(&str, Option<bool>, bool); 12] = [
+    ("audit", None, false),
+    ("run S K", Some(false), false),
+    ("run --lanes 2 S K --turns", Some(false), false),
+    ("run S --lanes 17 K", None, false),
+    ("run S", None, false),
+    ("run S K --trace T", Some(false), true),
+    ("run --trace T S K --turns", Some(false), true),
+    ("run S K --trace T --lanes 17", None, false),
+    ("format S K 8 2 2 3 2 2 2 2 8", Some(true), false),
+    ("format S K 8 2 2 3 2 2 2 2 8 --trace T", Some(true), true),
+    ("format S K 9 2 2 3 2 2 2 2 8 --trace T", None, false),
+    ("format S K 8 2 2 3 2 2 2 2", None, false),
 ];
 
-fn expect_wanted<R: AllocGlobal + Abort>(rt: &R, line: &str, may_make: Option<bool>) {
+fn expect_wanted<R: AllocGlobal + Abort>(rt: &R, line: &str, may_make: Option<bool>, traced: bool) {
     let words = words_of(rt, line);
     let paths = store_wanted(rt.alloc(), &words).expect(rt, "memory");
     let (store, keys) = match may_make {
         Some(may_make) => (Some(("S", may_make)), Some("K")),
         None => (None, None),
     };
-    assert!(rt; paths.store == store && paths.keys == keys, "{line}");
+    let trace = if traced { Some("T") } else { None };
+    assert!(rt;
+        paths.store == store && paths.keys == keys && paths.trace == trace,
+        "{line}"
+    );
 }
 
 #[test]
 fn what_words_do_not_call_for_is_not_wanted(rt: HostRuntime) {
-    for &(line, may_make) in &WANTED {
-        expect_wanted(&rt, line, may_make);
+    for &(line, may_make, traced) in &WANTED {
+        expect_wanted(&rt, line, may_make, traced);
     }
 }

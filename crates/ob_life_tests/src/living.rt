@@ -55,6 +55,7 @@ fn format_store<R: AllocGlobal + Threads + Wait + Sync + Abort>(
         "format", "store", "keys", "8", "2", "2", "3", "2", "2", "2", "2", "8",
     ];
     let tape = ListTape::new(rt.alloc(), &[]);
+    let mut trace: Option<MemSink> = None;
     obladi(
         rt,
         &words,
@@ -63,6 +64,7 @@ fn format_store<R: AllocGlobal + Threads + Wait + Sync + Abort>(
         &mut tape.expect(rt, "memory"),
         &mut source(rt, ""),
         &mut sink(rt),
+        &mut trace,
         &mut Eager,
     )
 }
@@ -83,6 +85,7 @@ fn run_store<R: AllocGlobal + Threads + Wait + Sync + Abort>(
         store.new }
 {
     forms_are_read();
+    let mut trace: Option<MemSink> = None;
     obladi(
         rt,
         &["run", "store", "keys"],
@@ -91,6 +94,7 @@ fn run_store<R: AllocGlobal + Threads + Wait + Sync + Abort>(
         tape,
         &mut source(rt, script),
         output,
+        &mut trace,
         &mut Eager,
     )
 }

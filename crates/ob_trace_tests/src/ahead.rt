@@ -1,0 +1,138 @@
+//! A store that asks, at each of its writes, whether its line is in the trace.
+
+ghost use Rattle.std.specs.Prelude.{◌≡◌, ◌≤◌, ◌+◌, ◌-◌, ◌∷◌, [], OnOk, OnErr, IfOk, None};
+ghost use Rattle.ob_base.specs.Causes.{HasCause};
+ghost use Rattle.ob_store.specs.declared.event.Event.{Event};
+ghost use Rattle.ob_store.specs.Images.{SameBut, Tears, Shrinks, Elapses, IsSynced};
+ghost use Rattle.ob_store.specs.Calls.{GoesOn, Serves, IsFailed, Keeps, Notes, NotesLane, TellsOn, IsFreshLane, AddsFaults};
+ghost use Rattle.ob_mem.specs.Heard.{told};
+ghost use Rattle.ob_mem.specs.Memory.{disk_of_store};
+ghost use Rattle.ob_mem.specs.Laws.{counts_now, only_now, includes_reads};
+
+use crate::playing::{Ask, EMPTY, FORMAT, RUNS, WIDE, blank, call_on, sink_of};
+use ob_base::Failed;
+use ob_io::Sink;
+use ob_lanes::{Hand, Lanes, read_hands};
+use ob_mem::{MemLane, MemStore};
+use ob_store::Store;
+use std::sync::atomic::AtomicU64;
+use std::sync::atomic::Ordering::SeqCst;
+use std::thread::Threads;
+
+// The cell of a write's line, and one more; 0 where these bytes are no such line.
+fn cell_behind(line: &[u8]) -> u64 {
+    let Ok(text) = str::from_utf8(line) else {
+        return 0;
+    };
+    let Some(cell) = text
+        .strip_prefix("W ")
+        .and_then(|rest| rest.strip_suffix('\n'))
+    else {
+        return 0;
+    };
+    match cell.parse::<u64>() {
+        Ok(cell) => cell.saturating_add(1),
+        Err(_) => 0,
+    }
+}
+
+/// A trace that tells of its last line which cell's write it is, and one more.
+#[derive(Drop)]
+pub struct LastLine<'a> {
+    last: &'a AtomicU64,
+}
+
+impl Sink for LastLine<'_> {
+    ghost written = { λ _. None };
+
+    ghost faults = { λ _. 0 };
+
+    fn write(&mut self, bytes: &[u8]) -> Result<usize, Failed> {
+        self.last.store(cell_behind(bytes), SeqCst);
+        Ok(bytes.len())
+    }
+}
+
+/// A store in memory beside such a trace: how often it was written to, and how often with another
+/// last line than the write's own.
+#[derive(Drop)]
+pub struct Asking<'a> {
+    store: MemStore,
+    last: &'a AtomicU64,
+    writes: u64,
+    late: u64,
+}
+
+impl Store for Asking<'_> {
+    type Lane = MemLane;
+
+    ghost disk = { λ m. disk_of_store m.store };
+
+    ghost lane_faults = { λ lane. lane.faults };
+
+    ghost lane_seen = { λ lane. told lane.starved lane.events.items };
+
+    ghost counts_now = { λ m t c le left. counts_now m.store.past t c le left };
+
+    ghost only_now = { λ m c left. only_now m.store.past c left };
+
+    ghost includes_reads = { λ m tells leaves. includes_reads m.store.past };
+
+    fn lane(&mut self) -> Result<MemLane, Failed> {
+        self.store.lane()
+    }
+
+    fn read(&self, lane: &mut MemLane, cell: u64, out: &mut [u8; 128]) -> Result<(), Failed> {
+        self.store.read(lane, cell, out)
+    }
+
+    fn absorb(&mut self, lane: MemLane) {
+        self.store.absorb(lane);
+    }
+
+    fn write(&mut self, cell: u64, bytes: &[u8; 128]) -> Result<(), Failed> {
+        self.writes = self.writes.saturating_add(1);
+        if self.last.load(SeqCst) != cell.saturating_add(1) {
+            self.late = self.late.saturating_add(1);
+        }
+        self.store.write(cell, bytes)
+    }
+
+    fn sync(&mut self) -> Result<(), Failed> {
+        self.store.sync()
+    }
+}
+
+impl Lanes for Asking<'_> {
+    fn read_parts<R: Threads + Sync>(&self, rt: &R, hands: &mut [Option<Hand<MemLane>>]) {
+        read_hands(rt, self, hands);
+    }
+}
+
+// A format writes 62 times, and a run of one epoch 46 times.
+#[test]
+fn each_line_stands_before_its_write(rt: HostRuntime) {
+    for &words in &RUNS {
+        let last = AtomicU64::new(0);
+        let mut store = Asking {
+            store: blank(&rt, &[]),
+            last: &last,
+            writes: 0,
+            late: 0,
+        };
+        for words in [FORMAT, words] {
+            let mut trace = Some(LastLine { last: &last });
+            let ask = Ask {
+                words,
+                script: EMPTY,
+                tape: &[],
+            };
+            let mut output = sink_of(&rt, WIDE);
+            assert!(&rt;
+                call_on(&rt, &mut store, ask, &mut output, &mut trace) == 0,
+                "{words}"
+            );
+        }
+        assert!(&rt; store.writes == 108 && store.late == 0, "{words}");
+    }
+}
