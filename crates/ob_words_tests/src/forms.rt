@@ -5,7 +5,7 @@ use ob_words::{Request, WordsErr, read_words};
 use std::process::Abort;
 
 // Words with a blank between two, and what they ask for: each operand in brackets.
-static WORDS: [(&str, &str); 55] = [
+static WORDS: [(&str, &str); 58] = [
     ("audit", "audit"),
     ("drill 1", "drill [1]"),
     ("drill x", "drill [x]"),
