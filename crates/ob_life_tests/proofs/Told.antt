@@ -12,7 +12,7 @@ use Rattle.ob_report.specs.Faults.{fault_status}
 use Rattle.ob_seal.specs.declared.keys.Keys.{Keys}
 use Rattle.ob_store.specs.Disk.{Disk}
 use Rattle.ob_top.specs.Formats.{FormatDone}
-use Rattle.ob_top.specs.Outside.{IsOnlyTold, Outside}
+use Rattle.ob_top.specs.Outside.{IsOnlyTold, Outside, blind}
 use Rattle.ob_top.specs.Runs.{RunDone, manner}
 use Rattle.ob_vault.specs.Lives.{ring_lives}
 use Rattle.ob_vault.specs.RingKind.{ring_kind}
@@ -20,43 +20,43 @@ use Rattle.ob_word_forms.specs.Forms.{ArePlain, IsPlain}
 use Rattle.ob_words.specs.Work.{AreBadLanes, AreLanes, AreParams, HasKeys, IsBadNumber, IsKeysRefused}
 use Rattle.ob_life_tests.specs.Lived.{HasRun, HasFormatted}
 
-module _ {S : Type 0} (disk : S → Disk) (text : Bor (List ℕ)) (old new : S) (before after : Outside) (status : ℕ) where
+module _ {S W : Type 0} (disk : S → Disk) (text : Bor (List ℕ)) (old new : S) (was is : Option W) (before after : Outside) (status : ℕ) where
   -- nothing was done, and this was told
   abbrev Tell : Fault → Type 0
-  Tell f = (new ≡ old) × IsOnlyTold f before after status
+  Tell f = ((new ≡ old) × (is ≡ was)) × IsOnlyTold f before after status
 
   abbrev KeysTell : Type 0
   KeysTell = (f : Fault) × IsKeysRefused (Some text) f × Tell f
 
   abbrev FormatTells : List (List ℕ) → Type 0
   FormatTells numbers = Tell Memory ⊎ (((field : Field) × IsBadNumber numbers field × Tell (BadParams field))
-      ⊎ ((p : Params) × AreParams numbers p × (KeysTell ⊎ ((keys : Keys) × HasKeys (Some text) keys × FormatDone ring_kind ring_lives disk keys p old new before after status))))
+      ⊎ ((p : Params) × AreParams numbers p × (KeysTell ⊎ ((keys : Keys) × HasKeys (Some text) keys × (is ≡ was) × FormatDone ring_kind ring_lives disk keys p old new before after blind blind status))))
 
   abbrev RunTells : BeatKind → List ℕ → Option (List ℕ) → Bool → Type 0
   RunTells beat words lanes turns = Tell Memory ⊎ ((AreBadLanes lanes × Tell (BadParams LANES))
-      ⊎ ((k : ℕ) × AreLanes lanes k × (KeysTell ⊎ ((keys : Keys) × HasKeys (Some text) keys × RunDone ring_kind ring_lives disk (manner beat (not turns) k) words keys old new before after status))))
+      ⊎ ((k : ℕ) × AreLanes lanes k × (KeysTell ⊎ ((keys : Keys) × HasKeys (Some text) keys × (is ≡ was) × RunDone ring_kind ring_lives disk (manner beat (not turns) k) words keys old new before after blind blind status))))
 
   no_keys : (A : Type 0) → KeysTell → status ≡ 0 → A
-  no_keys A (f, (is, none), (kept, told)) zero = let two : status ≡ 2 = told.status_is ∙ ap fault_status is in absurd (omega (arith, two, zero))
+  no_keys A (f, (refused, none), (kept, told)) zero = let two : status ≡ 2 = told.status_is ∙ ap fault_status is in absurd (omega (arith, two, zero))
 
   pub made : (numbers : List (List ℕ)) → FormatTells numbers → status ≡ 0 → HasFormatted disk text.now old new
   made numbers (inl (kept, told)) zero = absurd (omega (arith, told.status_is, zero))
   made numbers (inr (inl (field, bad, (kept, told)))) zero = absurd (omega (arith, told.status_is, zero))
   made numbers (inr (inr (p, are, inl refused))) zero = no_keys (HasFormatted disk text.now old new) refused zero
-  made numbers (inr (inr (p, are, inr (keys, has, done)))) zero =
-      record { keys = keys; are = has; p = p; before = before; after = after; done = subst (λ n. FormatDone ring_kind ring_lives disk keys p old new before after n) zero done }
+  made numbers (inr (inr (p, are, inr (keys, has, untraced, done)))) zero =
+      record { keys = keys; are = has; p = p; before = before; after = after; done = subst (λ n. FormatDone ring_kind ring_lives disk keys p old new before after blind blind n) zero done }
 
   pub ran : (beat : BeatKind) (words : List ℕ) (lanes : Option (List ℕ)) (turns : Bool) → RunTells beat words lanes turns → status ≡ 0 → HasRun disk text.now words old new
   ran beat words lanes turns (inl (kept, told)) zero = absurd (omega (arith, told.status_is, zero))
   ran beat words lanes turns (inr (inl (bad, (kept, told)))) zero = absurd (omega (arith, told.status_is, zero))
   ran beat words lanes turns (inr (inr (k, are, inl refused))) zero = no_keys (HasRun disk text.now words old new) refused zero
-  ran beat words lanes turns (inr (inr (k, are, inr (keys, has, done)))) zero = record {
+  ran beat words lanes turns (inr (inr (k, are, inr (keys, has, untraced, done)))) zero = record {
     keys = keys;
     are = has;
     by = manner beat (not turns) k;
     before = before;
     after = after;
-    done = subst (λ n. RunDone ring_kind ring_lives disk (manner beat (not turns) k) words keys old new before after n) zero done;
+    done = subst (λ n. RunDone ring_kind ring_lives disk (manner beat (not turns) k) words keys old new before after blind blind n) zero done;
   }
 
 -- ---- words

@@ -11,6 +11,7 @@ use Rattle.ob_stand.specs.Stands.{StandsRing}
 use Rattle.ob_store.specs.Disk.{Clock, Disk, Image, NotAfter}
 use Rattle.ob_store.specs.Images.{IsSynced}
 use Rattle.ob_top.specs.Formats as format
+use Rattle.ob_top.specs.Outside.{blind}
 use Rattle.ob_top.specs.Runs.{RunDone}
 use Rattle.ob_top.specs.Sound.{IsSound}
 use Rattle.ob_twin.proofs.Judging.{number_read}
@@ -132,8 +133,8 @@ pub lived_so : {S : Type 0} (disk : S → Disk) (counts_now : (x : S) (t : Clock
     → (keys : Keys) × (first_is : List ℕ) × (second_is : List ℕ) × (formatted_is : S) × AreOneLife disk keys first_is second_is formatted_is new
 lived_so {S} disk counts_now includes_reads one_life pads tells leaves text first_words second_words blank made ran left new f one may sure two =
     let keys : Keys = f.keys in
-    let one_done = subst (λ (k : Keys). RunDone ring_kind ring_lives disk one.by first_words k made ran one.before one.after 0) (one_keys (Some text) one.keys keys one.are f.are) one.done in
-    let two_done = subst (λ (k : Keys). RunDone ring_kind ring_lives disk two.by second_words k left new two.before two.after 0) (one_keys (Some text) two.keys keys two.are f.are) two.done in
+    let one_done = subst (λ (k : Keys). RunDone ring_kind ring_lives disk one.by first_words k made ran one.before one.after blind blind 0) (one_keys (Some text) one.keys keys one.are f.are) one.done in
+    let two_done = subst (λ (k : Keys). RunDone ring_kind ring_lives disk two.by second_words k left new two.before two.after blind blind 0) (one_keys (Some text) two.keys keys two.are f.are) two.done in
     let sound = (f.done).sound refl (tells blank) in (
       keys,
       first_words,

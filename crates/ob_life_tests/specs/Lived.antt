@@ -11,7 +11,7 @@ use Rattle.ob_serial.specs.Serial.{EpochRecord}
 use Rattle.ob_serial.specs.Vaults.{VaultAnswer}
 use Rattle.ob_store.specs.Disk.{Disk}
 use Rattle.ob_top.specs.Formats.{FormatDone}
-use Rattle.ob_top.specs.Outside.{Outside}
+use Rattle.ob_top.specs.Outside.{Outside, blind}
 use Rattle.ob_top.specs.Runs.{Manner, Ran, RunDone}
 use Rattle.ob_vault.specs.Joined.{AreGiven, IsOneLife, RunPart, Served}
 use Rattle.ob_vault.specs.Lives.{ring_lives}
@@ -20,14 +20,14 @@ use Rattle.ob_vault.specs.Shapes.{answered, refused}
 use Rattle.ob_words.specs.Work.{AreKeys}
 
 module _ {S : Type 0} (disk : S → Disk) where
-  -- a format under the keys of this text that answered 0
+  -- a format under the keys of this text, without a trace, that answered 0
   pub record HasFormatted (text : List ℕ) (old new : S) : Type 0 where
     pub keys : Keys
     pub are : AreKeys text keys
     pub p : Params
     pub before : Outside
     pub after : Outside
-    pub done : FormatDone ring_kind ring_lives disk keys p old new before after 0
+    pub done : FormatDone ring_kind ring_lives disk keys p old new before after blind blind 0
 
   -- a run that answered 0, with the words that its tape gave
   pub record HasRun (text words : List ℕ) (old new : S) : Type 0 where
@@ -36,7 +36,7 @@ module _ {S : Type 0} (disk : S → Disk) where
     pub by : Manner
     pub before : Outside
     pub after : Outside
-    pub done : RunDone ring_kind ring_lives disk by words keys old new before after 0
+    pub done : RunDone ring_kind ring_lives disk by words keys old new before after blind blind 0
 
   -- a whole run, whose script came to its end
   pub record IsWholeRun (keys : Keys) (words : List ℕ) (old new : S) : Type 0 where
@@ -44,7 +44,7 @@ module _ {S : Type 0} (disk : S → Disk) where
     pub before : Outside
     pub after : Outside
     pub records : List (EpochRecord ℕ)
-    pub ran : Ran ring_kind ring_lives disk by words keys old new before after records None
+    pub ran : Ran ring_kind ring_lives disk by words keys old new before after blind blind records None
 
   module _ {keys : Keys} {words : List ℕ} {old new : S} (r : IsWholeRun keys words old new) where
     -- it as a part of a life

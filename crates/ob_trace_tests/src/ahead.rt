@@ -15,6 +15,8 @@ use ob_io::Sink;
 use ob_lanes::{Hand, Lanes, read_hands};
 use ob_mem::{MemLane, MemStore};
 use ob_store::Store;
+use std::process::Abort;
+use std::sync::Wait;
 use std::sync::atomic::AtomicU64;
 use std::sync::atomic::Ordering::SeqCst;
 use std::thread::Threads;
@@ -53,14 +55,27 @@ impl Sink for LastLine<'_> {
     }
 }
 
-/// A store in memory beside such a trace: how often it was written to, and how often with another
-/// last line than the write's own.
+// How often a store was written to, and how often with another last line than the write's own.
+#[derive(Clone, Copy)]
+struct Writes {
+    all: u64,
+    late: u64,
+}
+
+// Counts a write of a cell.
+fn count(writes: &mut Writes, last: &AtomicU64, cell: u64) {
+    writes.all = writes.all.saturating_add(1);
+    if last.load(SeqCst) != cell.saturating_add(1) {
+        writes.late = writes.late.saturating_add(1);
+    }
+}
+
+/// A store in memory beside such a trace.
 #[derive(Drop)]
 pub struct Asking<'a> {
     store: MemStore,
     last: &'a AtomicU64,
-    writes: u64,
-    late: u64,
+    writes: Writes,
 }
 
 impl Store for Asking<'_> {
@@ -91,10 +106,7 @@ impl Store for Asking<'_> {
     }
 
     fn write(&mut self, cell: u64, bytes: &[u8; 128]) -> Result<(), Failed> {
-        self.writes = self.writes.saturating_add(1);
-        if self.last.load(SeqCst) != cell.saturating_add(1) {
-            self.late = self.late.saturating_add(1);
-        }
+        count(&mut self.writes, self.last, cell);
         self.store.write(cell, bytes)
     }
 
@@ -109,30 +121,45 @@ impl Lanes for Asking<'_> {
     }
 }
 
+// Makes a call, each of whose lines is noted.
+fn make<R: AllocGlobal + Threads + Wait + Sync + Abort>(
+    rt: &R,
+    store: &mut Asking<'_>,
+    last: &AtomicU64,
+    words: &str,
+)
+    requires { (disk_of_store store.old.store).out ≡ 0 }
+    ensures { (disk_of_store store.new.store).out ≡ 0 }
+{
+    let mut trace = Some(LastLine { last });
+    let ask = Ask {
+        words,
+        script: EMPTY,
+        tape: &[],
+    };
+    let status = call_on(rt, store, ask, &mut sink_of(rt, WIDE), &mut trace);
+    assert!(rt; status == 0, "{words}");
+}
+
 // A format writes 62 times, and a run of one epoch 46 times.
+fn expect_none_late<R: AllocGlobal + Threads + Wait + Sync + Abort>(rt: &R, words: &str) {
+    let last = AtomicU64::new(0);
+    let mut store = Asking {
+        store: blank(rt, &[]),
+        last: &last,
+        writes: Writes { all: 0, late: 0 },
+    };
+    make(rt, &mut store, &last, FORMAT);
+    make(rt, &mut store, &last, words);
+    assert!(rt;
+        store.writes.all == 108 && store.writes.late == 0,
+        "{words}"
+    );
+}
+
 #[test]
 fn each_line_stands_before_its_write(rt: HostRuntime) {
     for &words in &RUNS {
-        let last = AtomicU64::new(0);
-        let mut store = Asking {
-            store: blank(&rt, &[]),
-            last: &last,
-            writes: 0,
-            late: 0,
-        };
-        for words in [FORMAT, words] {
-            let mut trace = Some(LastLine { last: &last });
-            let ask = Ask {
-                words,
-                script: EMPTY,
-                tape: &[],
-            };
-            let mut output = sink_of(&rt, WIDE);
-            assert!(&rt;
-                call_on(&rt, &mut store, ask, &mut output, &mut trace) == 0,
-                "{words}"
-            );
-        }
-        assert!(&rt; store.writes == 108 && store.late == 0, "{words}");
+        expect_none_late(&rt, words);
     }
 }

@@ -115,7 +115,7 @@ fn traces_in_a_row_fit_behind_a_crash(rt: HostRuntime) {
     let mut trace = Some(sink_of(&rt, WIDE));
     let status = call_on(&rt, &mut ran, ask, &mut sink_of(&rt, WIDE), &mut trace);
     assert!(&rt; status == 0 && ran.moments() == 56);
-    let mut moment = 0;
+    let mut moment: usize = 0;
     let mut text = String::from_str(rt.alloc(), FORMATTED).expect(&rt, "memory");
     for line in ONE_EPOCH.split_terminator('/') {
         text.push_str(line).expect(&rt, "memory");
@@ -126,7 +126,7 @@ fn traces_in_a_row_fit_behind_a_crash(rt: HostRuntime) {
         for filling in [None, Some(0), Some(0xA5)] {
             expect_behind(&rt, &ran, moment, filling, text.as_str());
         }
-        moment += 1;
+        moment = moment.saturating_add(1);
     }
     assert!(&rt; moment == 57);
 }
