@@ -1,0 +1,6 @@
+pub mod Listed
+pub mod Ids
+pub mod Holes
+pub mod Blocks
+pub mod Moves
+pub mod NoneTwice
