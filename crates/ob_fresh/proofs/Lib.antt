@@ -4,3 +4,5 @@ pub mod Holes
 pub mod Blocks
 pub mod Moves
 pub mod NoneTwice
+pub mod Leaves
+pub mod Publics
