@@ -6,3 +6,4 @@ pub mod Moves
 pub mod NoneTwice
 pub mod Leaves
 pub mod Publics
+pub mod Sampling

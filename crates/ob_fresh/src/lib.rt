@@ -7,4 +7,4 @@ mod public;
 mod words;
 
 pub use public::lives_are_public;
-pub use words::no_word_is_shown_twice;
+pub use words::{no_word_is_shown_twice, sampled};
