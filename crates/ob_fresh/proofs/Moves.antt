@@ -18,7 +18,7 @@ use Rattle.ob_recover.specs.Life.{WordId, LifeBatch, LifeState, LifeAct, Open, A
 use Rattle.ob_recover.proofs.LabelLaws.{IsOlder, not_older, older_yet}
 use Rattle.ob_recover.proofs.LifeLabels.{AreLabelsApart, book_more, newer, planned_more}
 use Rattle.ob_recover.proofs.LifeSlots.{AreSlotsSound}
-use Rattle.ob_fresh.specs.Drawn.{WordsKept, AreRanksFrom, EndIsNext, IsNext, refilled, words_on, words_step}
+use Rattle.ob_fresh.specs.Drawn.{WordsKept, AreRanksFrom, EndDrawsNext, DrawsNext, refilled, words_on, words_step}
 use Rattle.ob_fresh.proofs.Listed.{has_mapped, has_one, mapped_has, one_has, row_within, rows_apart}
 use Rattle.ob_fresh.proofs.Ids.{IsAmong, IsFrom, IsHeld, words_of_book, words_of_labels, words_of_writes}
 use Rattle.ob_fresh.proofs.Blocks.{AreApart, AreBlocksOf, AreRanked, Block, IsFree, block_now}
@@ -121,7 +121,7 @@ blocks_step p word_of s k bs ShowLifts = bs
 blocks_step p word_of s k bs (End ws drawn slot) = bs ++ map (block_anew p word_of s k slot) (refilled p word_of s)
 
 module _ (p : Params) (word_of : WordId → ℕ) (s : LifeState) (k : WordsKept) (bs : List Block) (inv : AreBlocksOf p word_of s k bs) (labels : AreLabelsApart p word_of s) (sound : AreSlotsSound p word_of s)
-    (ws : List (ℕ × Option WordId)) (drawn : ℕ) (slot : ℕ → ℕ → ℕ) (next : EndIsNext p word_of s k ws drawn slot) where
+    (ws : List (ℕ × Option WordId)) (drawn : ℕ) (slot : ℕ → ℕ → ℕ) (next : EndDrawsNext p word_of s k ws drawn slot) where
   abbrev order : List ℕ
   order = refilled p word_of s
 
@@ -243,7 +243,7 @@ module _ (p : Params) (word_of : WordId → ℕ) (s : LifeState) (k : WordsKept)
 
 -- ---- any act
 
-pub blocks_keep : (p : Params) (word_of : WordId → ℕ) (s : LifeState) (k : WordsKept) (bs : List Block) (a : LifeAct) → IsActAllowed p word_of s a → IsNext p word_of s k a → AreLabelsApart p word_of s → AreSlotsSound p word_of s →
+pub blocks_keep : (p : Params) (word_of : WordId → ℕ) (s : LifeState) (k : WordsKept) (bs : List Block) (a : LifeAct) → IsActAllowed p word_of s a → DrawsNext p word_of s k a → AreLabelsApart p word_of s → AreSlotsSound p word_of s →
     AreBlocksOf p word_of s k bs → AreBlocksOf p word_of (life_step p word_of s a) (words_step p word_of s k a) (blocks_step p word_of s k bs a)
 blocks_keep p word_of s k bs (Open g) ok next labels sound inv = open_keeps p word_of s k bs inv g ok
 blocks_keep p word_of s k bs (Append r) ok next labels sound inv = append_keeps p word_of s k bs inv r next

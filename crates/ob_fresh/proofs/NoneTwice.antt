@@ -14,7 +14,7 @@ use Rattle.ob_recover.proofs.FreshLaws.{labels_formatted, lives_are_fresh, slots
 use Rattle.ob_recover.proofs.LabelLaws.{IsOlder}
 use Rattle.ob_recover.proofs.LifeLabels.{AreLabelsApart, labels_step, life_planned}
 use Rattle.ob_recover.proofs.LifeSlots.{AreSlotsSound, slots_keep}
-use Rattle.ob_fresh.specs.Drawn.{WordsKept, WordFill, LabelWord, SlotWord, AreNext, AreRanksFrom, AreWordsInTurn, id_shown, index_lying, formatted_words, life_words, slot_word, words_on, words_shown, words_step}
+use Rattle.ob_fresh.specs.Drawn.{WordsKept, WordFill, LabelWord, SlotWord, AllDrawNext, AreRanksFrom, AreWordsInTurn, id_shown, index_lying, formatted_words, life_words, slot_word, words_on, words_shown, words_step}
 use Rattle.ob_fresh.specs.Fresh.{NoWordTwice, WordsAreApart}
 use Rattle.ob_fresh.proofs.Listed.{has_mapped, has_range, lying, mapped_has, range_has, row_within, rows_apart}
 use Rattle.ob_fresh.proofs.Holes.{IsShownAt, shown_at}
@@ -97,7 +97,7 @@ module _ (p : Params) (word_of : WordId → ℕ) (some : 0 < p.dummies) where
   among_more bs cs ls ls' fs fs' more in_l in_f (LabelWord l) h = in_l l h
   among_more bs cs ls ls' fs fs' more in_l in_f (SlotWord f word) h = (in_f f h.0, told_more (width p) bs cs more f word h.1)
 
-  left : (s : LifeState) (k : WordsKept) (bs : List Block) (acts : List LifeAct) → IsLife p word_of s acts → AreNext p word_of s k acts → Keeps s k bs → Left s k bs acts
+  left : (s : LifeState) (k : WordsKept) (bs : List Block) (acts : List LifeAct) → IsLife p word_of s acts → AllDrawNext p word_of s k acts → Keeps s k bs → Left s k bs acts
   left s k bs [] life next keeps = record {
     all = bs;
     more = λ b h. h;

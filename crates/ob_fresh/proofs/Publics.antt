@@ -24,7 +24,7 @@ use Rattle.ob_recover.proofs.EndLaws.{EndLaw, end_law, ended_table}
 use Rattle.ob_recover.proofs.Ending.{batch_counter}
 use Rattle.ob_recover.proofs.FreshLaws.{phase_labels_more, slots_formatted}
 use Rattle.ob_recover.proofs.LifeSlots.{AreSlotsSound, puts_low, slots_keep}
-use Rattle.ob_fresh.specs.PublicLives.{SeenAct, Opens, AreEndsShown, GoesOnPublic, LivesArePublic, all_seen, formatted_gates, leaves_next, public_behind, public_step, seen_of}
+use Rattle.ob_fresh.specs.PublicLives.{SeenAct, Opens, AreEndsShown, GoesOnPublic, LivesArePublic, all_seen, formatted_gates, leaves_next, public_after, public_step, seen_of}
 use Rattle.ob_fresh.proofs.Leaves.{LogLaw, flat_agree, flat_behind, flat_more, leaf, log_law, none_behind}
 
 module _ (p : Params) (word_of : WordId → ℕ) where
@@ -197,7 +197,7 @@ module _ (p : Params) (word_of : WordId → ℕ) where
 
   module _ (some : 0 < p.dummies) (found : ℕ → ℕ → Bool) where
     step_seen : (s : LifeState) (a : LifeAct) (q : Public) (rest : List LifeAct) → IsOpen s → IsActAllowed p word_of s a → AreEndsShown p word_of s (a ∷ rest) → public_in p word_of s q.gates ≡ q →
-        public_in p word_of (life_step p word_of s a) (public_behind p q (seen_of p word_of found s a)).gates ≡ public_behind p q (seen_of p word_of found s a)
+        public_in p word_of (life_step p word_of s a) (public_after p q (seen_of p word_of found s a)).gates ≡ public_after p q (seen_of p word_of found s a)
     step_seen s (Open g) q rest inv ok shown_all is = ap (λ (x : Public). public_step p x (Opens g (found g))) is
     step_seen s (Append r) q rest inv ok shown_all is = appended s r q.gates inv ok ∙ is
     step_seen s ShowBatch q rest inv ok shown_all is = shown s q.gates ∙ ap (λ (x : Public). after_phase p x (leaves_next p word_of s)) is
@@ -213,20 +213,20 @@ module _ (p : Params) (word_of : WordId → ℕ) where
     later_shown s ShowLifts rest h = h
     later_shown s (End ws drawn slot) rest h = h.1
 
-    behind_both : (q : Public) (xs ys : List SeenAct) → public_behind p q (xs ++ ys) ≡ public_behind p (public_behind p q xs) ys
+    behind_both : (q : Public) (xs ys : List SeenAct) → public_after p q (xs ++ ys) ≡ public_after p (public_after p q xs) ys
     behind_both q [] ys = refl
     behind_both q (x ∷ xs) ys = behind_both (public_step p q x) xs ys
 
     life_seen : (s : LifeState) (acts : List LifeAct) (q : Public) → IsOpen s → IsLife p word_of s acts → AreEndsShown p word_of s acts → public_in p word_of s q.gates ≡ q →
-        public_in p word_of (reached p word_of s acts) (public_behind p q (all_seen p word_of found s acts)).gates ≡ public_behind p q (all_seen p word_of found s acts)
+        public_in p word_of (reached p word_of s acts) (public_after p q (all_seen p word_of found s acts)).gates ≡ public_after p q (all_seen p word_of found s acts)
     life_seen s [] q inv life ends is = is
     life_seen s (a ∷ rest) q inv life ends is =
         let s1 : LifeState = life_step p word_of s a in
         let now : List SeenAct = seen_of p word_of found s a in
         let then : List SeenAct = all_seen p word_of found s1 rest in
-        let here : public_in p word_of s1 (public_behind p q now).gates ≡ public_behind p q now = step_seen s a q rest inv life.0 ends is in
+        let here : public_in p word_of s1 (public_after p q now).gates ≡ public_after p q now = step_seen s a q rest inv life.0 ends is in
         subst (λ (x : Public). public_in p word_of (reached p word_of s1 rest) x.gates ≡ x) (sym (behind_both q now then))
-        (life_seen s1 rest (public_behind p q now) (stays_open some s a life.0 inv) life.1 (later_shown s a rest ends) here)
+        (life_seen s1 rest (public_after p q now) (stays_open some s a life.0 inv) life.1 (later_shown s a rest ends) here)
 
 pub lives_are_public : LivesArePublic
 lives_are_public = record {

@@ -53,27 +53,27 @@ module _ (p : Params) (word_of : WordId → ℕ) where
   AreRanksFrom slot first = (j : ℕ) → j < width p → slot j ≡ rank (version_words first) j
 
   -- what an end draws
-  pub record EndIsNext (s : LifeState) (k : WordsKept) (ws : List (ℕ × Option WordId)) (drawn : ℕ) (slot : ℕ → ℕ → ℕ) : Type 0 where
+  pub record EndDrawsNext (s : LifeState) (k : WordsKept) (ws : List (ℕ × Option WordId)) (drawn : ℕ) (slot : ℕ → ℕ → ℕ) : Type 0 where
     pub few : length ws ≤ p.writes
     pub puts : AreNextPuts (record { generation = s.generation; place = k.drawn }) ws
     pub many : drawn ≡ (words_step s k (End ws drawn slot)).drawn
     pub ranks : (u : ℕ) → is_table_lifted p word_of s u ≡ true → AreRanksFrom (slot u) ((words_step s k (End ws drawn slot)).first u)
 
-  abbrev pub IsNext : LifeState → WordsKept → LifeAct → Type 0
-  IsNext s k (Open g) = ⊤
-  IsNext s k (Append r) = r.first ≡ record { generation = s.generation; place = k.drawn }
-  IsNext s k ShowBatch = ⊤
-  IsNext s k ShowLifts = ⊤
-  IsNext s k (End ws drawn slot) = EndIsNext s k ws drawn slot
+  abbrev pub DrawsNext : LifeState → WordsKept → LifeAct → Type 0
+  DrawsNext s k (Open g) = ⊤
+  DrawsNext s k (Append r) = r.first ≡ record { generation = s.generation; place = k.drawn }
+  DrawsNext s k ShowBatch = ⊤
+  DrawsNext s k ShowLifts = ⊤
+  DrawsNext s k (End ws drawn slot) = EndDrawsNext s k ws drawn slot
 
-  abbrev pub AreNext : LifeState → WordsKept → List LifeAct → Type 0
-  AreNext s k [] = ⊤
-  AreNext s k (a ∷ rest) = IsNext s k a × AreNext (life_step p word_of s a) (words_step s k a) rest
+  abbrev pub AllDrawNext : LifeState → WordsKept → List LifeAct → Type 0
+  AllDrawNext s k [] = ⊤
+  AllDrawNext s k (a ∷ rest) = DrawsNext s k a × AllDrawNext (life_step p word_of s a) (words_step s k a) rest
 
   -- of a format with these slots, and of what is done behind it
   pub record AreWordsInTurn (slot : ℕ → ℕ → ℕ) (acts : List LifeAct) : Type 0 where
     pub format : (u : ℕ) → u < buckets p → AreRanksFrom (slot u) ((formatted_words p).first u)
-    pub behind : AreNext (formatted_life slot) (formatted_words p) acts
+    pub behind : AllDrawNext (formatted_life slot) (formatted_words p) acts
 
 -- ---- what is shown
 

@@ -40,9 +40,9 @@ public_step p q (Opens generation found) = opens_gate (begun_public found q) (ga
 public_step p q (Shows leaves) = after_phase p q leaves
 public_step p q Ends = after_end p q
 
-abbrev pub public_behind : Params → Public → List SeenAct → Public
-public_behind p q [] = q
-public_behind p q (a ∷ rest) = public_behind p (public_step p q a) rest
+abbrev pub public_after : Params → Public → List SeenAct → Public
+public_after p q [] = q
+public_after p q (a ∷ rest) = public_after p (public_step p q a) rest
 
 module _ (p : Params) (word_of : WordId → ℕ) (found : ℕ → ℕ → Bool) where
   -- of each act, where the run of a generation found these gates
@@ -65,7 +65,7 @@ AreEndsShown p word_of s (a ∷ rest) = AreEndsShown p word_of (life_step p word
 
 -- what anyone makes of all that was seen from a format on
 abbrev pub public_seen : (p : Params) → (WordId → ℕ) → (found : ℕ → ℕ → Bool) → (ℕ → ℕ → ℕ) → List LifeAct → Public
-public_seen p word_of found slot acts = public_behind p (public_formatted p) (all_seen p word_of found (formatted_life slot) acts)
+public_seen p word_of found slot acts = public_after p (public_formatted p) (all_seen p word_of found (formatted_life slot) acts)
 
 -- ---- the law
 

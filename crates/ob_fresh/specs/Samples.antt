@@ -19,8 +19,8 @@ abbrev pub each_its_own : ℕ → ℕ → ℕ
 each_its_own u j = j
 
 -- a record of two places whose first word is this: of pads, and of key 5 and a pad
-abbrev pub pads_from : WordId → LifeBatch
-pads_from w = record { asks = None ∷ None ∷ []; first = w }
+abbrev pub two_pads_from : WordId → LifeBatch
+two_pads_from w = record { asks = None ∷ None ∷ []; first = w }
 
 abbrev pub five_from : WordId → LifeBatch
 five_from w = record { asks = Some 5 ∷ None ∷ []; first = w }
@@ -31,7 +31,7 @@ put_of_five w = (5, Some w) ∷ []
 -- ---- lives
 
 abbrev pub up_to_end : List LifeAct
-up_to_end = Open 2 ∷ Append (pads_from (id_at 2 0)) ∷ ShowBatch ∷ Append (pads_from (id_at 2 2)) ∷ ShowBatch ∷ ShowLifts ∷ []
+up_to_end = Open 2 ∷ Append (two_pads_from (id_at 2 0)) ∷ ShowBatch ∷ Append (two_pads_from (id_at 2 2)) ∷ ShowBatch ∷ ShowLifts ∷ []
 
 -- an end was in doubt, and the next opening found it done
 abbrev pub found_done : List LifeAct
@@ -43,7 +43,7 @@ found_undone = up_to_end ++ Open 3 ∷ ShowBatch ∷ ShowBatch ∷ ShowLifts ∷
 
 -- behind a crash the next opening crashes before it has shown the batch again, and the one behind it does so
 abbrev pub twice_crashed : List LifeAct
-twice_crashed = Open 2 ∷ Append (pads_from (id_at 2 0)) ∷ ShowBatch ∷ Open 3 ∷ Open 4 ∷ ShowBatch ∷ Append (five_from (id_at 4 0)) ∷ ShowBatch ∷ ShowLifts ∷ End [] 29 each_its_own ∷ []
+twice_crashed = Open 2 ∷ Append (two_pads_from (id_at 2 0)) ∷ ShowBatch ∷ Open 3 ∷ Open 4 ∷ ShowBatch ∷ Append (five_from (id_at 4 0)) ∷ ShowBatch ∷ ShowLifts ∷ End [] 29 each_its_own ∷ []
 
 -- ---- and none
 
@@ -52,7 +52,7 @@ shown_unlogged = Open 2 ∷ ShowBatch ∷ []
 
 -- behind a format a record takes words that buckets have
 abbrev pub words_taken : List LifeAct
-words_taken = Append (pads_from (id_at 1 2)) ∷ ShowBatch ∷ []
+words_taken = Append (two_pads_from (id_at 1 2)) ∷ ShowBatch ∷ []
 
 -- a put keeps a word that a bucket filled anew has
 abbrev pub put_taken : List LifeAct
