@@ -152,6 +152,9 @@ put_out_of_turn turn =
 homes : map ((reached p0 zero_words (formatted_life each_its_own) found_done).content.home) (below 7) ≡ 1 ∷ 1 ∷ 1 ∷ 1 ∷ 0 ∷ 1 ∷ 0 ∷ []
 homes = refl
 
+home_left : (reached p0 zero_words (formatted_life each_its_own) found_done).content.home 3 ≡ 0 → ⊥
+home_left e = let turned : ◌≡◌ {A = ℕ} 1 0 = e in omega arith
+
 pub sampled : Sampled
 sampled = record {
   p = p0;
@@ -171,4 +174,5 @@ sampled = record {
   put_life = put_life;
   put_out_of_turn = put_out_of_turn;
   homes = homes;
+  home_left = home_left;
 }

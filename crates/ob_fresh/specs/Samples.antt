@@ -108,5 +108,6 @@ pub record Sampled : Type 0 where
   pub taken_out_of_turn : AreWordsInTurn p zero_words each_its_own words_taken → ⊥
   pub put_life : IsLife p zero_words (formatted_life each_its_own) put_taken
   pub put_out_of_turn : AreWordsInTurn p zero_words each_its_own put_taken → ⊥
-  -- an end turns the homes of the buckets that it lifts, and of no other
+  -- an end turns the homes of the buckets that it lifts, and of no other: none of these stays
   pub homes : map ((reached p zero_words (formatted_life each_its_own) found_done).content.home) (below 7) ≡ 1 ∷ 1 ∷ 1 ∷ 1 ∷ 0 ∷ 1 ∷ 0 ∷ []
+  pub home_left : (reached p zero_words (formatted_life each_its_own) found_done).content.home 3 ≡ 0 → ⊥
