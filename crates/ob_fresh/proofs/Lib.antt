@@ -7,3 +7,4 @@ pub mod NoneTwice
 pub mod Leaves
 pub mod Publics
 pub mod Sampling
+pub mod Turns

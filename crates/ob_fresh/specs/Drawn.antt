@@ -1,11 +1,11 @@
 -- The words that a life of a store draws, and which of them each hole shows.
-use Rattle.std.specs.Prelude.{◌≡◌, ℕ, ◌+◌, ◌*◌, ◌<◌, ◌≤◌, ◌==◌, true, cond, List, [], ◌∷◌, ◌++◌, map, length, Option, ⊤}
+use Rattle.std.specs.Prelude.{◌≡◌, ℕ, ◌+◌, ◌*◌, ◌<◌, ◌≤◌, ◌==◌, true, cond, List, [], ◌∷◌, ◌++◌, map, length, Option, Some, ⊤}
 use Rattle.std.specs.List.{position_or_len}
 use Rattle.ob_base.specs.declared.params.Params.{Params}
 use Rattle.ob_base.specs.Tree.{below, buckets, width}
 use Rattle.ob_tables.specs.Rank.{rank}
 use Rattle.ob_ring.specs.FlatTable.{FinalLifts, after, refill_order}
-use Rattle.ob_recover.specs.Life.{WordId, next_word, IsPutOf, LifeContent, LifeState, LifeAct, Open, Append, ShowBatch, ShowLifts, End, LabelFill, SlotFill, is_table_lifted, life_step, labels_shown, slots_shown, table_now, formatted_life}
+use Rattle.ob_recover.specs.Life.{WordId, next_word, IsPutOf, LifeContent, LifeState, LifeAct, Open, Append, ShowBatch, ShowLifts, End, LabelFill, SlotFill, is_table_lifted, life_step, labels_shown, slots_shown, table_now, reached, formatted_life}
 
 -- ---- what is kept beside a life
 
@@ -69,6 +69,16 @@ module _ (p : Params) (word_of : WordId → ℕ) where
   abbrev pub AllDrawNext : LifeState → WordsKept → List LifeAct → Type 0
   AllDrawNext s k [] = ⊤
   AllDrawNext s k (a ∷ rest) = DrawsNext s k a × AllDrawNext (life_step p word_of s a) (words_step s k a) rest
+
+  -- what is kept behind acts
+  abbrev pub words_behind : LifeState → WordsKept → List LifeAct → WordsKept
+  words_behind s k [] = k
+  words_behind s k (a ∷ rest) = words_behind (life_step p word_of s a) (words_step s k a) rest
+
+  -- these acts draw in turn, and so does one that is in flight behind them
+  pub record DrawInTurn (s : LifeState) (k : WordsKept) (made : List LifeAct) (in_flight : Option LifeAct) : Type 0 where
+    pub made_next : AllDrawNext s k made
+    pub flying_next : (a : LifeAct) → in_flight ≡ Some a → DrawsNext (reached p word_of s made) (words_behind s k made) a
 
   -- of a format with these slots, and of what is done behind it
   pub record AreWordsInTurn (slot : ℕ → ℕ → ℕ) (acts : List LifeAct) : Type 0 where
