@@ -5,6 +5,8 @@ use Rattle.std.proofs.lemmas.List.{append-nil, append_assoc, get_or_append_left}
 use Rattle.ob_base.specs.declared.params.Params.{Params}
 use Rattle.ob_vault.specs.Shapes.{Shape}
 use Rattle.ob_vault.specs.KindShown.{AreDrawn}
+use Rattle.ob_fresh.proofs.Turns.{drawn_same, next_on}
+use Rattle.ob_fresh.specs.Drawn.{AllDrawNext, WordsKept, words_behind}
 use Rattle.ob_recover.proofs.FreshLaws.{lives_are_fresh}
 use Rattle.ob_end.specs.EndRuns.{end_writes}
 use Rattle.ob_recover.proofs.Pads.{life_goes_on}
@@ -61,6 +63,7 @@ record IsOne (p : Params) (word_of : WordId → ℕ) (s : LifeState) (call : Vau
   then : IsInLife p word_of behind (reached p word_of s acts)
   own : AreActsOf call acts
   filled : AreFilledBy p word_of s acts call f
+  turn : (k : WordsKept) → k.drawn ≡ s.drawn → AllDrawNext p word_of s k acts
 
 one_call : (p : Params) (word_of : WordId → ℕ) (s : LifeState) (h : RingHidden) (call : VaultCall) (f : Fills) (behind : RingHidden) → IsInLife p word_of h s → RingDraws p h call f behind → AreTapeWords word_of behind.generation behind.words
     → IsOne p word_of s call f behind
@@ -73,6 +76,7 @@ one_call p word_of s h (Fetch asks) f behind here (d, fit) tape =
       then = batches.batch_then p word_of s h here asks f behind d some own fit;
       own = (life_batch d.next, (d.is_next).asked, refl);
       filled = batches.batch_filled p word_of s h here asks f behind d some own;
+      turn = λ k so_far. ((λ i. record { generation = ((d.is_next).generation ∙ sym here.generation) i; place = ((d.is_next).first ∙ sym here.drawn ∙ sym so_far) i }), (tt, tt));
     }
 one_call p word_of s h (End ws) f behind here d tape =
     let own = subst (λ (l : List ℕ). AreTapeWords word_of h.generation l) d.grows (subst (λ (n : ℕ). AreTapeWords word_of n behind.words) d.generation tape) in
@@ -82,6 +86,7 @@ one_call p word_of s h (End ws) f behind here d tape =
       then = ends.end_then p word_of s h here ws f behind d own;
       own = (map id_write (end_writes p (map write_from ws) d.words h.generation (length h.words)), length behind.words, slot_kept behind.content, refl);
       filled = ends.end_filled p word_of s h here ws f behind d own;
+      turn = λ k so_far. (tt, (ends.end_turn p word_of s h here ws f behind d own k so_far, tt));
     }
 
 -- ---- the chain
@@ -95,10 +100,11 @@ record AreAll (p : Params) (word_of : WordId → ℕ) (s : LifeState) (calls : L
   is_life : IsLife p word_of s acts
   then : IsInLife p word_of behind (reached p word_of s acts)
   shown : AreShownBy p word_of s calls steps acts
+  turn : (k : WordsKept) → k.drawn ≡ s.drawn → AllDrawNext p word_of s k acts
 
 all : (p : Params) (word_of : WordId → ℕ) (s : LifeState) (h behind : RingHidden) (calls : List VaultCall) (steps : List (Shape × Fills)) → IsInLife p word_of h s → AreDrawn ring_kind p h calls steps behind
     → AreTapeWords word_of behind.generation behind.words → AreAll p word_of s calls steps behind
-all p word_of s h behind [] [] here is tape = record { acts = []; is_life = tt; then = subst (λ (x : RingHidden). IsInLife p word_of x s) (sym is) here; shown = refl }
+all p word_of s h behind [] [] here is tape = record { acts = []; is_life = tt; then = subst (λ (x : RingHidden). IsInLife p word_of x s) (sym is) here; shown = refl; turn = λ k so_far. tt }
 all p word_of s h behind (call ∷ calls) (step ∷ steps) here (mid, draws, rest) tape =
     let one = one_call p word_of s h call step.1 mid here draws (tape_before word_of mid behind (all_on p mid behind calls steps rest) tape) in
     let more = all p word_of (reached p word_of s one.acts) mid behind calls steps one.then rest tape in
@@ -107,6 +113,9 @@ all p word_of s h behind (call ∷ calls) (step ∷ steps) here (mid, draws, res
       is_life = life_goes_on p word_of s one.acts more.acts one.is_life more.is_life;
       then = subst (λ (t : LifeState). IsInLife p word_of behind t) (sym (reached_on p word_of s one.acts more.acts)) more.then;
       shown = (one.acts, more.acts, refl, one.own, one.filled, more.shown);
+      turn = λ k so_far. (
+          let now = one.turn k so_far in
+          next_on p word_of s k one.acts more.acts now (more.turn (words_behind p word_of s k one.acts) (drawn_same p word_of s k one.acts now so_far)));
     }
 all p word_of s h behind [] (step ∷ steps) here none tape = absurd none
 all p word_of s h behind (call ∷ calls) [] here none tape = absurd none
@@ -119,6 +128,7 @@ drawn_shown p word_of s h behind calls steps here drawn tape =
       is_life = a.is_life;
       then = a.then;
       shown = a.shown;
+      turn = a.turn;
       fresh = λ slot before some ranked life at. lives_are_fresh p word_of slot (before ++ a.acts) some ranked
           (life_goes_on p word_of (formatted_life slot) before a.acts life (subst (λ (t : LifeState). IsLife p word_of t a.acts) (sym at) a.is_life));
     }

@@ -43,7 +43,10 @@ use Rattle.ob_twin.proofs.Moves.{at_the_end}
 use Rattle.ob_opening.specs.OpeningActs.{StandsInLife}
 use Rattle.ob_vault.specs.Acts.{AreTapeWords, IsBatchSmall, IsCallInLife, IsLeftWithin, RunsInLife, id_write}
 use Rattle.ob_vault.proofs.Fetching.{at_standing, none_pending, same_act, settled_stands}
+use Rattle.ob_fresh.proofs.Turns.{all_made}
+use Rattle.ob_fresh.specs.Drawn.{DrawsNext, EndDrawsNext, WordsKept}
 use Rattle.ob_vault.proofs.Homes.{homes_ended}
+use Rattle.ob_vault.proofs.InTurn.{end_next}
 use Rattle.ob_vault.proofs.Ids.{Fits, records_fit, records_ids}
 use Rattle.ob_vault.proofs.Writing.{AreAllFit, leaves_ids, writes_drawn, writes_fit, written_fit, written_ids}
 
@@ -167,6 +170,7 @@ module _ {S : Type 0} (disk : S → Disk) (word_of : WordId → ℕ) (s : LifeSt
       };
       shown = λ b e. none_pending _ (Append b) e;
       shows = inr refl;
+      turn = λ k so_far. all_made p word_of s k (ShowLifts ∷ []) (tt, tt);
       left = λ c left. record {
         allowed = λ a e. none_pending (IsActAllowed p word_of lifted a) a e;
         stands = λ i same. inl (stands_lifted i (images i (subst (disk new.store).may_leave same left)));
@@ -251,6 +255,12 @@ module _ {S : Type 0} (disk : S → Disk) (word_of : WordId → ℕ) (s : LifeSt
           let obeys = (content.obeys).versions u low in
           subst (λ n. IsRanking n (slot_kept then u)) (obeys.slots).ranks (slots_rank v obeys.ranks)
 
+      -- the words are the next ones
+      end_turn : (k : WordsKept) → k.drawn ≡ s.drawn → EndDrawsNext p word_of lifted k (map id_write fs) (new.run).drawn (slot_kept then)
+      end_turn k so_far =
+          end_next p word_of t0 g (old.run).drawn old.drawn words was_drawn then writes few draws.many_are few_drawn filled.within (λ i lt. ((filled.filled).anew i lt).ranks)
+          (subst (λ (l : List ℕ). AreTapeWords word_of g l) draws.words tape) lifted k table_is (sym under) (so_far ∙ runs.drawn) (new.run).drawn (drawn ∙ many)
+
       end_allowed : IsActAllowed p word_of lifted the_end
       end_allowed = (
         refl,
@@ -304,6 +314,7 @@ module _ {S : Type 0} (disk : S → Disk) (word_of : WordId → ℕ) (s : LifeSt
         };
         shown = λ b e. no_append_end _ (map id_write fs) (new.run).drawn (slot_kept then) b e;
         shows = inr refl;
+        turn = λ k so_far. record { made_next = (tt, tt); flying_next = λ a e. subst (λ (x : LifeAct). DrawsNext p word_of lifted k x) (same_act the_end a e) (end_turn k so_far) };
         left = λ c left. record {
           allowed = λ a e. subst (λ (x : LifeAct). IsActAllowed p word_of lifted x) (same_act the_end a e) end_allowed;
           stands = λ i same. leaves_one i (subst (disk new.store).may_leave same left);
@@ -329,6 +340,7 @@ module _ {S : Type 0} (disk : S → Disk) (word_of : WordId → ℕ) (s : LifeSt
         };
         shown = λ b e. none_pending _ (Append b) e;
         shows = inl refl;
+        turn = λ k so_far. all_made p word_of s k (ShowLifts ∷ the_end ∷ []) (tt, (end_turn k so_far, tt));
         left = λ c left. record {
           allowed = λ a e. none_pending (IsActAllowed p word_of ended a) a e;
           stands = λ i same. inl (stands_then i (subst (disk new.store).may_leave same left));

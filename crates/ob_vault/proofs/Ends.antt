@@ -16,7 +16,9 @@ use Rattle.ob_log.specs.Logs.{BatchRecord, RecordsFit}
 use Rattle.ob_recover.specs.Repeats.{entries_after_records}
 use Rattle.ob_ring.proofs.Members.{off_unless, one_of-filter}
 use Rattle.ob_ring.specs.FlatTable.{FinalLifts, FlatTable, Refill, Writes, after, refill_order}
+use Rattle.ob_fresh.specs.Drawn.{EndDrawsNext, WordsKept}
 use Rattle.ob_vault.proofs.Ids.{Fits, records_fit, records_ids}
+use Rattle.ob_vault.proofs.InTurn.{end_next}
 use Rattle.ob_vault.proofs.Writing.{AreAllFit, leaves_ids, writes_drawn, writes_fit, written_fit, written_ids}
 use Rattle.ob_vault.specs.Acts.{AreTapeWords, id_write}
 use Rattle.ob_vault.specs.Hidden.{DrawsEnd, RingHidden, table_hidden}
@@ -140,6 +142,12 @@ module _ (p : Params) (word_of : WordId → ℕ) (s : LifeState) (h : RingHidden
       (subst (λ n. AreDrawn p word_of h.generation n (map id_write fs) (length behind.words)) (sym here.drawn)
       (writes_drawn p word_of writes (take p.writes d.words) h.generation first (length writes) (length behind.words)
       (let all = many in let few = d.few_writes in omega (arith, all, few)) (let all = many in let low = d.few in omega (arith, all, low))))
+
+  -- the words are the next ones
+  pub end_turn : (k : WordsKept) → k.drawn ≡ s.drawn → EndDrawsNext p word_of lifted k (map id_write fs) (length behind.words) (slot_kept behind.content)
+  end_turn k so_far =
+      end_next p word_of t0 h.generation first h.words d.words refl behind.content writes d.few_writes d.many d.few (d.ended).within (d.ended).ranks tape
+      lifted k table_is here.generation (so_far ∙ here.drawn) (length behind.words) many
 
   pub end_life : IsLife p word_of s acts
   end_life = ((all_logged, here.begun ∙ all_logged), ((refl, all_logged, words_drawn, ranking), tt))

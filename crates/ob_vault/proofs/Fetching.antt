@@ -24,6 +24,8 @@ use Rattle.ob_store.specs.Images.{LeavesOnly}
 use Rattle.ob_store.proofs.Moments.{started, weakened}
 use Rattle.ob_store.specs.Told.{IsCut}
 use Rattle.ob_store.specs.declared.watch.Note.{Note}
+use Rattle.ob_fresh.proofs.Turns.{all_made}
+use Rattle.ob_fresh.specs.Drawn.{DrawsNext, WordsKept}
 use Rattle.ob_twin.proofs.Moves.{at_the_end}
 use Rattle.ob_opening.specs.OpeningActs.{StandsInLife}
 use Rattle.ob_vault.specs.Acts.{AreBatchesSmall, AreTapeWords, IsBatchSmall, IsCallInLife, IsLeftWithin, RunsInLife}
@@ -89,6 +91,10 @@ module _ {S : Type 0} (disk : S → Disk) (word_of : WordId → ℕ) (s : LifeSt
 
   stands_old : (c : Image) → Stands keys p st c → StandsInLife keys p word_of s c
   stands_old c stands = at_standing keys p word_of st s c stands runs.epoch runs.generation runs.life
+
+  -- its words are the next ones
+  batch_turn : (k : WordsKept) → k.drawn ≡ s.drawn → DrawsNext p word_of s k (Append b)
+  batch_turn k so_far = λ i. record { generation = under i; place = sym (so_far ∙ runs.drawn) i }
 
   module _ (some_left : 0 < (old.run).left) where
     allowed : IsActAllowed p word_of s (Append b)
@@ -178,6 +184,7 @@ module _ {S : Type 0} (disk : S → Disk) (word_of : WordId → ℕ) (s : LifeSt
           };
           shown = λ x e. written;
           shows = inr (refl, written.0, written.1);
+          turn = λ k so_far. record { made_next = tt; flying_next = λ a e. subst (λ (x : LifeAct). DrawsNext p word_of s k x) (same_act (Append b) a e) (batch_turn k so_far) };
           left = λ c left. record {
             allowed = λ a e. subst (λ (x : LifeAct). IsActAllowed p word_of s x) (same_act (Append b) a e) (allowed some_left);
             stands = λ i same. leaves_one i (subst (disk new.store).may_leave same left);
@@ -238,6 +245,7 @@ module _ {S : Type 0} (disk : S → Disk) (word_of : WordId → ℕ) (s : LifeSt
           };
           shown = λ x e. none_pending _ (Append x) e;
           shows = inl refl;
+          turn = λ k so_far. all_made p word_of s k (Append b ∷ ShowBatch ∷ []) (batch_turn k so_far, (tt, tt));
           left = λ c left. record {
             allowed = λ a e. none_pending (IsActAllowed p word_of seen a) a e;
             stands = λ i same. inl (stands_seen i (subst (disk new.store).may_leave same left));
@@ -269,6 +277,7 @@ module _ {S : Type 0} (disk : S → Disk) (word_of : WordId → ℕ) (s : LifeSt
           };
           shown = λ x e. none_pending _ (Append x) e;
           shows = inl refl;
+          turn = λ k so_far. all_made p word_of s k (Append b ∷ ShowBatch ∷ []) (batch_turn k so_far, (tt, tt));
           left = λ c left. record {
             allowed = λ a e. none_pending (IsActAllowed p word_of shown a) a e;
             stands = λ i same. inl (stands_then i (subst (disk new.store).may_leave same left));
@@ -317,6 +326,7 @@ module _ {S : Type 0} (disk : S → Disk) (word_of : WordId → ℕ) (s : LifeSt
         law = record { is_life = tt; whole = λ yes. absurd (false≢true yes); part = inl (refl, refl); leaves = λ was c left. inl (stays c left) };
         shown = λ x e. none_pending _ (Append x) e;
         shows = inr (refl, [], nothing_shown none);
+        turn = λ k so_far. all_made p word_of s k [] tt;
         left = λ c left. record { allowed = λ a e. none_pending (IsActAllowed p word_of s a) a e; stands = λ i is. inl (stays i (subst (disk new.store).may_leave is left)) };
         moments = subst (λ (x : S). LeavesOnly (disk old.store) (disk x) (IsLeftWithin disk word_of old new notes s (Fetch asks))) (sym same)
             (started (disk old.store) (IsLeftWithin disk word_of old new notes s (Fetch asks))

@@ -8,6 +8,8 @@ use Rattle.ob_base.specs.declared.params.Params.{Params}
 use Rattle.ob_tables.specs.Content.{Content}
 use Rattle.ob_fetch.specs.Fetches.{next_batch, words_since}
 use Rattle.ob_fetch.specs.declared.run.Run.{Run}
+use Rattle.ob_fresh.proofs.Turns.{all_made}
+use Rattle.ob_fresh.specs.Drawn.{DrawInTurn, WordsKept}
 use Rattle.ob_vault.specs.Shapes.{Shape}
 use Rattle.ob_vault.specs.KindShown.{AreDrawn}
 use Rattle.ob_recover.specs.Calls.{acts_of}
@@ -101,6 +103,10 @@ module _ {V S : Type 0} (k : Kind V) (disk : S → Disk) (runs : V → Running S
       images = λ c left. record { allowed = λ a e. none_pending (IsActAllowed p word_of s a) a e; stands = λ i same. inl (stands_here i (subst (disk (runs v).store).may_leave same left)) };
       small = (here.small, λ b e. none_pending (IsBatchSmall b) (Append b) e);
     }
+
+    pub rest_turn : (ws : List ℕ) (seen : List Event) (k : WordsKept) → k.drawn ≡ s.drawn → DrawInTurn p word_of s k (at_rest ws seen).made (at_rest ws seen).in_flight
+    unfolding at_rest
+    rest_turn ws seen k so_far = all_made p word_of s k [] tt
 
     -- ---- behind one that was refused
 
@@ -201,19 +207,21 @@ module _ {V S : Type 0} (k : Kind V) (disk : S → Disk) (runs : V → Running S
         shown_by (End ws) done by called cut shown = end_shown ws done by
 
         module _ (cut : RingCut most p q h call c (runs w).drawn refused seen) (shown : RingCutShown most p q call c refused seen one.notes) where
-          left_so : IsLeftInLife (run.sealer).keys most p word_of s h (Some call) (runs w).drawn seen (disk (runs w).store)
-          left_so = record {
+          pub at_refusal : IsLeftInLife keys most p word_of s h (Some call) (runs w).drawn seen (disk (runs w).store)
+          at_refusal = record {
             made = made.made;
             in_flight = made.in_flight;
             first = first_of made.made made.in_flight (made.law).part;
             shown = λ other same. subst (λ (a : VaultCall). IsShownInLife most p word_of s h a (runs w).drawn seen made.made) (same_Some call other same) (shown_by call made.made made.shows does cut shown);
             is_life = subst (λ (x : Params). IsLife x word_of s made.made) at.params (made.law).is_life;
-            images = λ i left. subst (λ (x : Params). IsLeftAt (run.sealer).keys x word_of (reached x word_of s made.made) made.in_flight i) at.params (made.left i left);
+            images = λ i left. subst (λ (x : Keys). IsLeftAt x p word_of (reached p word_of s made.made) made.in_flight i) at.keys_are
+                (subst (λ (x : Params). IsLeftAt (run.sealer).keys x word_of (reached x word_of s made.made) made.in_flight i) at.params (made.left i left));
             small = (subst (λ (x : Params). AreBatchesSmall (reached x word_of s made.made).log) at.params (made.small).0, (made.small).1);
           }
 
-          pub at_refusal : IsLeftInLife keys most p word_of s h (Some call) (runs w).drawn seen (disk (runs w).store)
-          at_refusal = subst (λ (x : Keys). IsLeftInLife x most p word_of s h (Some call) (runs w).drawn seen (disk (runs w).store)) at.keys_are left_so
+          pub refusal_turn : (k : WordsKept) → k.drawn ≡ s.drawn → DrawInTurn p word_of s k at_refusal.made at_refusal.in_flight
+          unfolding at_refusal
+          refusal_turn k so_far = subst (λ (x : Params). DrawInTurn x word_of s k made.made made.in_flight) at.params (made.turn k so_far)
 
   -- ---- from what was found on
 
@@ -245,6 +253,8 @@ module _ {V S : Type 0} (k : Kind V) (disk : S → Disk) (runs : V → Running S
           fresh = l.fresh;
           cut = λ call c none draws. absurd (none_cut call none);
           left = λ m is. at_rest q h n v at word_of (reached p word_of s l.acts) l.then (at.stands m is) (runs v).drawn seen;
+          turn = l.turn;
+          turn_left = λ m is k so_far. rest_turn q h n v at word_of (reached p word_of s l.acts) l.then (at.stands m is) (runs v).drawn seen k so_far;
         }
 
     pub goes_on_refused : (call : VaultCall) (answer : VaultAnswer) (w : V) (one : Called k v call answer w) (c : Fills) (refused : Fault) (seen : List Event) → RingCut most p q h call c (runs w).drawn refused seen → RingCutShown most p q call c refused seen one.notes
@@ -263,4 +273,6 @@ module _ {V S : Type 0} (k : Kind V) (disk : S → Disk) (runs : V → Running S
               (cut_by word_of (reached p word_of s l.acts) l.then call answer w one c (subst (λ (x : VaultCall). RingDrawsCut p h x c (runs w).drawn) (sym (same_Some call other same)) draws)
               (subst (λ g. AreTapeWords word_of g (runs w).drawn) (sym on.generation) tape));
           left = λ m is. at_refusal q h n v at word_of (reached p word_of s l.acts) l.then (at.stands m is) call answer w one (subst (λ g. AreTapeWords word_of g (runs w).drawn) (sym on.generation) tape) fills refused seen is_cut is_shown;
+          turn = l.turn;
+          turn_left = λ m is k so_far. refusal_turn q h n v at word_of (reached p word_of s l.acts) l.then (at.stands m is) call answer w one (subst (λ g. AreTapeWords word_of g (runs w).drawn) (sym on.generation) tape) fills refused seen is_cut is_shown k so_far;
         }

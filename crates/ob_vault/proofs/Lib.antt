@@ -17,6 +17,8 @@ pub mod Formatting
 pub mod Standing
 pub mod SealCalls
 pub mod Tapes
+pub mod VersionWords
+pub mod InTurn
 pub mod Calls
 pub mod Chains
 pub mod Ending

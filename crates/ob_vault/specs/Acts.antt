@@ -3,6 +3,7 @@ use Rattle.std.specs.Prelude.{◌≡◌, ◌⊎◌, ℕ, suc, ◌+◌, ◌<◌, 
 use Rattle.ob_base.specs.Repeats.{Has}
 use Rattle.ob_base.specs.declared.params.Params.{Params}
 use Rattle.ob_base.specs.declared.value.Write.{Write}
+use Rattle.ob_fresh.specs.Drawn.{DrawInTurn, WordsKept}
 use Rattle.ob_fetch.specs.declared.run.Run.{Run}
 use Rattle.ob_fetch.specs.Fetches.{RunIsAt, next_batch}
 use Rattle.ob_recover.specs.Calls.{CallLaw, Ended as EndOf, Fetched, LifeCall, acts_of, repeated}
@@ -101,6 +102,8 @@ module _ {S : Type 0} (disk : S → Disk) (word_of : WordId → ℕ) (old new : 
     pub law : CallLaw (old.run).params word_of (StandsInLife ((old.run).sealer).keys (old.run).params word_of) s None (life_call call) answered made in_flight (disk old.store).may_leave (disk new.store).may_leave
     pub shown : (b : LifeBatch) → in_flight ≡ Some (Append b) → (done : List Note) × IsCut (append_notes (old.run).params (suc (old.run).epoch) (next_batch old.run)) done notes
     pub shows : IsShownBy call made
+    -- their words are drawn in turn
+    pub turn : (k : WordsKept) → k.drawn ≡ s.drawn → DrawInTurn (old.run).params word_of s k made in_flight
     pub left : (c : Image) → (disk new.store).may_leave c → IsLeftAt ((old.run).sealer).keys (old.run).params word_of (reached (old.run).params word_of s made) in_flight c
     pub moments : LeavesOnly (disk old.store) (disk new.store) (IsLeftWithin s call)
     pub small : AreBatchesSmall (reached (old.run).params word_of s made).log × ((b : LifeBatch) → in_flight ≡ Some (Append b) → IsBatchSmall b)

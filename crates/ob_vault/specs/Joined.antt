@@ -2,6 +2,8 @@
 use Rattle.std.specs.Prelude.{◌≡◌, ℕ, ◌<◌, List, [], ◌∷◌, ◌++◌, Option}
 use Rattle.std.specs.Ordering.{nat_cmp}
 use Rattle.ob_base.specs.declared.params.Params.{Params}
+use Rattle.ob_fresh.specs.Drawn.{AreWordsInTurn, formatted_words, life_words}
+use Rattle.ob_fresh.specs.Fresh.{WordsAreApart}
 use Rattle.ob_vault.specs.Shapes.{Shape}
 use Rattle.ob_recover.specs.Calls.{Finds}
 use Rattle.ob_recover.specs.Life.{HolesAreFresh, IsLife, LifeAct, LifeState, WordId, formatted_life, life_labels, life_slots, reached}
@@ -68,8 +70,8 @@ module _ {S : Type 0} (disk : S → Disk) (keys : Keys) (p : Params) where
     AreParts s [] acts = acts ≡ []
     AreParts s (part ∷ parts) acts = (first : List LifeAct) × (later : List LifeAct) × (acts ≡ first ++ later) × IsPart s part first × AreParts (reached p word_of s first) parts later
 
-    -- From the format on, which drew these words, they are one life, in which no word is shown in two holes, no slot of a bucket's filling
-    -- either, and a hole that is shown again is filled as before.
+    -- From the format on, which drew these words, they are one life, in which no two labels show one word, no two reads one slot of a bucket's
+    -- filling, and a hole that is shown again is filled as before.
     pub record IsOneLife (drawn : List ℕ) (parts : List (RunPart S)) : Type 0 where
       pub slot : ℕ → ℕ → ℕ
       pub of_words : AreSlotsIn p (fresh_content p (drawn_ranks p drawn)) slot
@@ -77,6 +79,10 @@ module _ {S : Type 0} (disk : S → Disk) (keys : Keys) (p : Params) where
       pub is_life : IsLife p word_of (formatted_life slot) acts
       pub parts_are : AreParts (formatted_life slot) parts acts
       pub fresh : 0 < p.dummies → HolesAreFresh (life_labels p word_of (formatted_life slot) acts) (life_slots p word_of (formatted_life slot) acts)
+      -- where the format's words were the tape's, the words of all of it are drawn in turn, so that none is shown in two holes, of labels and slots
+      -- together
+      pub turn : AreTapeWords word_of 1 drawn → AreWordsInTurn p word_of slot acts
+      pub apart : 0 < p.dummies → AreTapeWords word_of 1 drawn → WordsAreApart p word_of (life_words p word_of (formatted_life slot) (formatted_words p) acts)
 
 -- ---- the law
 

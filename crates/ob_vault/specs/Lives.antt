@@ -7,6 +7,7 @@ use Rattle.ob_base.specs.Tree.{below}
 use Rattle.ob_base.specs.declared.fault.Fault.{Fault}
 use Rattle.ob_base.specs.declared.params.Params.{Params}
 use Rattle.ob_tables.specs.Rank.{IsRanking}
+use Rattle.ob_fresh.specs.Drawn.{AllDrawNext, DrawInTurn, WordsKept}
 use Rattle.ob_vault.specs.KindLives.{LifeWords}
 use Rattle.ob_vault.specs.Shapes.{Shape}
 use Rattle.ob_vault.specs.KindShown.{AreDrawn}
@@ -139,6 +140,9 @@ pub record GoesOnInLife (keys : Keys) (most : ℕ) (p : Params) (word_of : WordI
       → HolesAreFresh (life_labels p word_of (formatted_life slot) (before ++ acts)) (life_slots p word_of (formatted_life slot) (before ++ acts))
   pub cut : (call : VaultCall) (c : Fills) → refused ≡ Some call → RingDrawsCut p behind call c words → IsCutInLife p word_of (reached p word_of s acts) call c
   pub left : (m : Map nat_cmp) → IsRingMap keys p opened f m → IsLeftInLife keys most p word_of (reached p word_of s acts) behind refused words seen new
+  -- their words are drawn in turn, those of the call that was refused too
+  pub turn : (k : WordsKept) → k.drawn ≡ s.drawn → AllDrawNext p word_of s k acts
+  pub turn_left : (m : Map nat_cmp) (is : IsRingMap keys p opened f m) (k : WordsKept) → k.drawn ≡ (reached p word_of s acts).drawn → DrawInTurn p word_of (reached p word_of s acts) k (left m is).made (left m is).in_flight
 
 -- From each life that is where what was found is hidden, if the tape gave its words of the generation begun.
 abbrev pub RingGoesOn : Keys → (most : ℕ) → Params → RingFound → (opened : Disk) → List VaultCall → List (Shape × Fills) → (behind : RingHidden) → Option VaultCall → (words : List ℕ) → (seen : List Event) → (new : Disk) → Type 0
@@ -174,6 +178,7 @@ pub record IsNextInLife (keys : Keys) (p : Params) (word_of : WordId → ℕ) (s
   pub is_life : IsLife p word_of s (acts ++ more)
   pub stands : StandsInLife keys p word_of (reached p word_of s (acts ++ more)) image
   pub small : AreBatchesSmall (reached p word_of s (acts ++ more)).log
+  pub turn : (k : WordsKept) → AllDrawNext p word_of s k (acts ++ more)
 
 -- A whole run: the opening's acts, and behind them those of the vault's calls. What is public of what the opening found is what is public of
 -- the life that the runs before it made, behind the opening's acts. Where a map was found the next run goes on behind them, from any image
@@ -187,6 +192,9 @@ pub record IsRunInLife (keys : Keys) (most : ℕ) (p : Params) (word_of : WordId
   pub fresh : (slot : ℕ → ℕ → ℕ) (before : List LifeAct) → 0 < p.dummies → ((u : ℕ) → IsRanking (p.real + p.dummies) (slot u)) → IsLife p word_of (formatted_life slot) before → reached p word_of (formatted_life slot) before ≡ s
       → HolesAreFresh (life_labels p word_of (formatted_life slot) (before ++ (opening_acts s ++ goes.acts))) (life_slots p word_of (formatted_life slot) (before ++ (opening_acts s ++ goes.acts)))
   pub next : (m : Map nat_cmp) (is : IsRingMap keys p opened f m) (c : Image) → new.may_leave c → IsNextInLife keys p word_of s (opening_acts s ++ goes.acts) (goes.left m is).made (goes.left m is).in_flight c
+  -- whatever words were kept before, those of the run are drawn in turn
+  pub turn : (k : WordsKept) → AllDrawNext p word_of s k (opening_acts s ++ goes.acts)
+  pub turn_left : (m : Map nat_cmp) (is : IsRingMap keys p opened f m) (k : WordsKept) → AllDrawNext p word_of s k ((opening_acts s ++ goes.acts) ++ (goes.left m is).made)
 
 -- What an opening begins with, and what then goes on, are one: over a store that stood for a life the whole run is a part of that, and all
 -- that was ever shown of it is fresh.

@@ -3,6 +3,7 @@ use Rattle.std.specs.Prelude.{◌≡◌, ℕ, ◌+◌, ◌<◌, List, [], ◌∷
 use Rattle.ob_base.specs.Repeats.{Has}
 use Rattle.ob_base.specs.declared.params.Params.{Params}
 use Rattle.ob_tables.specs.Rank.{IsRanking}
+use Rattle.ob_fresh.specs.Drawn.{AllDrawNext, WordsKept}
 use Rattle.ob_tables.specs.Content.{Obeys}
 use Rattle.ob_vault.specs.Shapes.{Shape}
 use Rattle.ob_vault.specs.KindShown.{AreDrawn}
@@ -50,13 +51,14 @@ AreShownBy p word_of s (call ∷ calls) (step ∷ steps) acts = (first : List Li
     × AreActsOf call first × AreFilledBy p word_of s first call step.1 × AreShownBy p word_of (reached p word_of s first) calls steps rest
 AreShownBy p word_of s _ _ acts = ⊥
 
--- The calls are a life's: their acts lead on to where this is hidden. And from a format on the whole life is fresh: no word is shown in two
+-- The calls are a life's: their acts lead on to where this is hidden, and draw their words in turn. And from a format on the whole life is fresh: no word is shown in two
 -- holes, no slot of a bucket's filling either, and a hole that is shown again is filled as before.
 pub record AreOfLife (p : Params) (word_of : WordId → ℕ) (s : LifeState) (calls : List VaultCall) (steps : List (Shape × Fills)) (behind : RingHidden) : Type 0 where
   pub acts : List LifeAct
   pub is_life : IsLife p word_of s acts
   pub then : IsInLife p word_of behind (reached p word_of s acts)
   pub shown : AreShownBy p word_of s calls steps acts
+  pub turn : (k : WordsKept) → k.drawn ≡ s.drawn → AllDrawNext p word_of s k acts
   pub fresh : (slot : ℕ → ℕ → ℕ) (before : List LifeAct) → 0 < p.dummies → ((u : ℕ) → IsRanking (p.real + p.dummies) (slot u)) → IsLife p word_of (formatted_life slot) before → reached p word_of (formatted_life slot) before ≡ s
       → HolesAreFresh (life_labels p word_of (formatted_life slot) (before ++ acts)) (life_slots p word_of (formatted_life slot) (before ++ acts))
 
