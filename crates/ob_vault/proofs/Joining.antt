@@ -163,6 +163,7 @@ runs_are_one_life disk keys p drawn made parts f from word_of given =
     record {
       slot = f.slot;
       of_words = f.of_words;
+      ranked = f.ranked;
       acts = all.acts;
       is_life = all.is_life;
       parts_are = all.parts_are;

@@ -2,6 +2,8 @@
 use Rattle.std.specs.Prelude.{◌≡◌, ℕ, ◌<◌, List, [], ◌∷◌, ◌++◌, Option}
 use Rattle.std.specs.Ordering.{nat_cmp}
 use Rattle.ob_base.specs.declared.params.Params.{Params}
+use Rattle.ob_base.specs.Tree.{width}
+use Rattle.ob_tables.specs.Rank.{IsRanking}
 use Rattle.ob_fresh.specs.Drawn.{AreWordsInTurn, formatted_words, life_words}
 use Rattle.ob_fresh.specs.Fresh.{WordsAreApart}
 use Rattle.ob_vault.specs.Shapes.{Shape}
@@ -75,6 +77,7 @@ module _ {S : Type 0} (disk : S → Disk) (keys : Keys) (p : Params) where
     pub record IsOneLife (drawn : List ℕ) (parts : List (RunPart S)) : Type 0 where
       pub slot : ℕ → ℕ → ℕ
       pub of_words : AreSlotsIn p (fresh_content p (drawn_ranks p drawn)) slot
+      pub ranked : (u : ℕ) → IsRanking (width p) (slot u)
       pub acts : List LifeAct
       pub is_life : IsLife p word_of (formatted_life slot) acts
       pub parts_are : AreParts (formatted_life slot) parts acts
