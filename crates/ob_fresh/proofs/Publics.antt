@@ -164,7 +164,7 @@ module _ (p : Params) (word_of : WordId → ℕ) where
   stays_open some s ShowLifts ok inv = record { slots = slots_keep p word_of some s ShowLifts ok inv.slots; sound = inv.sound; counted = inv.counted; booked = inv.booked; within = inr ok.0 }
   stays_open some s (End ws drawn slot) ok inv = open_ended some s inv ws drawn slot ok
 
-  open_life : (some : 0 < p.dummies) (s : LifeState) (acts : List LifeAct) → IsLife p word_of s acts → IsOpen s → IsOpen (reached p word_of s acts)
+  pub open_life : (some : 0 < p.dummies) (s : LifeState) (acts : List LifeAct) → IsLife p word_of s acts → IsOpen s → IsOpen (reached p word_of s acts)
   open_life some s [] life inv = inv
   open_life some s (a ∷ rest) life inv = open_life some (life_step p word_of s a) rest life.1 (stays_open some s a life.0 inv)
 
@@ -179,7 +179,7 @@ module _ (p : Params) (word_of : WordId → ℕ) where
 
   -- ---- a new store
 
-  open_formatted : (some : 0 < p.dummies) (slot : ℕ → ℕ → ℕ) → ((u : ℕ) → IsRanking (width p) (slot u)) → IsOpen (formatted_life slot)
+  pub open_formatted : (some : 0 < p.dummies) (slot : ℕ → ℕ → ℕ) → ((u : ℕ) → IsRanking (width p) (slot u)) → IsOpen (formatted_life slot)
   open_formatted some slot ranked =
       let first : AreSlotsSound p word_of (formatted_life slot) = slots_formatted p word_of slot some ranked in
       record {
@@ -190,7 +190,7 @@ module _ (p : Params) (word_of : WordId → ℕ) where
         within = inl (omega arith);
       }
 
-  public_first : (slot : ℕ → ℕ → ℕ) → public_in p word_of (formatted_life slot) (formatted_gates p) ≡ public_formatted p
+  pub public_first : (slot : ℕ → ℕ → ℕ) → public_in p word_of (formatted_life slot) (formatted_gates p) ≡ public_formatted p
   public_first slot = λ i. record (public_formatted p) { counts = λ u. none_counted (width p) i }
 
   -- ---- all that was seen
@@ -213,11 +213,11 @@ module _ (p : Params) (word_of : WordId → ℕ) where
     later_shown s ShowLifts rest h = h
     later_shown s (End ws drawn slot) rest h = h.1
 
-    behind_both : (q : Public) (xs ys : List SeenAct) → public_after p q (xs ++ ys) ≡ public_after p (public_after p q xs) ys
+    pub behind_both : (q : Public) (xs ys : List SeenAct) → public_after p q (xs ++ ys) ≡ public_after p (public_after p q xs) ys
     behind_both q [] ys = refl
     behind_both q (x ∷ xs) ys = behind_both (public_step p q x) xs ys
 
-    life_seen : (s : LifeState) (acts : List LifeAct) (q : Public) → IsOpen s → IsLife p word_of s acts → AreEndsShown p word_of s acts → public_in p word_of s q.gates ≡ q →
+    pub life_seen : (s : LifeState) (acts : List LifeAct) (q : Public) → IsOpen s → IsLife p word_of s acts → AreEndsShown p word_of s acts → public_in p word_of s q.gates ≡ q →
         public_in p word_of (reached p word_of s acts) (public_after p q (all_seen p word_of found s acts)).gates ≡ public_after p q (all_seen p word_of found s acts)
     life_seen s [] q inv life ends is = is
     life_seen s (a ∷ rest) q inv life ends is =
