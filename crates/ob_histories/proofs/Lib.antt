@@ -1,0 +1,11 @@
+pub mod Sampling
+pub mod Lists
+pub mod Trees
+pub mod Walks
+pub mod Standing
+pub mod Ended
+pub mod Holes
+pub mod Places
+pub mod Finding
+pub mod Sets
+pub mod Written

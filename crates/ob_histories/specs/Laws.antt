@@ -1,0 +1,26 @@
+-- What is said of histories.
+use Rattle.std.specs.Prelude.{◌≡◌, ℕ, List, [], ◌∷◌}
+use Rattle.std.specs.List.{flat_map}
+use Rattle.ob_schedule.specs.declared.line.Line.{Line}
+use Rattle.ob_schedule.specs.declared.line.Line.TheVariants as L
+use Rattle.ob_schedule.specs.Follow.{Follow, TakesLine, started}
+use Rattle.ob_histories.specs.Histories.{AreHistories}
+
+-- each line may stand behind those before it; what is known at the end
+abbrev pub TakesLines : Follow → List Line → Follow → Type 0
+TakesLines known [] last = last ≡ known
+TakesLines known (line ∷ lines) last = (next : Follow) × TakesLine known line next × TakesLines next lines last
+
+-- there are none, or the first one begins a format
+abbrev pub AreAdmitted : List Line → Type 0
+AreAdmitted [] = Unit {0}
+AreAdmitted (L.Start p ∷ lines) = (last : Follow) × TakesLines (started p) lines last
+AreAdmitted (L.Open ∷ lines) = ⊥
+AreAdmitted (L.Note note ∷ lines) = ⊥
+AreAdmitted (L.Bad ∷ lines) = ⊥
+
+abbrev pub HistoriesAreAdmitted : Type 0
+HistoriesAreAdmitted = (histories : List (List Line)) → AreHistories histories → AreAdmitted (flat_map (λ lines. lines) histories)
+
+abbrev pub AdmittedAreHistories : Type 0
+AdmittedAreHistories = (lines : List Line) → AreAdmitted lines → (histories : List (List Line)) × (lines ≡ flat_map (λ history. history) histories) × AreHistories histories

@@ -1,0 +1,6 @@
+pub mod Fills
+pub mod Runs
+pub mod Histories
+pub mod Laws
+pub mod Samples
+pub mod Texts

@@ -1,0 +1,35 @@
+-- Lines and the texts that whoever shows them writes.
+use Rattle.std.specs.Prelude.{◌≡◌, ◌≤◌, ◌↔◌, ℕ, ◌^◌, List, [], ◌∷◌, length, Option, Some, None}
+use Rattle.std.specs.List.{flat_map}
+use Rattle.ob_store.specs.Lines.{line_of, start_line, open_line}
+use Rattle.ob_schedule.specs.declared.line.Line.{Line}
+use Rattle.ob_schedule.specs.declared.line.Line.TheVariants as L
+use Rattle.ob_schedule.specs.Follow.{Follow}
+use Rattle.ob_audit.specs.Spelling.{IsNoteInRange}
+use Rattle.ob_audit.specs.Traces.{lines_in, TakesNext, Admitted, FitsWhole}
+use Rattle.ob_histories.specs.Laws.{AreAdmitted}
+
+-- a line's text and its line feed
+abbrev pub written : Line → List ℕ
+written (L.Start p) = start_line p
+written L.Open = open_line
+written (L.Note note) = line_of note
+written L.Bad = []
+
+-- lines that are written, with labels and cells below 2^64
+abbrev pub AreWritten : List Line → Type 0
+AreWritten [] = Unit {0}
+AreWritten (L.Start p ∷ lines) = AreWritten lines
+AreWritten (L.Open ∷ lines) = AreWritten lines
+AreWritten (L.Note note ∷ lines) = IsNoteInRange note × AreWritten lines
+AreWritten (L.Bad ∷ lines) = ⊥
+
+-- each line may stand next, behind those before it or behind none
+abbrev pub TakesAll : Option Follow → List Line → Option Follow → Type 0
+TakesAll known [] last = last ≡ known
+TakesAll known (line ∷ lines) last = (next : Follow) × TakesNext known line next × TakesAll (Some next) lines last
+
+-- An auditor admits the texts exactly where the lines are admitted; so it answers that they fit, as far as it looks at them all.
+pub record LinesAreAdmitted : Type 0 where
+  pub texts : (known last : Option Follow) (lines : List Line) → AreWritten lines → Admitted known (lines_in (flat_map written lines)) last ↔ TakesAll known lines last
+  pub fits : (lines : List Line) → AreWritten lines → AreAdmitted lines → length (flat_map written lines) ≤ 2 ^ 32 → FitsWhole (2 ^ 32) (flat_map written lines)

@@ -1,0 +1,9 @@
+//! Public histories: what an audit of a trace accepts, told without any machine. Laws of definitions;
+//! nothing here runs.
+#![tactic(auto)]
+
+mod samples;
+mod texts;
+
+pub use samples::sampled;
+pub use texts::lines_are_admitted;
