@@ -35,7 +35,7 @@ Stands p f x s = Holds p f s x.epoch × Fits p (rest_of s) x
 -- it may be found: what stands, or what stands if the last end's gate was opened
 abbrev pub Allows : Params → AllFills → Found → StandingKnown → Option StandingKnown → Type 0
 Allows p f x s None = Stands p f x s
-Allows p f x s (Some newer) = Stands p f x s ⊎ Stands p f x newer
+Allows p f x s (Some newer) = Stands p f x s ⊎ ((newer.epoch ≡ other s.epoch) × Stands p f x newer)
 
 -- ---- the rest of what is known may change
 

@@ -8,4 +8,8 @@ pub mod Holes
 pub mod Places
 pub mod Finding
 pub mod Sets
+pub mod Batches
+pub mod Turns
+pub mod Openings
+pub mod Admitting
 pub mod Written

@@ -57,7 +57,7 @@ slot_rest s h slot = go (s.slots h)
     go None = refl
     go (Some x) = refl
 
-label_rest : (s : StandingKnown) (batch place leaf : ℕ) → rest_of (with_label s batch place leaf) ≡ rest_of s
+pub label_rest : (s : StandingKnown) (batch place leaf : ℕ) → rest_of (with_label s batch place leaf) ≡ rest_of s
 label_rest s batch place leaf = go (s.labels batch place)
   where
     go : (o : Option ℕ) → rest_of (elim o [ None ↦ record s { labels = λ b i. cond ((batch == b) && (place == i)) (Some leaf) (s.labels b i) } | Some x ↦ s ]) ≡ rest_of s
@@ -85,7 +85,7 @@ module _ (p : Params) (f : AllFills) (all : AreAllFills p f) (epoch : ℕ) (rest
       (more.0, (more.1.0, walk_note (Keeps p f epoch rest) (at p s b ls (h ∷ hs) ws) (taken_up (at p s1 b ls hs ws)) (taken_up (at p more.0 b ls [] ws)) note _ (slot, (shows, refl)) (refl, (refl, (refl, known))) more.1.1))
 
   -- how often a place's buckets were read before it
-  same_before : (s : StandingKnown) (b i : ℕ) (ls : List ℕ) → Holds p f s epoch → ls ≡ leaves_shown p f (suc epoch) b ++ take i (batch_leaves p (fills_at p f epoch) b)
+  pub same_before : (s : StandingKnown) (b i : ℕ) (ls : List ℕ) → Holds p f s epoch → ls ≡ leaves_shown p f (suc epoch) b ++ take i (batch_leaves p (fills_at p f epoch) b)
       → counts_now p (public_known p s ls) ≡ count_before p f epoch b i
   same_before s b i ls holds is =
       let was : List ℕ = leaves_shown p f (suc epoch) b in
@@ -126,7 +126,7 @@ module _ (p : Params) (f : AllFills) (all : AreAllFills p f) (epoch : ℕ) (rest
       let took : TakesLine g (L.Note (Label leaf)) next = takes next (ap (λ (xs : List Hole). taken_up (at p s1 c ls1 xs ws)) (sym same)) in
       (walk.0, (walk.1.0, walk_note (Keeps p f epoch rest) g next (taken_up (at p walk.0 c ls1 [] ws)) (Label leaf) _ took stops walk.1.1))
 
-  one_more : (b i : ℕ) (ls : List ℕ) → i < p.places → ls ≡ leaves_shown p f (suc epoch) b ++ take i (batch_leaves p (fills_at p f epoch) b)
+  pub one_more : (b i : ℕ) (ls : List ℕ) → i < p.places → ls ≡ leaves_shown p f (suc epoch) b ++ take i (batch_leaves p (fills_at p f epoch) b)
       → ls ++ slice_index (batch_leaves p (fills_at p f epoch) b) i ∷ [] ≡ leaves_shown p f (suc epoch) b ++ take (i + 1) (batch_leaves p (fills_at p f epoch) b)
   one_more b i ls low is =
       let leaves : List ℕ = batch_leaves p (fills_at p f epoch) b in

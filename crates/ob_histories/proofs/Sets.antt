@@ -218,8 +218,8 @@ module _ (p : Params) (f : AllFills) (all : AreAllFills p f) (t : Turn) (generat
   stays_then : (k : ℕ) (g : Gate) (ws : List Want) → ((y : Found) → IsGateLeft t.gate (suc (suc k)) y.epoch_gate → GateMay g y.epoch_gate) → EndLeft (suc (suc k)) (known_then g ws)
   stays_then k g ws may = λ y of left. (refl, (refl, not_ended (suc (suc k)) g y of left (may y left.1)))
 
-  may_end : (y : Found) → IsOf generation y → HasEnded t y ⊎ HasNotEnded p t 1 y → Stands p f y (record s { epoch_gate = Closed }) ⊎ Stands p f y ended
-  may_end y of (inl left) = inr (has_ended y of left)
+  may_end : (y : Found) → IsOf generation y → HasEnded t y ⊎ HasNotEnded p t 1 y → Stands p f y (record s { epoch_gate = Closed }) ⊎ ((ended.epoch ≡ other s.epoch) × Stands p f y ended)
+  may_end y of (inl left) = inr (refl, has_ended y of left)
   may_end y of (inr left) = inl (not_ended 1 Closed y of left left.1)
 
   then_0 : Walk EndLeft end_then [] end_then

@@ -68,6 +68,11 @@ pub walk_weaker : (I J : ℕ → Follow → Type 0) (f g : Follow) (notes : List
 walk_weaker I J f g notes weaker walk =
     record { whole = walk.whole; stops = λ n. (let at = walk.stops n in (at.0, (at.1.0, weaker (length notes - n) at.0 at.1.1))) }
 
+-- of what lacks no more than all
+pub walk_within : (I J : ℕ → Follow → Type 0) (f g : Follow) (notes : List Note) → ((k : ℕ) (h : Follow) → k ≤ length notes → I k h → J k h) → Walk I f notes g → Walk J f notes g
+walk_within I J f g notes weaker walk =
+    record { whole = walk.whole; stops = λ n. (let at = walk.stops n in (at.0, (at.1.0, weaker (length notes - n) at.0 (omega arith) at.1.1))) }
+
 -- ---- what a stop can tell
 
 abbrev pub Stops : Params → (StandingKnown → Option StandingKnown → Type 0) → Follow → Type 0

@@ -2,8 +2,10 @@
 //! nothing here runs.
 #![tactic(auto)]
 
+mod laws;
 mod samples;
 mod texts;
 
+pub use laws::histories_are_admitted;
 pub use samples::sampled;
 pub use texts::lines_are_admitted;
