@@ -18,8 +18,8 @@ use Rattle.ob_schedule.specs.Standing.{StandingKnown, standing_formatted}
 use Rattle.ob_schedule.specs.Wants.{kept}
 use Rattle.ob_schedule.specs.Follow.{Follow, taken_up, started, opened, opened_wants, format_wants}
 use Rattle.ob_histories.specs.Fills.{AllFills, AreAllFills, public_at}
-use Rattle.ob_histories.specs.Runs.{Found, HistoryRun, Turn, first_turn, next_turn, turn_behind, notes_of_turn, opening_reads, opening_notes, notes_from, run_notes, notes_shown, is_settled}
-use Rattle.ob_histories.specs.Histories.{IsOpeningLeft, IsTurnLeft, IsLeft, MayFind, AreRunsBehind, found_formatted, lines_of_notes, run_lines, IsHistory, IsCutShort, AreHistories}
+use Rattle.ob_histories.specs.Runs.{RunFound, HistoryRun, HistoryTurn, first_turn, next_turn, turn_behind, notes_of_turn, opening_reads, opening_step, notes_from, run_notes, notes_shown, is_settled}
+use Rattle.ob_histories.specs.Histories.{IsOpeningLeft, IsTurnLeft, RunLeaves, MayFind, AreRunsBehind, found_formatted, lines_of_notes, run_lines, IsHistory, IsCutHistory, AreHistories}
 use Rattle.ob_histories.specs.Laws.{TakesLines, AreAdmitted, HistoriesAreAdmitted}
 use Rattle.ob_histories.proofs.Walks.{Reach, reach_join, taken_join, Stops}
 use Rattle.ob_histories.proofs.Finding.{Stands, Allows}
@@ -32,29 +32,29 @@ use Rattle.ob_histories.proofs.Openings.{opens}
 
 module _ (p : Params) (f : AllFills) (all : AreAllFills p f) where
   -- from a turn on
-  steps_taken : (n shown generation : ℕ) (t : Turn) (s : StandingKnown) → AtTurn p f t generation s
-      → (h : Follow) × (Reach (before p f t s) (notes_from p f t n shown) h × ((y : Found) → IsOf generation y → IsTurnLeft p f (turn_behind p t n) shown y → Stops p (Allows p f y) h))
+  steps_taken : (n shown generation : ℕ) (t : HistoryTurn) (s : StandingKnown) → AtTurn p f t generation s
+      → (h : Follow) × (Reach (before p f t s) (notes_from p f t n shown) h × ((y : RunFound) → IsOf generation y → IsTurnLeft p f (turn_behind p t n) shown y → Stops p (Allows p f y) h))
   steps_taken zero shown generation t s is = (walk_turn p f all t generation s is).stops shown
   steps_taken (suc n) shown generation t s is =
       let step = walk_turn p f all t generation s is in
       let more = steps_taken n shown generation (next_turn p t) step.then step.known in
       (more.0, (reach_join (before p f t s) (before p f (next_turn p t) step.then) more.0 (notes_of_turn p f t) (notes_from p f (next_turn p t) n shown) step.whole more.1.0, more.1.1))
 
-  abbrev Taken : Follow → Found → ℕ → ℕ → Type 0
+  abbrev Taken : Follow → RunFound → ℕ → ℕ → Type 0
   Taken h x steps shown =
       (g : Follow) × (Reach (opened h) (notes_shown p f x steps shown) g
-      × ((y : Found) → (is_settled p f x steps shown ≡ true → IsLeft p f x steps shown y → Stops p (Allows p f y) g) × (is_settled p f x steps shown ≡ false → Stops p (Allows p f y) h → Stops p (Allows p f y) g)))
+      × ((y : RunFound) → (is_settled p f x steps shown ≡ true → RunLeaves p f x steps shown y → Stops p (Allows p f y) g) × (is_settled p f x steps shown ≡ false → Stops p (Allows p f y) h → Stops p (Allows p f y) g)))
 
-  abbrev ends : Found → List Note
+  abbrev ends : RunFound → List Note
   ends x = set_twin p GenerationTwin (suc x.generation) x.generation_gate
 
   -- the sync stands between an opening's reads and the setting
-  opening_long : (x : Found) → length (opening_notes p f x) ≡ length (opening_reads p f x) + suc (length (ends x))
+  opening_long : (x : RunFound) → length (opening_step p f x) ≡ length (opening_reads p f x) + suc (length (ends x))
   opening_long x =
       let rest : List Note = reads_of (region_cells p GenerationTwin ++ region_cells p EpochTwin) ++ reads_of (check_cells p ((public_at p f x.epoch).epoch % 2)) ++ reads_of (region_cells p (LogArea (((public_at p f x.epoch).epoch + 1) % 2))) in
       omega (arith, length-append (rest ++ (Sync ∷ [])) (ends x), length-append rest (Sync ∷ []))
 
-  run_taken : (h : Follow) (x : Found) (steps shown : ℕ) → Stops p (Allows p f x) h → Taken h x steps shown
+  run_taken : (h : Follow) (x : RunFound) (steps shown : ℕ) → Stops p (Allows p f x) h → Taken h x steps shown
   run_taken h x zero shown stops =
       let open_walk = opens p f x h stops in
       let at = open_walk.1.1.stops shown in
@@ -73,20 +73,20 @@ module _ (p : Params) (f : AllFills) (all : AreAllFills p f) where
       let more = steps_taken n shown (suc x.generation) (first_turn x) open_walk.0 open_walk.1.0 in (
         more.0,
         (
-          reach_join (opened h) (before p f (first_turn x) open_walk.0) more.0 (opening_notes p f x) (notes_from p f (first_turn x) n shown) open_walk.1.1.whole more.1.0,
+          reach_join (opened h) (before p f (first_turn x) open_walk.0) more.0 (opening_step p f x) (notes_from p f (first_turn x) n shown) open_walk.1.1.whole more.1.0,
           λ y. ((λ settled left. more.1.1 y (left.0, left.1) left.2), (λ not_yet was. absurd (let never : true ≡ false = not_yet in cc))),
         ),
       )
 
   -- ---- runs behind each other
 
-  next_may : (h g : Follow) (last : Option HistoryRun) (run : HistoryRun) (settled : Bool) → is_settled p f run.found run.steps run.shown ≡ settled → ((y : Found) → MayFind p f last y → Stops p (Allows p f y) h)
-      → ((y : Found) → (is_settled p f run.found run.steps run.shown ≡ true → IsLeft p f run.found run.steps run.shown y → Stops p (Allows p f y) g) × (is_settled p f run.found run.steps run.shown ≡ false → Stops p (Allows p f y) h → Stops p (Allows p f y) g))
-      → (y : Found) → MayFind p f (cond settled (Some run) last) y → Stops p (Allows p f y) g
+  next_may : (h g : Follow) (last : Option HistoryRun) (run : HistoryRun) (settled : Bool) → is_settled p f run.found run.steps run.shown ≡ settled → ((y : RunFound) → MayFind p f last y → Stops p (Allows p f y) h)
+      → ((y : RunFound) → (is_settled p f run.found run.steps run.shown ≡ true → RunLeaves p f run.found run.steps run.shown y → Stops p (Allows p f y) g) × (is_settled p f run.found run.steps run.shown ≡ false → Stops p (Allows p f y) h → Stops p (Allows p f y) g))
+      → (y : RunFound) → MayFind p f (cond settled (Some run) last) y → Stops p (Allows p f y) g
   next_may h g last run true is may told y found = (told y).0 is found
   next_may h g last run false is may told y found = (told y).1 is (may y found)
 
-  pub runs_taken : (h : Follow) (last : Option HistoryRun) (runs : List HistoryRun) → ((y : Found) → MayFind p f last y → Stops p (Allows p f y) h) → AreRunsBehind p f last runs
+  pub runs_taken : (h : Follow) (last : Option HistoryRun) (runs : List HistoryRun) → ((y : RunFound) → MayFind p f last y → Stops p (Allows p f y) h) → AreRunsBehind p f last runs
       → (g : Follow) × TakesLines h (flat_map (run_lines p f) runs) g
   runs_taken h last [] may are = (h, refl)
   runs_taken h last (run ∷ runs) may are =
@@ -143,8 +143,8 @@ formatted_stands p f = (
   record { generation = refl; generation_gate = refl; epoch_gate = refl; records = inl refl; few = omega arith },
 )
 
-format_found : (p : Params) (f : AllFills) (y : Found) → y ≡ found_formatted → Stops p (Allows p f y) (formatting p true [])
-format_found p f y is = (refl, (refl, subst (λ (x : Found). Stands p f x standing_formatted) (sym is) (formatted_stands p f)))
+format_found : (p : Params) (f : AllFills) (y : RunFound) → y ≡ found_formatted → Stops p (Allows p f y) (formatting p true [])
+format_found p f y is = (refl, (refl, subst (λ (x : RunFound). Stands p f x standing_formatted) (sym is) (formatted_stands p f)))
 
 -- runs behind a cut format read the head at most
 cut_opened : (h : Follow) → h.formatted ≡ false → (g : Follow) → opened h ≡ record h { runs = false; holes = []; wants = kept head_notes }
@@ -170,7 +170,7 @@ heads_taken h (head ∷ heads) cut =
 -- ---- histories
 
 -- what stands behind the first line
-behind_first : (p : Params) (lines : List Line) → (IsHistory p lines ⊎ IsCutShort p lines) → (rest : List Line) × ((lines ≡ L.Start p ∷ rest) × ((last : Follow) × TakesLines (started p) rest last))
+behind_first : (p : Params) (lines : List Line) → (IsHistory p lines ⊎ IsCutHistory p lines) → (rest : List Line) × ((lines ≡ L.Start p ∷ rest) × ((last : Follow) × TakesLines (started p) rest last))
 behind_first p lines (inl is) =
     let runs = runs_taken p is.fills is.filled (formatting p true []) None is.runs (λ y found. format_found p is.fills y found) is.found in (
       lines_of_notes (format_notes p) ++ flat_map (run_lines p is.fills) is.runs,

@@ -24,8 +24,8 @@ use Rattle.ob_schedule.specs.Holes.{Hole, place_holes}
 use Rattle.ob_schedule.specs.Standing.{StandingKnown, public_known, with_label}
 use Rattle.ob_schedule.specs.Wants.{kept, record_wants, places, end_holes, end_wants}
 use Rattle.ob_schedule.specs.Follow.{Follow, TakesLine, taken_up}
-use Rattle.ob_histories.specs.Fills.{AllFills, AreAllFills, public_at, public_behind, fills_at, leaves_shown}
-use Rattle.ob_histories.specs.Runs.{Found, Turn, notes_of_batch}
+use Rattle.ob_histories.specs.Fills.{AllFills, AreAllFills, public_at, public_after, fills_at, leaves_of_batches}
+use Rattle.ob_histories.specs.Runs.{RunFound, HistoryTurn, notes_of_batch}
 use Rattle.ob_histories.specs.Histories.{AreRecordsLeft, IsBatchLeft}
 use Rattle.ob_histories.proofs.Lists.{take_whole}
 use Rattle.ob_histories.proofs.Standing.{Holds, label_holds}
@@ -37,7 +37,7 @@ use Rattle.ob_histories.proofs.Finding.{GateMay, RecordsMay, Fits, Stands, Allow
 use Rattle.ob_histories.proofs.Sets.{IsOf, found_at}
 
 -- what a batch's record or its places may leave
-abbrev pub IsThere : Turn → ℕ → Found → Type 0
+abbrev pub IsThere : HistoryTurn → ℕ → RunFound → Type 0
 IsThere t generation y = IsOf generation y × ((y.epoch ≡ t.epoch) × (y.epoch_gate ≡ t.gate))
 
 some_parts : (x : ℕ) → 0 < x → 0 < div_ceil x 96
@@ -48,7 +48,7 @@ unfolding record_cells
 some_cells p = some_parts (record_len p) (omega arith)
 
 -- what is known before a turn
-pub record AtTurn (p : Params) (f : AllFills) (t : Turn) (generation : ℕ) (s : StandingKnown) : Type 0 where
+pub record AtTurn (p : Params) (f : AllFills) (t : HistoryTurn) (generation : ℕ) (s : StandingKnown) : Type 0 where
   pub holds : Holds p f s t.epoch
   pub side : side_number s.generation ≡ generation % 2
   pub generation_gate : GateMay s.generation_gate true
@@ -57,8 +57,8 @@ pub record AtTurn (p : Params) (f : AllFills) (t : Turn) (generation : ℕ) (s :
   pub few : t.records ≤ p.batches
   pub low : t.batch ≤ p.batches
 
-abbrev pub before : Params → AllFills → Turn → StandingKnown → Follow
-before p f t s = taken_up (at p s t.batch (leaves_shown p f (suc t.epoch) t.batch) [] [])
+abbrev pub before : Params → AllFills → HistoryTurn → StandingKnown → Follow
+before p f t s = taken_up (at p s t.batch (leaves_of_batches p f (suc t.epoch) t.batch) [] [])
 
 -- wants that are there
 up_some : (p : Params) (s : StandingKnown) (c : ℕ) (ls : List ℕ) (wants ws : List Want) (w : Want) → wants ≡ w ∷ ws → at p s c ls [] wants ≡ taken_up (at p s c ls [] wants)
@@ -73,15 +73,15 @@ none_open batch zero records two left = absurd (omega (arith, two))
 none_open batch (suc zero) records two left = absurd (omega (arith, two))
 none_open batch (suc (suc n)) records two left = left
 
-module _ (p : Params) (f : AllFills) (all : AreAllFills p f) (t : Turn) (generation : ℕ) (low : t.batch < p.batches) where
+module _ (p : Params) (f : AllFills) (all : AreAllFills p f) (t : HistoryTurn) (generation : ℕ) (low : t.batch < p.batches) where
   abbrev leaves_before : List ℕ
-  leaves_before = leaves_shown p f (suc t.epoch) t.batch
+  leaves_before = leaves_of_batches p f (suc t.epoch) t.batch
 
   abbrev leaves_now : List ℕ
   leaves_now = batch_leaves p (fills_at p f t.epoch) t.batch
 
   abbrev phase : List Note
-  phase = phase_notes p (public_behind p f t.epoch t.batch) (fills_at p f t.epoch) leaves_now
+  phase = phase_notes p (public_after p f t.epoch t.batch) (fills_at p f t.epoch) leaves_now
 
   abbrev Rest : Type 0
   Rest = Side × (Gate × (Gate × (ℕ × Bool)))
@@ -90,7 +90,7 @@ module _ (p : Params) (f : AllFills) (all : AreAllFills p f) (t : Turn) (generat
   abbrev IsSame : Rest → Type 0
   IsSame r = (side_number r.0 ≡ generation % 2) × ((GateMay r.1.0 true) × GateMay r.1.1.0 t.gate)
 
-  is_there : (r : Rest) (y : Found) (s : StandingKnown) → IsSame r → IsThere t generation y → RecordsMay r.1.1.1.0 r.1.1.1.1 y.records → y.records ≤ p.batches → Known p f t.epoch r s → Stands p f y s
+  is_there : (r : Rest) (y : RunFound) (s : StandingKnown) → IsSame r → IsThere t generation y → RecordsMay r.1.1.1.0 r.1.1.1.1 y.records → y.records ≤ p.batches → Known p f t.epoch r s → Stands p f y s
   is_there r y s same is may few known = (
     subst (λ (e : ℕ). Holds p f s e) (sym is.1.0) known.0,
     subst (λ (q : Rest). Fits p q y) (sym known.1) (record {
@@ -102,7 +102,7 @@ module _ (p : Params) (f : AllFills) (all : AreAllFills p f) (t : Turn) (generat
     }),
   )
 
-  there_stops : (r : Rest) (y : Found) (h : Follow) → IsSame r → IsThere t generation y → RecordsMay r.1.1.1.0 r.1.1.1.1 y.records → y.records ≤ p.batches → Stops p (InEpoch p f t.epoch r) h → Stops p (Allows p f y) h
+  there_stops : (r : Rest) (y : RunFound) (h : Follow) → IsSame r → IsThere t generation y → RecordsMay r.1.1.1.0 r.1.1.1.1 y.records → y.records ≤ p.batches → Stops p (InEpoch p f t.epoch r) h → Stops p (Allows p f y) h
   there_stops r y h same is may few stops =
       (stops.0, (stops.1.0, subst (λ (o : Option StandingKnown). Allows p f y h.stands o) (sym stops.1.1.0) (is_there r y h.stands same is may few stops.1.1.1)))
 
@@ -135,23 +135,23 @@ module _ (p : Params) (f : AllFills) (all : AreAllFills p f) (t : Turn) (generat
 
   -- the batch's places, from a state in which they are wanted
   abbrev after : StandingKnown → Follow
-  after s = taken_up (at p s (suc t.batch) (leaves_shown p f (suc t.epoch) (suc t.batch)) [] [])
+  after s = taken_up (at p s (suc t.batch) (leaves_of_batches p f (suc t.epoch) (suc t.batch)) [] [])
 
   walk_phase : (s : StandingKnown) → Holds p f s t.epoch
       → (s' : StandingKnown) × (Known p f t.epoch (rest_of s) s' × Walk (InPlaces p f t.epoch (rest_of s)) (at p s (t.batch + 1) leaves_before [] first_places) phase (after s'))
   walk_phase s holds =
       let walk = walk_places p f all t.epoch (rest_of s) (suc many) s (t.batch + 1) t.batch 0 leaves_before (holds, refl) low (omega (arith, all_places)) begun in
       let there : Walk (InPlaces p f t.epoch (rest_of s)) (at p s (t.batch + 1) leaves_before [] first_places) (place_lists (rest_of s)) (after walk.0) =
-      subst (λ (c : ℕ). Walk (InPlaces p f t.epoch (rest_of s)) (at p s (t.batch + 1) leaves_before [] first_places) (place_lists (rest_of s)) (taken_up (at p walk.0 c (leaves_shown p f (suc t.epoch) (suc t.batch)) [] [])))
+      subst (λ (c : ℕ). Walk (InPlaces p f t.epoch (rest_of s)) (at p s (t.batch + 1) leaves_before [] first_places) (place_lists (rest_of s)) (taken_up (at p walk.0 c (leaves_of_batches p f (suc t.epoch) (suc t.batch)) [] [])))
       (add-one t.batch) walk.1.1 in
       (walk.0, (walk.1.0, subst (λ (ns : List Note). Walk (InPlaces p f t.epoch (rest_of s)) (at p s (t.batch + 1) leaves_before [] first_places) ns (after walk.0)) (are_notes (rest_of s)) there))
 
   -- ---- a batch that is repeated
 
   abbrev Repeated : ℕ → Follow → Type 0
-  Repeated k h = (y : Found) → IsThere t generation y → y.records ≡ t.records → Stops p (Allows p f y) h
+  Repeated k h = (y : RunFound) → IsThere t generation y → y.records ≡ t.records → Stops p (Allows p f y) h
 
-  abbrev then_turn : Turn
+  abbrev then_turn : HistoryTurn
   then_turn = record t { batch = suc t.batch }
 
   -- what is known behind it
@@ -206,7 +206,7 @@ module _ (p : Params) (f : AllFills) (all : AreAllFills p f) (t : Turn) (generat
       let ws : List Want = map (λ j. Place t.batch j) (range_with_len 1 many) in
       let ls : List ℕ = leaves_before ++ leaf ∷ [] in
       let next : Follow = taken_up (at p s3 (t.batch + 1) ls hs ws) in
-      let end : StandingKnown → Follow = λ s'. taken_up (at p s' (t.batch + 1) (leaves_shown p f (suc t.epoch) (suc t.batch)) [] []) in
+      let end : StandingKnown → Follow = λ s'. taken_up (at p s' (t.batch + 1) (leaves_of_batches p f (suc t.epoch) (suc t.batch)) [] []) in
       let same : place_holes p (counts_now p (public_known p s2 leaves_before)) leaf ≡ hs = ap (λ (count : ℕ → ℕ). place_holes p count leaf) (same_before p f all t.epoch r2 s2 t.batch 0 leaves_before holds2 begun) in
       let within : leaf < 2 ^ p.levels = subst (λ (x : ℕ). x < 2 ^ p.levels) (sym (leaf_at p f all t.epoch r2 t.batch 0 some)) (all.leaves (suc t.epoch) t.batch 0) in
       let takes : TakesLine g (L.Note (Label leaf)) next = inl (leaf, record { within = within; is = refl; then = λ i. taken_up (at p s3 (t.batch + 1) ls (sym same i) (drop 1 (sym are_places i))) }) in
@@ -221,7 +221,7 @@ module _ (p : Params) (f : AllFills) (all : AreAllFills p f) (t : Turn) (generat
       (λ y there is_all. (refl, (refl, is_there (rest_of s) y s (is.side, (is.generation_gate, is.epoch_gate)) there (inr (maybe, is_all ∙ one_open)) (omega (arith, is_all, is.few)) (is.holds, refl)))) weak in
       let whole : Walk Repeated g phase (after more.0) =
       subst (λ (ns : List Note). Walk Repeated g ns (after more.0)) (are_notes r2)
-      (subst (λ (c : ℕ). Walk Repeated g (place_lists r2) (taken_up (at p more.0 c (leaves_shown p f (suc t.epoch) (suc t.batch)) [] []))) (add-one t.batch) first) in
+      (subst (λ (c : ℕ). Walk Repeated g (place_lists r2) (taken_up (at p more.0 c (leaves_of_batches p f (suc t.epoch) (suc t.batch)) [] []))) (add-one t.batch) first) in
       (more.0, (behind_turn s2 more.0 (is.side, (is.generation_gate, is.epoch_gate)) is.few more.1.0 (inr (omega (arith, one_open, last), add-one t.batch)), subst (λ (h : Follow). Walk Repeated h phase (after more.0)) (sym (loaded s (Record t.batch ∷ []) wants)) whole))
 
   pub walk_repeat : (s : StandingKnown) → AtTurn p f t generation s → t.batch < t.records → Stepped Repeated (before p f t s) phase
@@ -276,13 +276,13 @@ module _ (p : Params) (f : AllFills) (all : AreAllFills p f) (t : Turn) (generat
 
   -- by what the record lacks
   abbrev Begun : ℕ → Follow → Type 0
-  Begun k h = (y : Found) → IsThere t generation y → AreRecordsLeft t.batch k y.records → Stops p (Allows p f y) h
+  Begun k h = (y : RunFound) → IsThere t generation y → AreRecordsLeft t.batch k y.records → Stops p (Allows p f y) h
 
   -- the record's standing: so many are sure, and one more may be open
   abbrev logs : StandingKnown → ℕ → Bool → StandingKnown
   logs s logged maybe = record s { logged = logged; maybe = maybe }
 
-  begun_stop : (s : StandingKnown) (logged : ℕ) (maybe : Bool) (wants : List Want) (y : Found) → Holds p f s t.epoch → IsSame (rest_of s) → IsThere t generation y → RecordsMay logged maybe y.records → y.records ≤ p.batches
+  begun_stop : (s : StandingKnown) (logged : ℕ) (maybe : Bool) (wants : List Want) (y : RunFound) → Holds p f s t.epoch → IsSame (rest_of s) → IsThere t generation y → RecordsMay logged maybe y.records → y.records ≤ p.batches
       → Stops p (Allows p f y) (at p (logs s logged maybe) (t.batch + 1) leaves_before [] wants)
   begun_stop s logged maybe wants y holds same there may few =
       (refl, (refl, is_there (rest_of (logs s logged maybe)) y (logs s logged maybe) same there may few (holds_rest p f s t.epoch s.generation s.generation_gate s.epoch_gate logged maybe holds, refl)))
@@ -374,13 +374,13 @@ module _ (p : Params) (f : AllFills) (all : AreAllFills p f) (t : Turn) (generat
   walk_record s is logged = record_by s s.maybe refl is logged
 
   abbrev BatchBegun : ℕ → Follow → Type 0
-  BatchBegun k h = (y : Found) → IsThere t generation y → AreRecordsLeft t.batch (k - length phase) y.records → Stops p (Allows p f y) h
+  BatchBegun k h = (y : RunFound) → IsThere t generation y → AreRecordsLeft t.batch (k - length phase) y.records → Stops p (Allows p f y) h
 
   same_area : (s : StandingKnown) → Holds p f s t.epoch → area s ≡ ((public_at p f t.epoch).epoch + 1) % 2
   same_area s holds = (let next : side_number (other s.epoch) ≡ suc t.epoch % 2 = other_side s.epoch t.epoch holds.side in next ∙ ap (λ (n : ℕ). n % 2) (sym (add-one t.epoch) ∙ ap (λ (n : ℕ). n + 1) (sym (epoch_at p f t.epoch))))
 
   pub walk_begin : (s : StandingKnown) → AtTurn p f t generation s → t.records ≤ t.batch → s.logged ≡ t.batch
-      → Stepped BatchBegun (before p f t s) (batch_notes p (public_behind p f t.epoch t.batch) (fills_at p f t.epoch) t.batch)
+      → Stepped BatchBegun (before p f t s) (batch_notes p (public_after p f t.epoch t.batch) (fills_at p f t.epoch) t.batch)
   walk_begin s is new logged =
       let c : ℕ = t.batch + 1 in
       let s2 : StandingKnown = logs s c false in

@@ -8,7 +8,7 @@ use Rattle.ob_schedule.specs.declared.want.Gate.TheVariants.{Open, Closed, Unsur
 use Rattle.ob_schedule.specs.Sides.{other, side_number}
 use Rattle.ob_schedule.specs.Standing.{StandingKnown}
 use Rattle.ob_histories.specs.Fills.{AllFills, public_at}
-use Rattle.ob_histories.specs.Runs.{Found}
+use Rattle.ob_histories.specs.Runs.{RunFound}
 use Rattle.ob_histories.specs.Histories.{IsGateLeft}
 use Rattle.ob_histories.proofs.Standing.{Holds, WasShown}
 use Rattle.ob_histories.proofs.Ended.{other_side}
@@ -22,18 +22,18 @@ GateMay Unsure is = Unit {0}
 abbrev pub RecordsMay : ℕ → Bool → ℕ → Type 0
 RecordsMay logged maybe records = (records ≡ logged) ⊎ ((maybe ≡ true) × (records ≡ suc logged))
 
-pub record Fits (p : Params) (rest : Side × (Gate × (Gate × (ℕ × Bool)))) (x : Found) : Type 0 where
+pub record Fits (p : Params) (rest : Side × (Gate × (Gate × (ℕ × Bool)))) (x : RunFound) : Type 0 where
   pub generation : side_number rest.0 ≡ x.generation % 2
   pub generation_gate : GateMay rest.1.0 x.generation_gate
   pub epoch_gate : GateMay rest.1.1.0 x.epoch_gate
   pub records : RecordsMay rest.1.1.1.0 rest.1.1.1.1 x.records
   pub few : x.records ≤ p.batches
 
-abbrev pub Stands : Params → AllFills → Found → StandingKnown → Type 0
+abbrev pub Stands : Params → AllFills → RunFound → StandingKnown → Type 0
 Stands p f x s = Holds p f s x.epoch × Fits p (rest_of s) x
 
 -- it may be found: what stands, or what stands if the last end's gate was opened
-abbrev pub Allows : Params → AllFills → Found → StandingKnown → Option StandingKnown → Type 0
+abbrev pub Allows : Params → AllFills → RunFound → StandingKnown → Option StandingKnown → Type 0
 Allows p f x s None = Stands p f x s
 Allows p f x s (Some newer) = Stands p f x s ⊎ ((newer.epoch ≡ other s.epoch) × Stands p f x newer)
 
@@ -54,12 +54,12 @@ holds_rest p f s epoch generation gate epoch_gate logged maybe holds =
     }
 
 -- as the same found, but for the generation and its gate
-pub record IsBut (x y : Found) : Type 0 where
+pub record IsBut (x y : RunFound) : Type 0 where
   pub epoch : y.epoch ≡ x.epoch
   pub epoch_gate : y.epoch_gate ≡ x.epoch_gate
   pub records : y.records ≡ x.records
 
-pub refit : (p : Params) (f : AllFills) (s : StandingKnown) (x y : Found) (generation : Side) (gate : Gate) → Stands p f x s → IsBut x y → side_number generation ≡ y.generation % 2 → GateMay gate y.generation_gate
+pub refit : (p : Params) (f : AllFills) (s : StandingKnown) (x y : RunFound) (generation : Side) (gate : Gate) → Stands p f x s → IsBut x y → side_number generation ≡ y.generation % 2 → GateMay gate y.generation_gate
     → Stands p f y (record s { generation = generation; generation_gate = gate })
 refit p f s x y generation gate stands same at may = (
   subst (λ (e : ℕ). Holds p f (record s { generation = generation; generation_gate = gate }) e) (sym same.epoch) (holds_rest p f s x.epoch generation gate s.epoch_gate s.logged s.maybe stands.0),

@@ -22,7 +22,7 @@ use Rattle.ob_schedule.specs.Standing.{StandingKnown}
 use Rattle.ob_schedule.specs.Wants.{kept, sets, found_wants, register_wants}
 use Rattle.ob_schedule.specs.Follow.{Follow, TakesLine, taken_up, opened, opened_wants, newer_or_same}
 use Rattle.ob_histories.specs.Fills.{AllFills, AreAllFills, public_at}
-use Rattle.ob_histories.specs.Runs.{Found, first_turn, opening_reads, opening_notes}
+use Rattle.ob_histories.specs.Runs.{RunFound, first_turn, opening_reads, opening_step}
 use Rattle.ob_histories.specs.Histories.{IsOpeningLeft}
 use Rattle.ob_histories.proofs.Standing.{Holds}
 use Rattle.ob_histories.proofs.Ended.{other_side}
@@ -42,7 +42,7 @@ some_checks p = some_parts (checkpoint_len p) (omega arith)
 less_one : (n : ℕ) → 0 < n → n ≡ suc (n - 1)
 less_one n some = omega (arith, some)
 
-module _ (p : Params) (f : AllFills) (x : Found) (h : Follow) (params : h.params ≡ p) (formatted : h.formatted ≡ true) where
+module _ (p : Params) (f : AllFills) (x : RunFound) (h : Follow) (params : h.params ≡ p) (formatted : h.formatted ≡ true) where
   -- an opening before its sync
   abbrev op : Bool → List Want → Follow
   op chosen wants = record { params = p; formatted = true; runs = true; stands = h.stands; newer = h.newer; chosen = chosen; batch = 0; leaves = []; holes = []; wants = wants }
@@ -57,8 +57,8 @@ module _ (p : Params) (f : AllFills) (x : Found) (h : Follow) (params : h.params
 
   -- Before the sync all stands as it did, and behind it what was found.
   pub record OpenLeft (k : ℕ) (g : Follow) : Type 0 where
-    pub settled : k ≤ length ends → (y : Found) → IsOpeningLeft x k y → Stops p (Allows p f y) g
-    pub still : length ends < k → (y : Found) → Stops p (Allows p f y) h → Stops p (Allows p f y) g
+    pub settled : k ≤ length ends → (y : RunFound) → IsOpeningLeft x k y → Stops p (Allows p f y) g
+    pub still : length ends < k → (y : RunFound) → Stops p (Allows p f y) h → Stops p (Allows p f y) g
 
   abbrev IsStill : StandingKnown → Option StandingKnown → Type 0
   IsStill s newer = (s ≡ h.stands) × (newer ≡ h.newer)
@@ -103,7 +103,7 @@ module _ (p : Params) (f : AllFills) (x : Found) (h : Follow) (params : h.params
         → Walk OpenLeft (op chosen (Fixed Sync Settles ∷ set_wants)) (Sync ∷ ends) (before p f (first_turn x) found)
     walk_settle chosen is =
         let walk = walk_generation p f x z stands 0 [] in
-        let weak : Walk OpenLeft (taken_up (at p z 0 [] [] set_wants)) ends (before p f (first_turn x) found) = walk_within (λ k g. (y : Found) → IsOpeningLeft x k y → Stops p (Allows p f y) g) OpenLeft (taken_up (at p z 0 [] [] set_wants)) (before p f (first_turn x) found) ends
+        let weak : Walk OpenLeft (taken_up (at p z 0 [] [] set_wants)) ends (before p f (first_turn x) found) = walk_within (λ k g. (y : RunFound) → IsOpeningLeft x k y → Stops p (Allows p f y) g) OpenLeft (taken_up (at p z 0 [] [] set_wants)) (before p f (first_turn x) found) ends
         (λ k g few left. record { settled = λ low. left; still = λ many. absurd (omega (arith, many, few)) }) walk in
         walk_note OpenLeft (op chosen (Fixed Sync Settles ∷ set_wants)) (taken_up (at p z 0 [] [] set_wants)) (before p f (first_turn x) found) Sync ends
         (refl, (λ i. taken_up (at p (sym is i) 0 [] [] set_wants))) (still_left (suc (length ends)) (op chosen (Fixed Sync Settles ∷ set_wants)) (omega arith) (refl, (refl, (refl, refl)))) weak
@@ -147,7 +147,7 @@ module _ (p : Params) (f : AllFills) (x : Found) (h : Follow) (params : h.params
     registers = head_notes ++ reads_of (region_cells p GenerationTwin ++ region_cells p EpochTwin)
 
     -- the schedule's notes
-    are_notes : registers ++ (found_reads ++ Sync ∷ ends) ≡ opening_notes p f x
+    are_notes : registers ++ (found_reads ++ Sync ∷ ends) ≡ opening_step p f x
     are_notes =
         let reads : List Note = reads_of (region_cells p GenerationTwin ++ region_cells p EpochTwin) in
         let c : List Note = reads_of (check_cells p ((public_at p f x.epoch).epoch % 2)) in
@@ -159,7 +159,7 @@ module _ (p : Params) (f : AllFills) (x : Found) (h : Follow) (params : h.params
         (sym (append_assoc reads (c ++ l) (Sync ∷ ends)) ∙ ap (λ (ns : List Note). ns ++ Sync ∷ ends) (sym (append_assoc reads c l)) ∙ sym (append_assoc ((reads ++ c) ++ l) (Sync ∷ []) ends))
 
     -- what is found is sure
-    walk_sure : h.newer ≡ None → h.stands ≡ z → Walk OpenLeft (opened h) (opening_notes p f x) (before p f (first_turn x) found)
+    walk_sure : h.newer ≡ None → h.stands ≡ z → Walk OpenLeft (opened h) (opening_step p f x) (before p f (first_turn x) found)
     walk_sure none is =
         let wants : opened_wants p h.stands h.newer ≡ kept registers ++ (kept found_reads ++ Fixed Sync Settles ∷ set_wants) =
         (λ i. opened_wants p (is i) (none i)) ∙ ap (λ (ws : List Want). register_wants p ++ ws) are_wants in
@@ -176,7 +176,7 @@ module _ (p : Params) (f : AllFills) (x : Found) (h : Follow) (params : h.params
 
     walk_tells : (chosen : Bool) (newer : StandingKnown) → h.newer ≡ Some newer → cond chosen (newer_or_same h.stands h.newer) h.stands ≡ z
         → TakesLine (op false (Checkpoint ∷ [])) (L.Note (Read (check_cell p area 0))) (taken_up (op chosen (kept more_reads ++ Fixed Sync Settles ∷ set_wants)))
-        → Walk OpenLeft (opened h) (opening_notes p f x) (before p f (first_turn x) found)
+        → Walk OpenLeft (opened h) (opening_step p f x) (before p f (first_turn x) found)
     walk_tells chosen newer some is takes =
         let wants : opened_wants p h.stands h.newer ≡ kept registers ++ Checkpoint ∷ [] = ap (opened_wants p h.stands) some in
         let mid : Follow = op false (Checkpoint ∷ []) in
@@ -190,7 +190,7 @@ module _ (p : Params) (f : AllFills) (x : Found) (h : Follow) (params : h.params
         subst₂ (λ (g : Follow) (ns : List Note). Walk OpenLeft g ns (before p f (first_turn x) found)) (sym (opened_is ∙ ap (op false) wants)) are_notes whole
 
   abbrev Opens : Type 0
-  Opens = (s : StandingKnown) × (AtTurn p f (first_turn x) (suc x.generation) s × Walk OpenLeft (opened h) (opening_notes p f x) (before p f (first_turn x) s))
+  Opens = (s : StandingKnown) × (AtTurn p f (first_turn x) (suc x.generation) s × Walk OpenLeft (opened h) (opening_step p f x) (before p f (first_turn x) s))
 
   opens_by : (newer : Option StandingKnown) → h.newer ≡ newer → Allows p f x h.stands newer → Opens
   opens_by None none stands = (found h.stands stands, (found_at_turn h.stands stands, walk_sure h.stands stands none refl))
@@ -214,5 +214,5 @@ module _ (p : Params) (f : AllFills) (x : Found) (h : Follow) (params : h.params
         ),
       )
 
-pub opens : (p : Params) (f : AllFills) (x : Found) (h : Follow) → (stops : Stops p (Allows p f x) h) → Opens p f x h stops.0 stops.1.0
+pub opens : (p : Params) (f : AllFills) (x : RunFound) (h : Follow) → (stops : Stops p (Allows p f x) h) → Opens p f x h stops.0 stops.1.0
 opens p f x h stops = opens_by p f x h stops.0 stops.1.0 h.newer refl stops.1.1

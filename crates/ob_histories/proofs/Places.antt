@@ -19,7 +19,7 @@ use Rattle.ob_schedule.specs.declared.want.Want.TheVariants.{Place}
 use Rattle.ob_schedule.specs.Sides.{side_number}
 use Rattle.ob_schedule.specs.Standing.{StandingKnown, public_known, with_label, with_slot}
 use Rattle.ob_schedule.specs.Follow.{Follow, TakesLine, taken_up, MayShow, MayLabel, ShowsSlot, ShowsLabel}
-use Rattle.ob_histories.specs.Fills.{AllFills, AreAllFills, public_at, public_behind, fills_at, leaves_shown, version_at}
+use Rattle.ob_histories.specs.Fills.{AllFills, AreAllFills, public_at, public_after, fills_at, leaves_of_batches, version_filled}
 use Rattle.ob_histories.proofs.Lists.{count_more, take_whole}
 use Rattle.ob_histories.proofs.Standing.{Holds, IsKnown, IsHole, filled_slot, slot_holds, slot_new, label_holds}
 use Rattle.ob_histories.proofs.Holes.{AreHoles, count_before, place_are}
@@ -68,7 +68,7 @@ module _ (p : Params) (f : AllFills) (all : AreAllFills p f) (epoch : ℕ) (rest
   -- a slot may be shown
   may_show : (s : StandingKnown) (b : ℕ) (ls : List ℕ) (h : Hole) (hs : List Hole) (ws : List Want) → Holds p f s epoch → IsHole p f epoch h → (o : Option ℕ) → s.slots h ≡ o
       → MayShow (at p s b ls (h ∷ hs) ws) h o (filled_slot p f epoch h)
-  may_show s b ls h hs ws holds hole None is = (all.slots h.bucket (version_at p f epoch h.bucket) h.number, slot_new p f s epoch h holds hole all is)
+  may_show s b ls h hs ws holds hole None is = (all.slots h.bucket (version_filled p f epoch h.bucket) h.number, slot_new p f s epoch h holds hole all is)
   may_show s b ls h hs ws holds hole (Some x) is = (let known : x ≡ filled_slot p f epoch h = subst (λ (o : Option ℕ). IsKnown o (filled_slot p f epoch h)) is (holds.slots h) in sym known)
 
   pub walk_holes : (s : StandingKnown) (b : ℕ) (ls : List ℕ) (hs : List Hole) (ws : List Want) → Known p f epoch rest s → AreHoles p f epoch hs
@@ -85,10 +85,10 @@ module _ (p : Params) (f : AllFills) (all : AreAllFills p f) (epoch : ℕ) (rest
       (more.0, (more.1.0, walk_note (Keeps p f epoch rest) (at p s b ls (h ∷ hs) ws) (taken_up (at p s1 b ls hs ws)) (taken_up (at p more.0 b ls [] ws)) note _ (slot, (shows, refl)) (refl, (refl, (refl, known))) more.1.1))
 
   -- how often a place's buckets were read before it
-  pub same_before : (s : StandingKnown) (b i : ℕ) (ls : List ℕ) → Holds p f s epoch → ls ≡ leaves_shown p f (suc epoch) b ++ take i (batch_leaves p (fills_at p f epoch) b)
+  pub same_before : (s : StandingKnown) (b i : ℕ) (ls : List ℕ) → Holds p f s epoch → ls ≡ leaves_of_batches p f (suc epoch) b ++ take i (batch_leaves p (fills_at p f epoch) b)
       → counts_now p (public_known p s ls) ≡ count_before p f epoch b i
   same_before s b i ls holds is =
-      let was : List ℕ = leaves_shown p f (suc epoch) b in
+      let was : List ℕ = leaves_of_batches p f (suc epoch) b in
       let now : List ℕ = take i (batch_leaves p (fills_at p f epoch) b) in
       λ j u. ((λ k. holds.counts u k + count_by (passes p u) (is k)) ∙ ap (λ (n : ℕ). (public_at p f epoch).counts u + n) (count_more (passes p u) was now)
       ∙ sym (add_assoc ((public_at p f epoch).counts u) (count_by (passes p u) was) (count_by (passes p u) now))) j
@@ -109,7 +109,7 @@ module _ (p : Params) (f : AllFills) (all : AreAllFills p f) (epoch : ℕ) (rest
 
   -- a place whose label is taken, and the reads behind it
   pub walk_label : (g : Follow) (s : StandingKnown) (c b i : ℕ) (ls : List ℕ) (ws : List Want) → Known p f epoch rest s → b < p.batches → i < p.places
-      → ls ≡ leaves_shown p f (suc epoch) b ++ take i (batch_leaves p (fills_at p f epoch) b)
+      → ls ≡ leaves_of_batches p f (suc epoch) b ++ take i (batch_leaves p (fills_at p f epoch) b)
       → ((next : Follow) → next ≡ taken_up (at p (with_label s b i (slice_index (batch_leaves p (fills_at p f epoch) b) i)) c (ls ++ slice_index (batch_leaves p (fills_at p f epoch) b) i ∷ [])
       (place_holes p (counts_now p (public_known p s ls)) (slice_index (batch_leaves p (fills_at p f epoch) b) i)) ws) → TakesLine g (L.Note (Label (slice_index (batch_leaves p (fills_at p f epoch) b) i))) next)
       → Stops p (InEpoch p f epoch rest) g
@@ -126,27 +126,27 @@ module _ (p : Params) (f : AllFills) (all : AreAllFills p f) (epoch : ℕ) (rest
       let took : TakesLine g (L.Note (Label leaf)) next = takes next (ap (λ (xs : List Hole). taken_up (at p s1 c ls1 xs ws)) (sym same)) in
       (walk.0, (walk.1.0, walk_note (Keeps p f epoch rest) g next (taken_up (at p walk.0 c ls1 [] ws)) (Label leaf) _ took stops walk.1.1))
 
-  pub one_more : (b i : ℕ) (ls : List ℕ) → i < p.places → ls ≡ leaves_shown p f (suc epoch) b ++ take i (batch_leaves p (fills_at p f epoch) b)
-      → ls ++ slice_index (batch_leaves p (fills_at p f epoch) b) i ∷ [] ≡ leaves_shown p f (suc epoch) b ++ take (i + 1) (batch_leaves p (fills_at p f epoch) b)
+  pub one_more : (b i : ℕ) (ls : List ℕ) → i < p.places → ls ≡ leaves_of_batches p f (suc epoch) b ++ take i (batch_leaves p (fills_at p f epoch) b)
+      → ls ++ slice_index (batch_leaves p (fills_at p f epoch) b) i ∷ [] ≡ leaves_of_batches p f (suc epoch) b ++ take (i + 1) (batch_leaves p (fills_at p f epoch) b)
   one_more b i ls low is =
       let leaves : List ℕ = batch_leaves p (fills_at p f epoch) b in
       let many : length leaves ≡ p.places = length-map-range_with_len (f.leaf (suc epoch) b) 0 p.places in
-      ap (λ (xs : List ℕ). xs ++ slice_index leaves i ∷ []) is ∙ append_assoc (leaves_shown p f (suc epoch) b) (take i leaves) (slice_index leaves i ∷ [])
-      ∙ ap (λ (xs : List ℕ). leaves_shown p f (suc epoch) b ++ xs) (sym (take_more leaves i 0 (omega (arith, low, many))))
+      ap (λ (xs : List ℕ). xs ++ slice_index leaves i ∷ []) is ∙ append_assoc (leaves_of_batches p f (suc epoch) b) (take i leaves) (slice_index leaves i ∷ [])
+      ∙ ap (λ (xs : List ℕ). leaves_of_batches p f (suc epoch) b ++ xs) (sym (take_more leaves i 0 (omega (arith, low, many))))
 
-  all_shown : (b i : ℕ) (ls : List ℕ) → p.places ≤ i → ls ≡ leaves_shown p f (suc epoch) b ++ take i (batch_leaves p (fills_at p f epoch) b) → ls ≡ leaves_shown p f (suc epoch) (suc b)
+  all_shown : (b i : ℕ) (ls : List ℕ) → p.places ≤ i → ls ≡ leaves_of_batches p f (suc epoch) b ++ take i (batch_leaves p (fills_at p f epoch) b) → ls ≡ leaves_of_batches p f (suc epoch) (suc b)
   all_shown b i ls whole is =
       let leaves : List ℕ = batch_leaves p (fills_at p f epoch) b in
       let many : length leaves ≡ p.places = length-map-range_with_len (f.leaf (suc epoch) b) 0 p.places in
-      is ∙ ap (λ (xs : List ℕ). leaves_shown p f (suc epoch) b ++ xs) (take_whole i leaves (omega (arith, whole, many)))
+      is ∙ ap (λ (xs : List ℕ). leaves_of_batches p f (suc epoch) b ++ xs) (take_whole i leaves (omega (arith, whole, many)))
 
   -- the places from one on
   pub walk_places : (n : ℕ) (s : StandingKnown) (c b i : ℕ) (ls : List ℕ) → Known p f epoch rest s → b < p.batches → i + n ≡ p.places
-      → ls ≡ leaves_shown p f (suc epoch) b ++ take i (batch_leaves p (fills_at p f epoch) b)
+      → ls ≡ leaves_of_batches p f (suc epoch) b ++ take i (batch_leaves p (fills_at p f epoch) b)
       → (t : StandingKnown) × (Known p f epoch rest t
-      × Walk (Keeps p f epoch rest) (taken_up (at p s c ls [] (map (λ j. Place b j) (range_with_len i n)))) (flat_map (place_notes b) (range_with_len i n)) (taken_up (at p t c (leaves_shown p f (suc epoch) (suc b)) [] [])))
+      × Walk (Keeps p f epoch rest) (taken_up (at p s c ls [] (map (λ j. Place b j) (range_with_len i n)))) (flat_map (place_notes b) (range_with_len i n)) (taken_up (at p t c (leaves_of_batches p f (suc epoch) (suc b)) [] [])))
   walk_places zero s c b i ls known few whole is =
-      let done : ls ≡ leaves_shown p f (suc epoch) (suc b) = all_shown b i ls (omega (arith, whole)) is in
+      let done : ls ≡ leaves_of_batches p f (suc epoch) (suc b) = all_shown b i ls (omega (arith, whole)) is in
       let end : Follow = taken_up (at p s c ls [] []) in (
         s,
         (
@@ -166,7 +166,7 @@ module _ (p : Params) (f : AllFills) (all : AreAllFills p f) (epoch : ℕ) (rest
         more.0,
         (
           more.1.0,
-          walk_join (Keeps p f epoch rest) g (taken_up (at p one.0 c (ls ++ leaf ∷ []) [] ws)) (taken_up (at p more.0 c (leaves_shown p f (suc epoch) (suc b)) [] [])) (place_notes b i)
+          walk_join (Keeps p f epoch rest) g (taken_up (at p one.0 c (ls ++ leaf ∷ []) [] ws)) (taken_up (at p more.0 c (leaves_of_batches p f (suc epoch) (suc b)) [] [])) (place_notes b i)
               (flat_map (place_notes b) (range_with_len (i + 1) n)) one.1.1 more.1.1,
         ),
       )

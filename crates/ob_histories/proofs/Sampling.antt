@@ -9,7 +9,7 @@ use Rattle.ob_store.specs.declared.watch.Note.{Note}
 use Rattle.ob_store.specs.declared.watch.Note.TheVariants.{Label, Read, Write, Sync}
 use Rattle.ob_histories.specs.Fills.{AllFills, AreAllFills}
 use Rattle.ob_histories.specs.Runs.{run_notes}
-use Rattle.ob_histories.specs.Runs.{Turn}
+use Rattle.ob_histories.specs.Runs.{HistoryTurn}
 use Rattle.ob_histories.specs.Histories.{MayFind, AreRunsBehind, IsEndLeft}
 use Rattle.ob_histories.specs.Samples as s
 
@@ -98,7 +98,7 @@ no_older : MayFind small s.sample_fills (Some s.first_run) s.found_still → ⊥
 unfolding log_cells record_cells checkpoint_cells checkpoint_len buckets home_cells
 no_older may = omega (arith, may.2.0)
 
-third_never : (t : Turn) (n : ℕ) → t.epoch ≡ 0 → IsEndLeft small t n s.third_found → ⊥
+third_never : (t : HistoryTurn) (n : ℕ) → t.epoch ≡ 0 → IsEndLeft small t n s.third_found → ⊥
 third_never t zero at has = omega (arith, at, has.0)
 third_never t (suc zero) at (inl has) = omega (arith, at, has.0)
 third_never t (suc zero) at (inr has) = omega (arith, has.2)

@@ -18,9 +18,9 @@ use Rattle.ob_schedule.specs.Sides.{other, side_number}
 use Rattle.ob_schedule.specs.Standing.{StandingKnown, standing_ended}
 use Rattle.ob_schedule.specs.Wants.{sets}
 use Rattle.ob_schedule.specs.Follow.{Follow, taken_up}
-use Rattle.ob_histories.specs.Fills.{AllFills, AreAllFills, leaves_shown}
-use Rattle.ob_histories.specs.Runs.{Found, Turn}
-use Rattle.ob_histories.specs.Histories.{IsOpeningLeft, IsGenerationLeft, IsEndLeft, HasEnded, HasNotEnded, IsGateLeft}
+use Rattle.ob_histories.specs.Fills.{AllFills, AreAllFills, leaves_of_batches}
+use Rattle.ob_histories.specs.Runs.{RunFound, HistoryTurn}
+use Rattle.ob_histories.specs.Histories.{IsOpeningLeft, IsGenerationLeft, IsEndLeft, EpochEnded, EpochStays, IsGateLeft}
 use Rattle.ob_histories.proofs.Standing.{Holds}
 use Rattle.ob_histories.proofs.Ended.{other_side, ended_holds}
 use Rattle.ob_histories.proofs.Walks.{Walk, walk_none, walk_note, Stops, up_stops}
@@ -40,7 +40,7 @@ body_of_side p twin side n is = ap (λ (r : ℕ). start_of p twin + 2 * r) (sym 
 
 -- ---- the generation
 
-module _ (p : Params) (f : AllFills) (x : Found) (s : StandingKnown) (stands : Stands p f x s) (batch : ℕ) (leaves : List ℕ) where
+module _ (p : Params) (f : AllFills) (x : RunFound) (s : StandingKnown) (stands : Stands p f x s) (batch : ℕ) (leaves : List ℕ) where
   abbrev side : Side
   side = other s.generation
 
@@ -78,7 +78,7 @@ module _ (p : Params) (f : AllFills) (x : Found) (s : StandingKnown) (stands : S
   wants_6 = Fixed (Write (gate_cell p GenerationTwin (side_number side))) (Doubts Generation) ∷ wants_5
 
   abbrev Left : ℕ → Follow → Type 0
-  Left k h = (y : Found) → IsOpeningLeft x k y → Stops p (Allows p f y) h
+  Left k h = (y : RunFound) → IsOpeningLeft x k y → Stops p (Allows p f y) h
 
   abbrev known : Gate → List Want → Follow
   known gate wants = at p (record s { generation_gate = gate }) batch leaves [] wants
@@ -87,7 +87,7 @@ module _ (p : Params) (f : AllFills) (x : Found) (s : StandingKnown) (stands : S
   end = taken_up (at p (record s { generation = side; generation_gate = Open }) batch leaves [] [])
 
   -- until its last sync the setting counts as not made
-  stays : (k : ℕ) (g : Gate) (ws : List Want) → ((y : Found) → IsGateLeft x.generation_gate (suc k) y.generation_gate → GateMay g y.generation_gate) → Left (suc k) (known g ws)
+  stays : (k : ℕ) (g : Gate) (ws : List Want) → ((y : RunFound) → IsGateLeft x.generation_gate (suc k) y.generation_gate → GateMay g y.generation_gate) → Left (suc k) (known g ws)
   stays k g ws may = λ y left. (refl, (refl, refit p f s x y s.generation g stands (record { epoch = left.0; epoch_gate = left.1; records = left.2 }) (stands.1.generation ∙ ap (λ (n : ℕ). n % 2) (sym left.3.0)) (may y left.3.1)))
 
   walk_0 : Walk Left end [] end
@@ -129,15 +129,15 @@ module _ (p : Params) (f : AllFills) (x : Found) (s : StandingKnown) (stands : S
 -- ---- the epoch
 
 -- what was found, or set, before an end
-abbrev pub found_at : Params → Turn → ℕ → ℕ → Found
+abbrev pub found_at : Params → HistoryTurn → ℕ → ℕ → RunFound
 found_at p t generation records = record { epoch = t.epoch; generation = generation; records = records; generation_gate = true; epoch_gate = t.gate }
 
 -- what is found later has the run's generation
-abbrev pub IsOf : ℕ → Found → Type 0
+abbrev pub IsOf : ℕ → RunFound → Type 0
 IsOf generation y = (y.generation ≡ generation) × (y.generation_gate ≡ true)
 
-module _ (p : Params) (f : AllFills) (all : AreAllFills p f) (t : Turn) (generation number : ℕ) (s : StandingKnown) (stands : Stands p f (found_at p t generation p.batches) s) (batch : ℕ) (leaves : List ℕ)
-    (shown : leaves ≡ leaves_shown p f (suc t.epoch) p.batches) (is_next : number % 2 ≡ suc t.epoch % 2) where
+module _ (p : Params) (f : AllFills) (all : AreAllFills p f) (t : HistoryTurn) (generation number : ℕ) (s : StandingKnown) (stands : Stands p f (found_at p t generation p.batches) s) (batch : ℕ) (leaves : List ℕ)
+    (shown : leaves ≡ leaves_of_batches p f (suc t.epoch) p.batches) (is_next : number % 2 ≡ suc t.epoch % 2) where
   abbrev next_side : Side
   next_side = other s.epoch
 
@@ -175,7 +175,7 @@ module _ (p : Params) (f : AllFills) (all : AreAllFills p f) (t : Turn) (generat
   last_6 = Fixed (Write (gate_cell p EpochTwin (side_number next_side))) (Doubts Epoch) ∷ last_5
 
   abbrev EndLeft : ℕ → Follow → Type 0
-  EndLeft k h = (y : Found) → IsOf generation y → IsEndLeft p t k y → Stops p (Allows p f y) h
+  EndLeft k h = (y : RunFound) → IsOf generation y → IsEndLeft p t k y → Stops p (Allows p f y) h
 
   abbrev known_then : Gate → List Want → Follow
   known_then g wants = at p (record s { epoch_gate = g }) batch leaves [] wants
@@ -190,7 +190,7 @@ module _ (p : Params) (f : AllFills) (all : AreAllFills p f) (t : Turn) (generat
   in_doubt = record { params = p; formatted = true; runs = true; stands = record s { epoch_gate = Closed }; newer = Some ended; chosen = true; batch = batch; leaves = leaves; holes = []; wants = last_1 }
 
   -- the epoch hasn't ended
-  not_ended : (k : ℕ) (g : Gate) (y : Found) → IsOf generation y → HasNotEnded p t k y → GateMay g y.epoch_gate → Stands p f y (record s { epoch_gate = g })
+  not_ended : (k : ℕ) (g : Gate) (y : RunFound) → IsOf generation y → EpochStays p t k y → GateMay g y.epoch_gate → Stands p f y (record s { epoch_gate = g })
   not_ended k g y of left may = (
     subst (λ (e : ℕ). Holds p f (record s { epoch_gate = g }) e) (sym left.0) (holds_rest p f s t.epoch s.generation s.generation_gate g s.logged s.maybe stands.0),
     record {
@@ -202,7 +202,7 @@ module _ (p : Params) (f : AllFills) (all : AreAllFills p f) (t : Turn) (generat
     },
   )
 
-  has_ended : (y : Found) → IsOf generation y → HasEnded t y → Stands p f y ended
+  has_ended : (y : RunFound) → IsOf generation y → EpochEnded t y → Stands p f y ended
   has_ended y of left = (
     subst (λ (e : ℕ). Holds p f ended e) (sym left.0)
         (ended_holds p f (record s { epoch_gate = Closed }) t.epoch all (holds_rest p f s t.epoch s.generation s.generation_gate Closed s.logged s.maybe stands.0) leaves shown),
@@ -215,10 +215,10 @@ module _ (p : Params) (f : AllFills) (all : AreAllFills p f) (t : Turn) (generat
     },
   )
 
-  stays_then : (k : ℕ) (g : Gate) (ws : List Want) → ((y : Found) → IsGateLeft t.gate (suc (suc k)) y.epoch_gate → GateMay g y.epoch_gate) → EndLeft (suc (suc k)) (known_then g ws)
+  stays_then : (k : ℕ) (g : Gate) (ws : List Want) → ((y : RunFound) → IsGateLeft t.gate (suc (suc k)) y.epoch_gate → GateMay g y.epoch_gate) → EndLeft (suc (suc k)) (known_then g ws)
   stays_then k g ws may = λ y of left. (refl, (refl, not_ended (suc (suc k)) g y of left (may y left.1)))
 
-  may_end : (y : Found) → IsOf generation y → HasEnded t y ⊎ HasNotEnded p t 1 y → Stands p f y (record s { epoch_gate = Closed }) ⊎ ((ended.epoch ≡ other s.epoch) × Stands p f y ended)
+  may_end : (y : RunFound) → IsOf generation y → EpochEnded t y ⊎ EpochStays p t 1 y → Stands p f y (record s { epoch_gate = Closed }) ⊎ ((ended.epoch ≡ other s.epoch) × Stands p f y ended)
   may_end y of (inl left) = inr (refl, has_ended y of left)
   may_end y of (inr left) = inl (not_ended 1 Closed y of left left.1)
 

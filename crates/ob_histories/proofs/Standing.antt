@@ -14,8 +14,8 @@ use Rattle.ob_schedule.specs.declared.want.Gate.{Gate}
 use Rattle.ob_schedule.specs.declared.want.Gate.TheVariants.{Open, Closed, Unsure}
 use Rattle.ob_schedule.specs.Sides.{other, side_number}
 use Rattle.ob_schedule.specs.Standing.{StandingKnown, public_known, with_label, with_slot, is_lifted, standing_ended, home_after, count_after, used_after}
-use Rattle.ob_histories.specs.Fills.{AllFills, AreAllFills, public_at, public_behind, version_at, leaves_shown}
-use Rattle.ob_histories.specs.Runs.{Found}
+use Rattle.ob_histories.specs.Fills.{AllFills, AreAllFills, public_at, public_after, version_filled, leaves_of_batches}
+use Rattle.ob_histories.specs.Runs.{RunFound}
 use Rattle.ob_histories.proofs.Trees.{AreLeaves, leaves_joined, lifted_never, passed_never}
 
 abbrev pub IsKnown : Option ℕ → ℕ → Type 0
@@ -26,12 +26,12 @@ IsKnown (Some y) x = y ≡ x
 pub record WasShown (p : Params) (f : AllFills) (s : StandingKnown) (epoch bucket slot : ℕ) : Type 0 where
   pub number : ℕ
   pub small : number < width p
-  pub is : slot ≡ f.slot bucket (version_at p f epoch bucket) number
+  pub is : slot ≡ f.slot bucket (version_filled p f epoch bucket) number
   pub when : (number < s.counts bucket) ⊎ (s.slots (record { bucket = bucket; number = number }) ≡ Some slot)
 
 -- at the epoch's end its bucket is lifted, or the reads that are counted then go beyond it
 abbrev pub GoesBelow : Params → AllFills → ℕ → Hole → Type 0
-GoesBelow p f epoch h = (is_lifted_by_end p (public_behind p f epoch p.batches) h.bucket ≡ true) ⊎ (h.number < counts_now p (public_behind p f epoch p.batches) h.bucket)
+GoesBelow p f epoch h = (is_lifted_by_end p (public_after p f epoch p.batches) h.bucket ≡ true) ⊎ (h.number < counts_now p (public_after p f epoch p.batches) h.bucket)
 
 -- What the epoch shows so far is the fills', and what is counted is public.
 pub record Holds (p : Params) (f : AllFills) (s : StandingKnown) (epoch : ℕ) : Type 0 where
@@ -40,7 +40,7 @@ pub record Holds (p : Params) (f : AllFills) (s : StandingKnown) (epoch : ℕ) :
   pub counts : (u : ℕ) → s.counts u ≡ (public_at p f epoch).counts u
   pub counter : s.counter ≡ (public_at p f epoch).counter
   pub labels : (batch place : ℕ) → IsKnown (s.labels batch place) (f.leaf (suc epoch) batch place)
-  pub slots : (h : Hole) → IsKnown (s.slots h) (f.slot h.bucket (version_at p f epoch h.bucket) h.number)
+  pub slots : (h : Hole) → IsKnown (s.slots h) (f.slot h.bucket (version_filled p f epoch h.bucket) h.number)
   pub used : (u x : ℕ) → s.used u x ≡ true → WasShown p f s epoch u x
   pub below : (h : Hole) (x : ℕ) → s.slots h ≡ Some x → GoesBelow p f epoch h
 
@@ -88,7 +88,7 @@ pub record IsHole (p : Params) (f : AllFills) (epoch : ℕ) (h : Hole) : Type 0 
   pub below : GoesBelow p f epoch h
 
 abbrev pub filled_slot : Params → AllFills → ℕ → Hole → ℕ
-filled_slot p f epoch h = f.slot h.bucket (version_at p f epoch h.bucket) h.number
+filled_slot p f epoch h = f.slot h.bucket (version_filled p f epoch h.bucket) h.number
 
 abbrev slots_with : StandingKnown → Hole → ℕ → Hole → Option ℕ
 slots_with s h slot = λ g. cond ((h.bucket == g.bucket) && (h.number == g.number)) (Some slot) (s.slots g)
@@ -107,7 +107,7 @@ module _ (p : Params) (f : AllFills) (s : StandingKnown) (epoch : ℕ) (h : Hole
   slot_known g = go ((h.bucket == g.bucket) && (h.number == g.number)) refl
     where
       go : (t : Bool) → ((h.bucket == g.bucket) && (h.number == g.number)) ≡ t → IsKnown (cond t (Some (filled_slot p f epoch h)) (s.slots g)) (filled_slot p f epoch g)
-      go true same = (let at = same_two h.bucket h.number g.bucket g.number same in λ j. f.slot (at.0 j) (version_at p f epoch (at.0 j)) (at.1 j))
+      go true same = (let at = same_two h.bucket h.number g.bucket g.number same in λ j. f.slot (at.0 j) (version_filled p f epoch (at.0 j)) (at.1 j))
       go false apart = holds.slots g
 
   slot_below : (g : Hole) (x : ℕ) → slots_with s h (filled_slot p f epoch h) g ≡ Some x → GoesBelow p f epoch g
@@ -117,16 +117,16 @@ module _ (p : Params) (f : AllFills) (s : StandingKnown) (epoch : ℕ) (h : Hole
       go true same is = (let at = same_two h.bucket h.number g.bucket g.number same in subst (λ (k : ℕ × ℕ). GoesBelow p f epoch (record { bucket = k.0; number = k.1 })) (λ j. (at.0 j, at.1 j)) hole.below)
       go false apart is = holds.below g x is
 
-  kept_slot : (u x number : ℕ) → x ≡ f.slot u (version_at p f epoch u) number → s.slots (record { bucket = u; number = number }) ≡ Some x
+  kept_slot : (u x number : ℕ) → x ≡ f.slot u (version_filled p f epoch u) number → s.slots (record { bucket = u; number = number }) ≡ Some x
       → slots_with s h (filled_slot p f epoch h) (record { bucket = u; number = number }) ≡ Some x
   kept_slot u x number is shown = go ((h.bucket == u) && (h.number == number)) refl
     where
       go : (t : Bool) → ((h.bucket == u) && (h.number == number)) ≡ t → cond t (Some (filled_slot p f epoch h)) (s.slots (record { bucket = u; number = number })) ≡ Some x
       go true same = (let at = same_two h.bucket h.number u number same in
-          ap {A = ℕ} {B = Option ℕ} (λ (y : ℕ). Some y) ((λ j. f.slot (at.0 j) (version_at p f epoch (at.0 j)) (at.1 j)) ∙ sym is))
+          ap {A = ℕ} {B = Option ℕ} (λ (y : ℕ). Some y) ((λ j. f.slot (at.0 j) (version_filled p f epoch (at.0 j)) (at.1 j)) ∙ sym is))
       go false apart = shown
 
-  kept_when : (u x number : ℕ) → x ≡ f.slot u (version_at p f epoch u) number → ((number < s.counts u) ⊎ (s.slots (record { bucket = u; number = number }) ≡ Some x))
+  kept_when : (u x number : ℕ) → x ≡ f.slot u (version_filled p f epoch u) number → ((number < s.counts u) ⊎ (s.slots (record { bucket = u; number = number }) ≡ Some x))
       → (number < s.counts u) ⊎ (slots_with s h (filled_slot p f epoch h) (record { bucket = u; number = number }) ≡ Some x)
   kept_when u x number is (inl counted) = inl counted
   kept_when u x number is (inr shown) = inr (kept_slot u x number is shown)
@@ -145,7 +145,7 @@ module _ (p : Params) (f : AllFills) (s : StandingKnown) (epoch : ℕ) (h : Hole
           record {
             number = h.number;
             small = hole.small;
-            is = sym at.1 ∙ (λ j. f.slot (at.0 j) (version_at p f epoch (at.0 j)) h.number);
+            is = sym at.1 ∙ (λ j. f.slot (at.0 j) (version_filled p f epoch (at.0 j)) h.number);
             when = inr (new_slot u at.0 ∙ ap {A = ℕ} {B = Option ℕ} (λ (y : ℕ). Some y) at.1);
           })
       go false apart is = (let was = holds.used u x is in record { number = was.number; small = was.small; is = was.is; when = kept_when u x was.number was.is was.when })
@@ -179,13 +179,13 @@ module _ (p : Params) (f : AllFills) (s : StandingKnown) (epoch : ℕ) (h : Hole
       refute_when number same (inr shown) = shown_for (s.slots h) number refl none same shown
 
       refute : WasShown p f s epoch h.bucket (filled_slot p f epoch h) → ⊥
-      refute was = refute_when was.number (all.apart h.bucket (version_at p f epoch h.bucket) was.number h.number was.small hole.small (sym was.is)) was.when
+      refute was = refute_when was.number (all.apart h.bucket (version_filled p f epoch h.bucket) was.number h.number was.small hole.small (sym was.is)) was.when
 
 -- ---- what lies outside of the tree is never counted
 
-pub shown_are_leaves : (p : Params) (f : AllFills) (epoch batches : ℕ) → AreAllFills p f → AreLeaves p (leaves_shown p f epoch batches)
+pub shown_are_leaves : (p : Params) (f : AllFills) (epoch batches : ℕ) → AreAllFills p f → AreLeaves p (leaves_of_batches p f epoch batches)
 shown_are_leaves p f epoch zero all = tt
-shown_are_leaves p f epoch (suc batches) all = leaves_joined p (leaves_shown p f epoch batches) (map (f.leaf epoch batches) (below p.places)) (shown_are_leaves p f epoch batches all) (these 0 p.places)
+shown_are_leaves p f epoch (suc batches) all = leaves_joined p (leaves_of_batches p f epoch batches) (map (f.leaf epoch batches) (below p.places)) (shown_are_leaves p f epoch batches all) (these 0 p.places)
   where
     these : (a n : ℕ) → AreLeaves p (map (f.leaf epoch batches) (range_with_len a n))
     these a zero = tt
@@ -194,17 +194,17 @@ shown_are_leaves p f epoch (suc batches) all = leaves_joined p (leaves_shown p f
 pub record IsOutside (p : Params) (f : AllFills) (epoch u : ℕ) : Type 0 where
   pub counts : (public_at p f epoch).counts u ≡ 0
   pub homes : (public_at p f epoch).homes u ≡ 0
-  pub stays : is_lifted_by_end p (public_behind p f epoch p.batches) u ≡ false
+  pub stays : is_lifted_by_end p (public_after p f epoch p.batches) u ≡ false
 
 outside_by : (p : Params) (f : AllFills) (epoch u : ℕ) → AreAllFills p f → buckets p ≤ u → (public_at p f epoch).counts u ≡ 0 → (public_at p f epoch).homes u ≡ 0 → IsOutside p f epoch u
 outside_by p f epoch u all out counts homes =
-    record { counts = counts; homes = homes; stays = lifted_never p (public_behind p f epoch p.batches) u out counts (shown_are_leaves p f (suc epoch) p.batches all) }
+    record { counts = counts; homes = homes; stays = lifted_never p (public_after p f epoch p.batches) u out counts (shown_are_leaves p f (suc epoch) p.batches all) }
 
 pub outside : (p : Params) (f : AllFills) (epoch u : ℕ) → AreAllFills p f → buckets p ≤ u → IsOutside p f epoch u
 outside p f zero u all out = outside_by p f zero u all out refl refl
 outside p f (suc epoch) u all out =
     let was = outside p f epoch u all out in
-    let q : Public = public_behind p f epoch p.batches in
+    let q : Public = public_after p f epoch p.batches in
     let passed : count_by (passes p u) q.leaves ≡ 0 = passed_never p u q.leaves out (shown_are_leaves p f (suc epoch) p.batches all) in
     let now : counts_now p q u ≡ 0 = λ i. was.counts i + passed i in
     outside_by p f (suc epoch) u all out (λ i. cond (was.stays i) 0 (now i)) (λ i. cond (was.stays i) (1 - q.homes u) (was.homes i))

@@ -23,9 +23,9 @@ use Rattle.ob_schedule.specs.Standing.{StandingKnown, public_known, standing_end
 use Rattle.ob_schedule.specs.Wants.{kept, places, record_wants, sets, writes_anew, end_holes, end_wants}
 use Rattle.ob_schedule.specs.declared.want.Want.TheVariants.{Record}
 use Rattle.ob_schedule.specs.Follow.{Follow, taken_up}
-use Rattle.ob_histories.specs.Fills.{AllFills, AreAllFills, public_at, public_behind, fills_at, leaves_shown}
-use Rattle.ob_histories.specs.Runs.{Found, Turn, next_turn, notes_of_batch, notes_of_end, notes_of_turn}
-use Rattle.ob_histories.specs.Histories.{AreRecordsLeft, IsBatchLeft, IsEndLeft, HasNotEnded, IsTurnLeft}
+use Rattle.ob_histories.specs.Fills.{AllFills, AreAllFills, public_at, public_after, fills_at, leaves_of_batches}
+use Rattle.ob_histories.specs.Runs.{RunFound, HistoryTurn, next_turn, notes_of_batch, notes_of_end, notes_of_turn}
+use Rattle.ob_histories.specs.Histories.{AreRecordsLeft, IsBatchLeft, IsEndLeft, EpochStays, IsTurnLeft}
 use Rattle.ob_histories.proofs.Standing.{Holds}
 use Rattle.ob_histories.proofs.Ended.{other_side, same_counts, same_lifted, ended_holds}
 use Rattle.ob_histories.proofs.Holes.{end_are}
@@ -54,7 +54,7 @@ set_long p number true = (λ is. omega arith, omega arith)
 set_long p number false = (λ is. (let never : false ≡ true = is in cc), omega arith)
 
 -- what lacks more than the setting hasn't ended
-end_still : (p : Params) (t : Turn) (y : Found) (lacking : ℕ) → (t.gate ≡ true → 6 ≤ lacking) → 4 ≤ lacking → IsEndLeft p t lacking y → (y.epoch ≡ t.epoch) × ((y.epoch_gate ≡ t.gate) × (y.records ≡ p.batches))
+end_still : (p : Params) (t : HistoryTurn) (y : RunFound) (lacking : ℕ) → (t.gate ≡ true → 6 ≤ lacking) → 4 ≤ lacking → IsEndLeft p t lacking y → (y.epoch ≡ t.epoch) × ((y.epoch_gate ≡ t.gate) × (y.records ≡ p.batches))
 end_still p t y zero six four left = absurd (omega (arith, four))
 end_still p t y (suc zero) six four left = absurd (omega (arith, four))
 end_still p t y (suc (suc n)) six four left = (left.0, (gate_still t.gate y.epoch_gate (suc (suc n)) six four left.1, left.2))
@@ -66,15 +66,15 @@ wants_some (x ∷ xs) ws p s c ls [] = refl
 wants_some [] ws p s c ls (h ∷ hs) = refl
 wants_some (x ∷ xs) ws p s c ls (h ∷ hs) = refl
 
-module _ (p : Params) (f : AllFills) (all : AreAllFills p f) (t : Turn) (generation : ℕ) where
+module _ (p : Params) (f : AllFills) (all : AreAllFills p f) (t : HistoryTurn) (generation : ℕ) where
   abbrev Rest : Type 0
   Rest = Side × (Gate × (Gate × (ℕ × Bool)))
 
   abbrev EndTurn : ℕ → Follow → Type 0
-  EndTurn k h = (y : Found) → IsOf generation y → IsEndLeft p t k y → Stops p (Allows p f y) h
+  EndTurn k h = (y : RunFound) → IsOf generation y → IsEndLeft p t k y → Stops p (Allows p f y) h
 
   abbrev public : Public
-  public = public_behind p f t.epoch p.batches
+  public = public_after p f t.epoch p.batches
 
   abbrev number : ℕ
   number = (public_at p f t.epoch).epoch + 1
@@ -123,7 +123,7 @@ module _ (p : Params) (f : AllFills) (all : AreAllFills p f) (t : Turn) (generat
   next_number : number % 2 ≡ suc t.epoch % 2
   next_number = ap (λ (n : ℕ). n % 2) (ap (λ (n : ℕ). n + 1) (epoch_at p f t.epoch) ∙ add-one t.epoch)
 
-  same_writes : (s : StandingKnown) (ls : List ℕ) → Holds p f s t.epoch → ls ≡ leaves_shown p f (suc t.epoch) p.batches → known_writes s ls ≡ writes
+  same_writes : (s : StandingKnown) (ls : List ℕ) → Holds p f s t.epoch → ls ≡ leaves_of_batches p f (suc t.epoch) p.batches → known_writes s ls ≡ writes
   same_writes s ls holds shown =
       let check : side_number (other s.epoch) ≡ number % 2 = other_side s.epoch t.epoch holds.side ∙ sym next_number in
       let log : side_number s.epoch ≡ (number + 1) % 2 = own_side s.epoch t.epoch (number + 1) holds.side (omega (arith, epoch_at p f t.epoch)) in
@@ -131,24 +131,24 @@ module _ (p : Params) (f : AllFills) (all : AreAllFills p f) (t : Turn) (generat
       (λ i. bucket_writes p (λ u. other_home (s.homes u) ((public_at p f t.epoch).homes u) (holds.homes u) i) (filter (λ u. same_lifted p f s t.epoch all holds ls shown u i) (by_falling_level (p.levels + 1)))) in
       λ i. buckets i ++ writes_of (check_cells p (check i)) ++ writes_of (log_gates p (log i)) ++ (Sync ∷ [])
 
-  same_lifts : (s : StandingKnown) (ls : List ℕ) → Holds p f s t.epoch → ls ≡ leaves_shown p f (suc t.epoch) p.batches → end_holes p s ls ≡ lifts
+  same_lifts : (s : StandingKnown) (ls : List ℕ) → Holds p f s t.epoch → ls ≡ leaves_of_batches p f (suc t.epoch) p.batches → end_holes p s ls ≡ lifts
   same_lifts s ls holds shown = λ i. final_holes p (λ u. same_counts p f s t.epoch all holds ls shown u i) (holds.counter i)
 
   -- the end's wants are taken up
-  loaded_end : (s : StandingKnown) (ls : List ℕ) → t.batch ≡ p.batches → leaves_shown p f (suc t.epoch) t.batch ≡ ls → before p f t s ≡ at p s t.batch ls (end_holes p s ls) (end_wants p s ls)
+  loaded_end : (s : StandingKnown) (ls : List ℕ) → t.batch ≡ p.batches → leaves_of_batches p f (suc t.epoch) t.batch ≡ ls → before p f t s ≡ at p s t.batch ls (end_holes p s ls) (end_wants p s ls)
   loaded_end s ls last shown =
       (λ i. cond (le-ltb t.batch p.batches (omega (arith, last)) i)
-      (at p s (t.batch + 1) (leaves_shown p f (suc t.epoch) t.batch) [] (cond (nat_lt t.batch s.logged) (places p t.batch) (cond ((t.batch == s.logged) && s.maybe) (Record t.batch ∷ []) (record_wants p (other s.epoch) t.batch ++ places p t.batch))))
-      (at p s t.batch (leaves_shown p f (suc t.epoch) t.batch) (end_holes p s (leaves_shown p f (suc t.epoch) t.batch)) (end_wants p s (leaves_shown p f (suc t.epoch) t.batch))))
+      (at p s (t.batch + 1) (leaves_of_batches p f (suc t.epoch) t.batch) [] (cond (nat_lt t.batch s.logged) (places p t.batch) (cond ((t.batch == s.logged) && s.maybe) (Record t.batch ∷ []) (record_wants p (other s.epoch) t.batch ++ places p t.batch))))
+      (at p s t.batch (leaves_of_batches p f (suc t.epoch) t.batch) (end_holes p s (leaves_of_batches p f (suc t.epoch) t.batch)) (end_wants p s (leaves_of_batches p f (suc t.epoch) t.batch))))
       ∙ ap (λ (xs : List ℕ). at p s t.batch xs (end_holes p s xs) (end_wants p s xs)) shown
 
-  abbrev ended_turn : Turn
+  abbrev ended_turn : HistoryTurn
   ended_turn = record { epoch = suc t.epoch; batch = 0; records = 0; gate = true }
 
   abbrev EndStep : StandingKnown → Type 0
   EndStep s = (s' : StandingKnown) × (AtTurn p f ended_turn generation s' × Walk EndTurn (before p f t s) (notes_of_end p f t) (before p f ended_turn s'))
 
-  ended_at : (s : StandingKnown) (ls : List ℕ) → Stands p f (found_at p t generation p.batches) s → ls ≡ leaves_shown p f (suc t.epoch) p.batches
+  ended_at : (s : StandingKnown) (ls : List ℕ) → Stands p f (found_at p t generation p.batches) s → ls ≡ leaves_of_batches p f (suc t.epoch) p.batches
       → AtTurn p f ended_turn generation (standing_ended p (record s { epoch_gate = Closed }) ls)
   ended_at s ls stands shown = record {
     holds = ended_holds p f (record s { epoch_gate = Closed }) t.epoch all (holds_rest p f s t.epoch s.generation s.generation_gate Closed s.logged s.maybe stands.0) ls shown;
@@ -162,12 +162,12 @@ module _ (p : Params) (f : AllFills) (all : AreAllFills p f) (t : Turn) (generat
 
   pub walk_end : (s : StandingKnown) → AtTurn p f t generation s → t.batch ≡ p.batches → EndStep s
   walk_end s is last =
-      let ls : List ℕ = leaves_shown p f (suc t.epoch) p.batches in
+      let ls : List ℕ = leaves_of_batches p f (suc t.epoch) p.batches in
       let r : Rest = rest_of s in
       let fits : Fits p r (found_at p t generation p.batches) = at_end s is last in
       let wants : List Want = end_wants p s ls in
       let start : before p f t s ≡ taken_up (at p s t.batch ls lifts wants) =
-      loaded_end s ls last (ap (leaves_shown p f (suc t.epoch)) last) ∙ ap (λ (hs : List Hole). at p s t.batch ls hs wants) (same_lifts s ls is.holds refl)
+      loaded_end s ls last (ap (leaves_of_batches p f (suc t.epoch)) last) ∙ ap (λ (hs : List Hole). at p s t.batch ls hs wants) (same_lifts s ls is.holds refl)
       ∙ wants_some (writes_anew p s ls (by_falling_level (p.levels + 1)) ++ writes_of (check_cells p (side_number (other s.epoch))) ++ writes_of (log_gates p (side_number s.epoch))) (sets p Epoch (other s.epoch) s.epoch_gate) p s t.batch ls lifts in
       let one = walk_holes p f all t.epoch r s t.batch ls lifts wants (is.holds, refl) (end_are p f t.epoch) in
       let s1 : StandingKnown = one.0 in
@@ -206,7 +206,7 @@ module _ (p : Params) (f : AllFills) (all : AreAllFills p f) (t : Turn) (generat
 
   -- all of the step is taken, and what a stop on the way leaves is allowed
   abbrev Stop : StandingKnown → ℕ → Type 0
-  Stop s n = (h : Follow) × (Reach (before p f t s) (take n (notes_of_turn p f t)) h × ((y : Found) → IsOf generation y → IsTurnLeft p f t n y → Stops p (Allows p f y) h))
+  Stop s n = (h : Follow) × (Reach (before p f t s) (take n (notes_of_turn p f t)) h × ((y : RunFound) → IsOf generation y → IsTurnLeft p f t n y → Stops p (Allows p f y) h))
 
   pub record Steps (s : StandingKnown) : Type 0 where
     pub then : StandingKnown
@@ -214,16 +214,16 @@ module _ (p : Params) (f : AllFills) (all : AreAllFills p f) (t : Turn) (generat
     pub whole : Reach (before p f t s) (notes_of_turn p f t) (before p f (next_turn p t) then)
     pub stops : (n : ℕ) → Stop s n
 
-  abbrev Stepped : StandingKnown → Turn → List Note → Bool → Type 0
+  abbrev Stepped : StandingKnown → HistoryTurn → List Note → Bool → Type 0
   Stepped s next notes low =
       (s' : StandingKnown) × (AtTurn p f next generation s' × (Reach (before p f t s) notes (before p f next s')
-      × ((n : ℕ) → (h : Follow) × (Reach (before p f t s) (take n notes) h × ((y : Found) → IsOf generation y → cond low (IsBatchLeft p t n y) (IsEndLeft p t (length notes - n) y) → Stops p (Allows p f y) h)))))
+      × ((n : ℕ) → (h : Follow) × (Reach (before p f t s) (take n notes) h × ((y : RunFound) → IsOf generation y → cond low (IsBatchLeft p t n y) (IsEndLeft p t (length notes - n) y) → Stops p (Allows p f y) h)))))
 
   repeats : (s : StandingKnown) → AtTurn p f t generation s → (low : t.batch < p.batches) → (more : t.batch < t.records) → Stepped s (record t { batch = suc t.batch }) (notes_of_batch p f t) true
   repeats s is low more =
       let step = walk_repeat p f all t generation low s is more in
       let yes_more : nat_lt t.batch t.records ≡ true = lt-ltb t.batch t.records more in
-      let same : notes_of_batch p f t ≡ phase_of = (λ i. cond (yes_more i) phase_of (batch_notes p (public_behind p f t.epoch t.batch) (fills_at p f t.epoch) t.batch)) in (
+      let same : notes_of_batch p f t ≡ phase_of = (λ i. cond (yes_more i) phase_of (batch_notes p (public_after p f t.epoch t.batch) (fills_at p f t.epoch) t.batch)) in (
         step.0,
         (
           step.1.0,
@@ -241,13 +241,13 @@ module _ (p : Params) (f : AllFills) (all : AreAllFills p f) (t : Turn) (generat
       )
     where
       phase_of : List Note
-      phase_of = phase_notes p (public_behind p f t.epoch t.batch) (fills_at p f t.epoch) (batch_leaves p (fills_at p f t.epoch) t.batch)
+      phase_of = phase_notes p (public_after p f t.epoch t.batch) (fills_at p f t.epoch) (batch_leaves p (fills_at p f t.epoch) t.batch)
 
   begins : (s : StandingKnown) → AtTurn p f t generation s → (low : t.batch < p.batches) → t.records ≤ t.batch → s.logged ≡ t.batch → Stepped s (record t { batch = suc t.batch }) (notes_of_batch p f t) true
   begins s is low new logged =
       let step = walk_begin p f all t generation low s is new logged in
       let no_more : nat_lt t.batch t.records ≡ false = le-ltb t.batch t.records new in
-      let phase : List Note = phase_notes p (public_behind p f t.epoch t.batch) (fills_at p f t.epoch) (batch_leaves p (fills_at p f t.epoch) t.batch) in
+      let phase : List Note = phase_notes p (public_after p f t.epoch t.batch) (fills_at p f t.epoch) (batch_leaves p (fills_at p f t.epoch) t.batch) in
       let record_part : List Note = record_notes p (((public_at p f t.epoch).epoch + 1) % 2) t.batch in
       let same : notes_of_batch p f t ≡ record_part ++ phase = (λ i. cond (no_more i) phase (record_part ++ phase)) in (
         step.0,

@@ -23,7 +23,7 @@ use Rattle.ob_audit.proofs.Ranges.{same_params, few_numbers}
 use Rattle.ob_audit.proofs.Written.{are_the_writers}
 use Rattle.ob_audit.specs.Reading.{cut_at}
 use Rattle.ob_histories.specs.Laws.{TakesLines, AreAdmitted}
-use Rattle.ob_histories.specs.Texts.{written, AreWritten, TakesAll, LinesAreAdmitted}
+use Rattle.ob_histories.specs.Texts.{with_feed, HaveTexts, TakesAll, LinesAreAdmitted}
 
 -- ---- bytes without a line feed
 
@@ -66,7 +66,7 @@ IsWritten L.Open = Unit {0}
 IsWritten (L.Note note) = IsNoteInRange note
 IsWritten L.Bad = ⊥
 
-text_written : (line : Line) → IsWritten line → text_of line ++ 10 ∷ [] ≡ written line
+text_written : (line : Line) → IsWritten line → text_of line ++ 10 ∷ [] ≡ with_feed line
 text_written (L.Start p) is = are_the_writers.starts p (text_of (L.Start p)) refl
 text_written L.Open is = refl
 text_written (L.Note note) is = are_the_writers.notes note (note_text note) refl
@@ -175,28 +175,28 @@ line_alone line other is (inr (bad, none)) = absurd (none line (text_spells line
 
 -- ---- the law
 
-written_parts : (line : Line) (lines : List Line) → AreWritten (line ∷ lines) → IsWritten line × AreWritten lines
+written_parts : (line : Line) (lines : List Line) → HaveTexts (line ∷ lines) → IsWritten line × HaveTexts lines
 written_parts (L.Start p) lines are = (tt, are)
 written_parts L.Open lines are = (tt, are)
 written_parts (L.Note note) lines are = are
 written_parts L.Bad lines are = absurd are
 
-first_text : (line : Line) (lines : List Line) → IsWritten line → lines_in (flat_map written (line ∷ lines)) ≡ text_of line ∷ lines_in (flat_map written lines)
+first_text : (line : Line) (lines : List Line) → IsWritten line → lines_in (flat_map with_feed (line ∷ lines)) ≡ text_of line ∷ lines_in (flat_map with_feed lines)
 first_text line lines is =
-    let rest : List ℕ = flat_map written lines in
+    let rest : List ℕ = flat_map with_feed lines in
     ap (λ (bytes : List ℕ). lines_in (bytes ++ rest)) (sym (text_written line is)) ∙ ap lines_in (append_assoc (text_of line) (10 ∷ []) rest) ∙ cut_free (text_of line) rest (text_free line is)
 
-admitted_takes : (known last : Option Follow) (lines : List Line) → AreWritten lines → Admitted known (lines_in (flat_map written lines)) last → TakesAll known lines last
+admitted_takes : (known last : Option Follow) (lines : List Line) → HaveTexts lines → Admitted known (lines_in (flat_map with_feed lines)) last → TakesAll known lines last
 admitted_takes known last [] are admitted = admitted
 admitted_takes known last (line ∷ lines) are admitted =
     let parts = written_parts line lines are in
     go parts.0 parts.1 (subst (λ (texts : List (List ℕ)). Admitted known texts last) (first_text line lines parts.0) admitted) (λ next. admitted_takes (Some next) last lines parts.1)
   where
-    go : IsWritten line → AreWritten lines → Admitted known (text_of line ∷ lines_in (flat_map written lines)) last → ((next : Follow) → Admitted (Some next) (lines_in (flat_map written lines)) last → TakesAll (Some next) lines last)
+    go : IsWritten line → HaveTexts lines → Admitted known (text_of line ∷ lines_in (flat_map with_feed lines)) last → ((next : Follow) → Admitted (Some next) (lines_in (flat_map with_feed lines)) last → TakesAll (Some next) lines last)
         → TakesAll known (line ∷ lines) last
     go is rest (other, of, (next, takes, more)) further = (next, subst (λ (l : Line). TakesNext known l next) (line_alone line other is of) takes, further next more)
 
-takes_admitted : (known last : Option Follow) (lines : List Line) → AreWritten lines → TakesAll known lines last → Admitted known (lines_in (flat_map written lines)) last
+takes_admitted : (known last : Option Follow) (lines : List Line) → HaveTexts lines → TakesAll known lines last → Admitted known (lines_in (flat_map with_feed lines)) last
 takes_admitted known last [] are takes = takes
 takes_admitted known last (line ∷ lines) are (next, took, more) =
     let parts = written_parts line lines are in

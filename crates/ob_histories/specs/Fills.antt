@@ -17,12 +17,12 @@ pub record AreAllFills (p : Params) (f : AllFills) : Type 0 where
   pub apart : (bucket version m n : ℕ) → m < width p → n < width p → f.slot bucket version m ≡ f.slot bucket version n → m ≡ n
 
 -- what the first batches of an epoch show
-abbrev pub leaves_shown : Params → AllFills → ℕ → ℕ → List ℕ
-leaves_shown p f epoch zero = []
-leaves_shown p f epoch (suc batches) = leaves_shown p f epoch batches ++ map (f.leaf epoch batches) (below p.places)
+abbrev pub leaves_of_batches : Params → AllFills → ℕ → ℕ → List ℕ
+leaves_of_batches p f epoch zero = []
+leaves_of_batches p f epoch (suc batches) = leaves_of_batches p f epoch batches ++ map (f.leaf epoch batches) (below p.places)
 
 abbrev pub behind : Params → AllFills → ℕ → Public → ℕ → Public
-behind p f epoch q batches = record q { leaves = leaves_shown p f epoch batches }
+behind p f epoch q batches = record q { leaves = leaves_of_batches p f epoch batches }
 
 -- what is public once so many epochs are durable
 abbrev pub public_at : Params → AllFills → ℕ → Public
@@ -30,14 +30,14 @@ public_at p f zero = public_formatted p
 public_at p f (suc epoch) = after_end p (behind p f (suc epoch) (public_at p f epoch) p.batches)
 
 -- and behind so many batches of the epoch that runs then
-abbrev pub public_behind : Params → AllFills → ℕ → ℕ → Public
-public_behind p f epoch batches = behind p f (suc epoch) (public_at p f epoch) batches
+abbrev pub public_after : Params → AllFills → ℕ → ℕ → Public
+public_after p f epoch batches = behind p f (suc epoch) (public_at p f epoch) batches
 
 -- the version that a bucket has then
-abbrev pub version_at : Params → AllFills → ℕ → ℕ → ℕ
-version_at p f zero bucket = 0
-version_at p f (suc epoch) bucket = cond (is_lifted_by_end p (public_behind p f epoch p.batches) bucket) (suc epoch) (version_at p f epoch bucket)
+abbrev pub version_filled : Params → AllFills → ℕ → ℕ → ℕ
+version_filled p f zero bucket = 0
+version_filled p f (suc epoch) bucket = cond (is_lifted_by_end p (public_after p f epoch p.batches) bucket) (suc epoch) (version_filled p f epoch bucket)
 
 -- what fills the holes of the epoch that runs then
 abbrev pub fills_at : Params → AllFills → ℕ → Fills
-fills_at p f epoch = record { label = f.leaf (suc epoch); slot = λ hole. f.slot hole.bucket (version_at p f epoch hole.bucket) hole.number }
+fills_at p f epoch = record { label = f.leaf (suc epoch); slot = λ hole. f.slot hole.bucket (version_filled p f epoch hole.bucket) hole.number }

@@ -4,7 +4,7 @@ use Rattle.ob_base.specs.declared.params.Params.{Params}
 use Rattle.ob_store.specs.declared.watch.Note.{Note}
 use Rattle.ob_store.specs.declared.watch.Note.TheVariants.{Label, Read, Write, Sync}
 use Rattle.ob_histories.specs.Fills.{AllFills, AreAllFills}
-use Rattle.ob_histories.specs.Runs.{Found, HistoryRun, run_notes}
+use Rattle.ob_histories.specs.Runs.{RunFound, HistoryRun, run_notes}
 use Rattle.ob_histories.specs.Histories.{found_formatted, MayFind, AreRunsBehind}
 
 abbrev pub numbers_of : Params → List ℕ
@@ -16,7 +16,7 @@ sample_fills = record { leaf = λ epoch batch place. 0; slot = λ bucket version
 
 -- ---- two runs without a key, each of one epoch
 
-abbrev pub found_then : Found
+abbrev pub found_then : RunFound
 found_then = record { epoch = 1; generation = 2; records = 0; generation_gate = true; epoch_gate = true }
 
 abbrev pub first_run : HistoryRun
@@ -54,7 +54,7 @@ second_notes =
 abbrev pub doubtful_run : HistoryRun
 doubtful_run = record { found = found_formatted; steps = 3; shown = 46 }
 
-abbrev pub found_still : Found
+abbrev pub found_still : RunFound
 found_still = record { epoch = 0; generation = 2; records = 2; generation_gate = true; epoch_gate = false }
 
 -- the first cell of a checkpoint is read: the newer one's, or the older one's
@@ -79,14 +79,14 @@ older_notes =
     Write 32 ∷ Write 33 ∷ Write 34 ∷ Write 35 ∷ Write 36 ∷ Write 37 ∷ Write 38 ∷ Write 10 ∷ Write 12 ∷ Sync ∷ Write 7 ∷ Sync ∷ Write 8 ∷ Sync ∷ []
 
 -- a run that stops before its sync, and what it would find
-abbrev pub third_found : Found
+abbrev pub third_found : RunFound
 third_found = record { epoch = 0; generation = 2; records = 3; generation_gate = true; epoch_gate = false }
 
 -- a run that repeats a batch, of which its first place is shown
 abbrev pub batch_run : HistoryRun
 batch_run = record { found = found_formatted; steps = 1; shown = 5 }
 
-abbrev pub found_batch : Found
+abbrev pub found_batch : RunFound
 found_batch = record { epoch = 0; generation = 2; records = 1; generation_gate = true; epoch_gate = false }
 
 abbrev pub again_run : HistoryRun

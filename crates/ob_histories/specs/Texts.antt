@@ -10,19 +10,19 @@ use Rattle.ob_audit.specs.Traces.{lines_in, TakesNext, Admitted, FitsWhole}
 use Rattle.ob_histories.specs.Laws.{AreAdmitted}
 
 -- a line's text and its line feed
-abbrev pub written : Line → List ℕ
-written (L.Start p) = start_line p
-written L.Open = open_line
-written (L.Note note) = line_of note
-written L.Bad = []
+abbrev pub with_feed : Line → List ℕ
+with_feed (L.Start p) = start_line p
+with_feed L.Open = open_line
+with_feed (L.Note note) = line_of note
+with_feed L.Bad = []
 
 -- lines that are written, with labels and cells below 2^64
-abbrev pub AreWritten : List Line → Type 0
-AreWritten [] = Unit {0}
-AreWritten (L.Start p ∷ lines) = AreWritten lines
-AreWritten (L.Open ∷ lines) = AreWritten lines
-AreWritten (L.Note note ∷ lines) = IsNoteInRange note × AreWritten lines
-AreWritten (L.Bad ∷ lines) = ⊥
+abbrev pub HaveTexts : List Line → Type 0
+HaveTexts [] = Unit {0}
+HaveTexts (L.Start p ∷ lines) = HaveTexts lines
+HaveTexts (L.Open ∷ lines) = HaveTexts lines
+HaveTexts (L.Note note ∷ lines) = IsNoteInRange note × HaveTexts lines
+HaveTexts (L.Bad ∷ lines) = ⊥
 
 -- each line may stand next, behind those before it or behind none
 abbrev pub TakesAll : Option Follow → List Line → Option Follow → Type 0
@@ -31,5 +31,5 @@ TakesAll known (line ∷ lines) last = (next : Follow) × TakesNext known line n
 
 -- An auditor admits the texts exactly where the lines are admitted; so it answers that they fit, as far as it looks at them all.
 pub record LinesAreAdmitted : Type 0 where
-  pub texts : (known last : Option Follow) (lines : List Line) → AreWritten lines → Admitted known (lines_in (flat_map written lines)) last ↔ TakesAll known lines last
-  pub fits : (lines : List Line) → AreWritten lines → AreAdmitted lines → length (flat_map written lines) ≤ 2 ^ 32 → FitsWhole (2 ^ 32) (flat_map written lines)
+  pub texts : (known last : Option Follow) (lines : List Line) → HaveTexts lines → Admitted known (lines_in (flat_map with_feed lines)) last ↔ TakesAll known lines last
+  pub fits : (lines : List Line) → HaveTexts lines → AreAdmitted lines → length (flat_map with_feed lines) ≤ 2 ^ 32 → FitsWhole (2 ^ 32) (flat_map with_feed lines)
