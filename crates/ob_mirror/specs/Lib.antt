@@ -1,0 +1,5 @@
+pub mod Mirrored
+pub mod Laws
+pub mod Asked
+pub mod Both
+pub mod Lanes

@@ -1,0 +1,33 @@
+-- Two stores that serve as one.
+use Rattle.std.specs.Prelude.{◌≡◌, ◌⊎◌, ℕ, ◌+◌, ◌-◌, ◌∷◌, ◌++◌, Bool, false}
+use Rattle.std.specs.Borrow.{GName}
+use Rattle.ob_store.specs.Disk.{Disk}
+use Rattle.ob_store.specs.Pair.{weave, evens, odds}
+
+-- the second half reads as the first
+abbrev pub Alike : Disk → Disk → Type 0
+Alike a b = (k : ℕ) → b.cells k ≡ a.cells k
+
+-- They began alike, and no write has parted them since.
+abbrev pub Together : Bool → Disk → Disk → Type 0
+Together apart first second = (apart ≡ false) × Alike first second
+
+-- halves that are together are alike, where both tell
+abbrev pub Agree : Type 0 → Disk → Disk → Type 0
+Agree together a b = together → a.tells → b.tells → Alike a b
+
+-- Cells are told where both halves tell them and are together; what a crash leaves is what it leaves of either; the moments are
+-- those of both; the calls are the first half's.
+abbrev pub mirrored : GName → GName → Type 0 → Disk → Disk → Disk
+mirrored x y together a b = record {
+  tells = together × a.tells × b.tells;
+  cells = a.cells;
+  leaves = a.leaves × b.leaves;
+  may_leave = λ c. a.may_leave c ⊎ b.may_leave c;
+  moment = weave a.moment b.moment;
+  left_since = λ t c. a.left_since (evens t) c ⊎ b.left_since (odds t) c;
+  seen = a.seen;
+  out = a.out + (b.out - a.out);
+  faults = a.faults + b.faults;
+  anchors = x ∷ y ∷ (a.anchors ++ b.anchors);
+}

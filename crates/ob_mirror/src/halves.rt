@@ -1,0 +1,248 @@
+//! Two stores that are lent, each asked what the mirror is asked.
+
+ghost use Rattle.std.specs.Prelude.{◌≡◌, ◌+◌, ◌-◌, false};
+ghost use Rattle.ob_mirror.specs.Mirrored.{Agree, Together, mirrored};
+ghost use Rattle.ob_mirror.specs.Laws.{counts_now, only_now, includes_reads};
+ghost use Rattle.ob_mirror.specs.Asked.{IsLaneMade, IsRead, IsAbsorbed, IsWritten, IsMadeSure};
+ghost use Rattle.ob_mirror.specs.Both.{AreAsked, both, sum_of, with_refusal};
+ghost use Rattle.ob_mirror.specs.Lanes.{AreLanesMade, IsReadOfEither};
+
+use crate::lane::MirrorLane;
+use ob_base::Failed;
+use ob_store::Store;
+use std::snapshot::Snapshot;
+
+/// Two stores that are lent. What they were when they were put together is remembered for the
+/// contracts alone.
+#[derive(Drop)]
+pub struct Halves<'a, A: Store, B: Store> {
+    /// The first half.
+    pub first: &'a mut A,
+    /// The second half.
+    pub second: &'a mut B,
+    /// A write went to one of them alone, or may have.
+    pub apart: bool,
+    /// How many calls were refused.
+    pub failed: u64,
+    /// The first half when they were put together.
+    pub first_then: Snapshot<A>,
+    /// The second half when they were put together.
+    pub second_then: Snapshot<B>,
+    ghost agree: { Agree (Together apart (A.disk first_then.value) (B.disk second_then.value))
+        (A.disk first.now) (B.disk second.now) },
+}
+
+// Refused where either call was.
+fn answer(one: Result<(), Failed>, two: Result<(), Failed>) -> Result<(), Failed>
+    ensures { result ≡ both one two }
+{
+    match one {
+        Ok(()) => two,
+        Err(Failed) => Err(Failed),
+    }
+}
+
+impl<'a, A: Store, B: Store> Halves<'a, A, B> {
+    /// Two stores as they are.
+    pub fn over(first: &'a mut A, second: &'a mut B) -> Halves<'a, A, B>
+        ensures name { result.first.ghost_name ≡ first.entry.ghost_name }
+        ensures first { result.first.now ≡ first.entry.now }
+        ensures second_name { result.second.ghost_name ≡ second.entry.ghost_name }
+        ensures second { result.second.now ≡ second.entry.now }
+        ensures apart { result.apart ≡ false }
+        ensures first_then { result.first_then.value ≡ first.entry.now }
+        ensures second_then { result.second_then.value ≡ second.entry.now }
+        ensures failed { result.failed ≡ 0 }
+    {
+        let first_then = Snapshot::of(&*first);
+        let second_then = Snapshot::of(&*second);
+        Halves {
+            first,
+            second,
+            apart: false,
+            failed: 0,
+            first_then,
+            second_then,
+        }
+    }
+
+    /// Gives both back.
+    pub fn into_lent(self) -> (&'a mut A, &'a mut B)
+        ensures name { result.0.ghost_name ≡ self.entry.first.ghost_name }
+        ensures first { result.0.now ≡ self.entry.first.now }
+        ensures second_name { result.1.ghost_name ≡ self.entry.second.ghost_name }
+        ensures second { result.1.now ≡ self.entry.second.now }
+    {
+        let Halves { first, second, .. } = self;
+        (first, second)
+    }
+}
+
+impl<'a, A: Store, B: Store> Store for Halves<'a, A, B> {
+    type Lane = MirrorLane<A::Lane, B::Lane>;
+
+    ghost disk = { λ m. mirrored m.first.ghost_name m.second.ghost_name (Together m.apart (A.disk m.first_then.value) (B.disk m.second_then.value)) (A.disk m.first.now) (B.disk m.second.now) };
+
+    ghost lane_faults = { λ lane. A.lane_faults lane.first + B.lane_faults lane.second };
+
+    ghost lane_seen = { λ lane. A.lane_seen lane.first };
+
+    ghost counts_now = { λ m t c le left. counts_now m.first.ghost_name m.second.ghost_name (Together m.apart (A.disk m.first_then.value) (B.disk m.second_then.value)) (A.disk m.first.now) (B.disk m.second.now) (A.counts_now m.first.now) (B.counts_now m.second.now) t c le left };
+
+    ghost only_now = { λ m c left. only_now m.first.ghost_name m.second.ghost_name (Together m.apart (A.disk m.first_then.value) (B.disk m.second_then.value)) (A.disk m.first.now) (B.disk m.second.now) (A.only_now m.first.now) (B.only_now m.second.now) c left };
+
+    ghost includes_reads = { λ m tells leaves. includes_reads m.first.ghost_name m.second.ghost_name (Together m.apart (A.disk m.first_then.value) (B.disk m.second_then.value)) (A.disk m.first.now) (B.disk m.second.now) (A.includes_reads m.first.now) tells leaves };
+
+    fn lane(&mut self) -> Result<MirrorLane<A::Lane, B::Lane>, Failed>
+        ensures asked { IsLaneMade (λ lane. A.lane_seen lane.first)
+            (λ lane. A.lane_faults lane.first + B.lane_faults lane.second)
+            (mirrored self.old.first.ghost_name self.old.second.ghost_name
+            (Together self.old.apart (A.disk self.old.first_then.value)
+            (B.disk self.old.second_then.value)) (A.disk self.old.first.now)
+            (B.disk self.old.second.now))
+            (mirrored self.new.first.ghost_name self.new.second.ghost_name
+            (Together self.new.apart (A.disk self.new.first_then.value)
+            (B.disk self.new.second_then.value)) (A.disk self.new.first.now)
+            (B.disk self.new.second.now)) result }
+        ensures halves { AreLanesMade A.lane_seen A.lane_faults B.lane_seen B.lane_faults A.disk B.disk
+            self.old.first.now self.new.first.now self.old.second.now self.new.second.now result }
+        ensures failed { self.new.failed ≡ with_refusal result self.old.failed }
+    {
+        let first = match self.first.lane() {
+            Ok(lane) => lane,
+            Err(Failed) => {
+                self.failed = self.failed.saturating_add(1);
+                return Err(Failed);
+            }
+        };
+        match self.second.lane() {
+            Ok(second) => Ok(MirrorLane {
+                first,
+                second,
+                failed: 0,
+            }),
+            Err(Failed) => {
+                self.first.absorb(first);
+                self.failed = self.failed.saturating_add(1);
+                Err(Failed)
+            }
+        }
+    }
+
+    fn read(
+        &self,
+        lane: &mut MirrorLane<A::Lane, B::Lane>,
+        cell: u64,
+        out: &mut [u8; 128],
+    ) -> Result<(), Failed>
+        ensures asked { IsRead (λ lane. A.lane_seen lane.first)
+            (λ lane. A.lane_faults lane.first + B.lane_faults lane.second)
+            (mirrored self.now.first.ghost_name self.now.second.ghost_name
+            (Together self.now.apart (A.disk self.now.first_then.value)
+            (B.disk self.now.second_then.value)) (A.disk self.now.first.now)
+            (B.disk self.now.second.now)) cell lane.old lane.new out.new result }
+        ensures halves { IsReadOfEither A.lane_seen A.lane_faults B.lane_seen B.lane_faults
+            (A.disk self.now.first.now) (B.disk self.now.second.now) cell lane.old lane.new out.new
+            result }
+        ensures failed { lane.new.failed ≡ with_refusal result lane.old.failed }
+    {
+        match self.first.read(&mut lane.first, cell, out) {
+            Ok(()) => return Ok(()),
+            Err(Failed) => {}
+        }
+        match self.second.read(&mut lane.second, cell, out) {
+            Ok(()) => Ok(()),
+            Err(Failed) => {
+                lane.failed = lane.failed.saturating_add(1);
+                Err(Failed)
+            }
+        }
+    }
+
+    fn absorb(&mut self, lane: MirrorLane<A::Lane, B::Lane>)
+        ensures asked { IsAbsorbed (λ lane. A.lane_seen lane.first)
+            (λ lane. A.lane_faults lane.first + B.lane_faults lane.second) lane
+            (mirrored self.old.first.ghost_name self.old.second.ghost_name
+            (Together self.old.apart (A.disk self.old.first_then.value)
+            (B.disk self.old.second_then.value)) (A.disk self.old.first.now)
+            (B.disk self.old.second.now))
+            (mirrored self.new.first.ghost_name self.new.second.ghost_name
+            (Together self.new.apart (A.disk self.new.first_then.value)
+            (B.disk self.new.second_then.value)) (A.disk self.new.first.now)
+            (B.disk self.new.second.now)) }
+        ensures first { IsAbsorbed A.lane_seen A.lane_faults lane.first (A.disk self.old.first.now)
+            (A.disk self.new.first.now) }
+        ensures second { IsAbsorbed B.lane_seen B.lane_faults lane.second
+            (B.disk self.old.second.now) (B.disk self.new.second.now) }
+        ensures failed { self.new.failed ≡ sum_of self.old.failed lane.failed }
+    {
+        let MirrorLane {
+            first,
+            second,
+            failed,
+        } = lane;
+        self.first.absorb(first);
+        self.second.absorb(second);
+        self.failed = self.failed.saturating_add(failed);
+    }
+
+    fn write(&mut self, cell: u64, bytes: &[u8; 128]) -> Result<(), Failed>
+        requires { (A.disk self.old.first.now).out
+            + ((B.disk self.old.second.now).out - (A.disk self.old.first.now).out) ≡ 0 }
+        ensures asked { IsWritten cell bytes.now
+            (mirrored self.old.first.ghost_name self.old.second.ghost_name
+            (Together self.old.apart (A.disk self.old.first_then.value)
+            (B.disk self.old.second_then.value)) (A.disk self.old.first.now)
+            (B.disk self.old.second.now))
+            (mirrored self.new.first.ghost_name self.new.second.ghost_name
+            (Together self.new.apart (A.disk self.new.first_then.value)
+            (B.disk self.new.second_then.value)) (A.disk self.new.first.now)
+            (B.disk self.new.second.now)) result }
+        ensures halves { AreAsked (IsWritten cell bytes.now) (A.disk self.old.first.now)
+            (A.disk self.new.first.now) (B.disk self.old.second.now) (B.disk self.new.second.now)
+            result }
+        ensures failed { self.new.failed ≡ with_refusal result self.old.failed }
+    {
+        let was = self.apart;
+        self.apart = true;
+        let one = self.first.write(cell, bytes);
+        let two = self.second.write(cell, bytes);
+        match answer(one, two) {
+            Ok(()) => {
+                self.apart = was;
+                Ok(())
+            }
+            Err(Failed) => {
+                self.failed = self.failed.saturating_add(1);
+                Err(Failed)
+            }
+        }
+    }
+
+    fn sync(&mut self) -> Result<(), Failed>
+        requires { (A.disk self.old.first.now).out
+            + ((B.disk self.old.second.now).out - (A.disk self.old.first.now).out) ≡ 0 }
+        ensures asked { IsMadeSure
+            (mirrored self.old.first.ghost_name self.old.second.ghost_name
+            (Together self.old.apart (A.disk self.old.first_then.value)
+            (B.disk self.old.second_then.value)) (A.disk self.old.first.now)
+            (B.disk self.old.second.now))
+            (mirrored self.new.first.ghost_name self.new.second.ghost_name
+            (Together self.new.apart (A.disk self.new.first_then.value)
+            (B.disk self.new.second_then.value)) (A.disk self.new.first.now)
+            (B.disk self.new.second.now)) result }
+        ensures halves { AreAsked IsMadeSure (A.disk self.old.first.now) (A.disk self.new.first.now)
+            (B.disk self.old.second.now) (B.disk self.new.second.now) result }
+        ensures failed { self.new.failed ≡ with_refusal result self.old.failed }
+    {
+        let one = self.first.sync();
+        let two = self.second.sync();
+        match answer(one, two) {
+            Ok(()) => Ok(()),
+            Err(Failed) => {
+                self.failed = self.failed.saturating_add(1);
+                Err(Failed)
+            }
+        }
+    }
+}
