@@ -35,9 +35,12 @@ copying_none cells first d none = record {
   writes = none_noted d.seen;
 }
 
+from_zero : (i : ℕ) → i ≡ 0 + i
+from_zero i = omega arith
+
 -- a row of events over rising cells, one more
 pub row_next : (f : ℕ → Event) (i : ℕ) (a b c : Option (List Event)) → Notes (map f (from_on 0 i)) a b → Notes (f i ∷ []) b c → Notes (map f (from_on 0 (i + 1))) a c
-row_next f i a b c so_far one = subst (λ (es : List Event). Notes es a c) (sym (run_next f 0 i)) (joined (map f (from_on 0 i)) (f i ∷ []) a b c so_far one)
+row_next f i a b c so_far one = subst (λ (es : List Event). Notes es a c) (sym (run_next f 0 i)) (joined (map f (from_on 0 i)) (f (0 + i) ∷ []) a b c so_far (subst (λ (n : ℕ). Notes (f n ∷ []) b c) (from_zero i) one))
 
 -- a shorter row is the front of a longer one
 pub row_first : (f : ℕ → Event) (n i : ℕ) (a b : Option (List Event)) → i ≤ n → Notes (map f (from_on 0 i)) a b → NotesFirst (map f (from_on 0 n)) a b
@@ -50,7 +53,7 @@ away n i k lt (inr high) is = omega arith
 module _ (cells i : ℕ) (first old mid new : Disk) (lt : i < cells) (so_far : Copying cells i first old mid) where
   pub passes_one : GoesOn mid new → Tears i mid new → Elapses mid new → (mid.tells → SameBut i new.cells mid.cells) → Passes (SameOff 0 cells) old new
   passes_one goes tears time rest =
-      passed_on (SameOff 0 cells) (SameBut i) old mid new (λ c d e one run. run_step 0 cells i c d e lt one run) so_far.passes goes time tears rest
+      passed_on (SameOff 0 cells) (SameBut i) old mid new (λ c d e one run. run_step 0 cells i c d e lt (subst (λ (n : ℕ). SameBut n c d) (from_zero i) one) run) so_far.passes goes time tears rest
 
   pub elsewhere_one : (mid.tells → SameBut i new.cells mid.cells) → old.tells → SameOff 0 cells new.cells old.cells
   elsewhere_one rest t k off = rest (so_far.tells t) k (away cells i k lt off) ∙ so_far.elsewhere t k off

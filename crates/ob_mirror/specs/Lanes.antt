@@ -11,7 +11,7 @@ module _ {L M : Type 0} (seen_a : L → Option (List Event)) (faults_a : L → �
   -- half's was given back.
   abbrev pub AreLanesMade : {S T : Type 0} → (S → Disk) → (T → Disk) → S → S → T → T → Result (MirrorLane L M) Failed → Type 0
   AreLanesMade one two a c b d (Ok lane) =
-      IsLaneMade seen_a faults_a (one a) (one c) (Ok lane.first) × IsLaneMade seen_b faults_b (two b) (two d) (Ok lane.second) × (lane.failed ≡ 0)
+      IsLaneMade seen_a faults_a (one a) (one c) (Ok lane.first) × IsLaneMade seen_b faults_b (two b) (two d) (Ok lane.second.lane) × (lane.second.failed ≡ 0)
   AreLanesMade {S} one two a c b d (Err e) =
       (IsLaneMade seen_a faults_a (one a) (one c) (Err e) × (d ≡ b))
       ⊎ ((m : S) × (had : L) × IsLaneMade seen_a faults_a (one a) (one m) (Ok had) × IsAbsorbed seen_a faults_a had (one m) (one c) × IsLaneMade seen_b faults_b (two b) (two d) (Err e))
@@ -20,4 +20,4 @@ module _ {L M : Type 0} (seen_a : L → Option (List Event)) (faults_a : L → �
   abbrev pub IsReadOfEither : Disk → Disk → ℕ → MirrorLane L M → MirrorLane L M → List ℕ → Result (Unit {0}) Failed → Type 0
   IsReadOfEither a b cell old new out result =
       (IsRead seen_a faults_a a cell old.first new.first out (Ok tt) × (new.second ≡ old.second) × (result ≡ Ok tt))
-      ⊎ ((spoilt : List ℕ) × (e : Failed) × IsRead seen_a faults_a a cell old.first new.first spoilt (Err e) × IsRead seen_b faults_b b cell old.second new.second out result)
+      ⊎ ((spoilt : List ℕ) × (e : Failed) × IsRead seen_a faults_a a cell old.first new.first spoilt (Err e) × IsRead seen_b faults_b b cell old.second.lane new.second.lane out result)

@@ -7,7 +7,7 @@ ghost use Rattle.ob_mirror.specs.Asked.{IsLaneMade, IsRead, IsAbsorbed, IsWritte
 ghost use Rattle.ob_mirror.specs.Both.{AreAsked, both, sum_of, with_refusal};
 ghost use Rattle.ob_mirror.specs.Lanes.{AreLanesMade, IsReadOfEither};
 
-use crate::lane::MirrorLane;
+use crate::lane::{MirrorLane, SecondLane};
 use ob_base::Failed;
 use ob_store::Store;
 use std::snapshot::Snapshot;
@@ -83,7 +83,7 @@ impl<'a, A: Store, B: Store> Store for Halves<'a, A, B> {
 
     ghost disk = { λ m. mirrored m.first.ghost_name m.second.ghost_name (Together m.apart (A.disk m.first_then.value) (B.disk m.second_then.value)) (A.disk m.first.now) (B.disk m.second.now) };
 
-    ghost lane_faults = { λ lane. A.lane_faults lane.first + B.lane_faults lane.second };
+    ghost lane_faults = { λ lane. A.lane_faults lane.first + B.lane_faults lane.second.lane };
 
     ghost lane_seen = { λ lane. A.lane_seen lane.first };
 
@@ -95,7 +95,7 @@ impl<'a, A: Store, B: Store> Store for Halves<'a, A, B> {
 
     fn lane(&mut self) -> Result<MirrorLane<A::Lane, B::Lane>, Failed>
         ensures asked { IsLaneMade (λ lane. A.lane_seen lane.first)
-            (λ lane. A.lane_faults lane.first + B.lane_faults lane.second)
+            (λ lane. A.lane_faults lane.first + B.lane_faults lane.second.lane)
             (mirrored self.old.first.ghost_name self.old.second.ghost_name
             (Together self.old.apart (A.disk self.old.first_then.value)
             (B.disk self.old.second_then.value)) (A.disk self.old.first.now)
@@ -118,8 +118,10 @@ impl<'a, A: Store, B: Store> Store for Halves<'a, A, B> {
         match self.second.lane() {
             Ok(second) => Ok(MirrorLane {
                 first,
-                second,
-                failed: 0,
+                second: SecondLane {
+                    lane: second,
+                    failed: 0,
+                },
             }),
             Err(Failed) => {
                 self.first.absorb(first);
@@ -136,7 +138,7 @@ impl<'a, A: Store, B: Store> Store for Halves<'a, A, B> {
         out: &mut [u8; 128],
     ) -> Result<(), Failed>
         ensures asked { IsRead (λ lane. A.lane_seen lane.first)
-            (λ lane. A.lane_faults lane.first + B.lane_faults lane.second)
+            (λ lane. A.lane_faults lane.first + B.lane_faults lane.second.lane)
             (mirrored self.now.first.ghost_name self.now.second.ghost_name
             (Together self.now.apart (A.disk self.now.first_then.value)
             (B.disk self.now.second_then.value)) (A.disk self.now.first.now)
@@ -144,16 +146,16 @@ impl<'a, A: Store, B: Store> Store for Halves<'a, A, B> {
         ensures halves { IsReadOfEither A.lane_seen A.lane_faults B.lane_seen B.lane_faults
             (A.disk self.now.first.now) (B.disk self.now.second.now) cell lane.old lane.new out.new
             result }
-        ensures failed { lane.new.failed ≡ with_refusal result lane.old.failed }
+        ensures failed { lane.new.second.failed ≡ with_refusal result lane.old.second.failed }
     {
         match self.first.read(&mut lane.first, cell, out) {
             Ok(()) => return Ok(()),
             Err(Failed) => {}
         }
-        match self.second.read(&mut lane.second, cell, out) {
+        match self.second.read(&mut lane.second.lane, cell, out) {
             Ok(()) => Ok(()),
             Err(Failed) => {
-                lane.failed = lane.failed.saturating_add(1);
+                lane.second.failed = lane.second.failed.saturating_add(1);
                 Err(Failed)
             }
         }
@@ -161,7 +163,7 @@ impl<'a, A: Store, B: Store> Store for Halves<'a, A, B> {
 
     fn absorb(&mut self, lane: MirrorLane<A::Lane, B::Lane>)
         ensures asked { IsAbsorbed (λ lane. A.lane_seen lane.first)
-            (λ lane. A.lane_faults lane.first + B.lane_faults lane.second) lane
+            (λ lane. A.lane_faults lane.first + B.lane_faults lane.second.lane) lane
             (mirrored self.old.first.ghost_name self.old.second.ghost_name
             (Together self.old.apart (A.disk self.old.first_then.value)
             (B.disk self.old.second_then.value)) (A.disk self.old.first.now)
@@ -172,15 +174,15 @@ impl<'a, A: Store, B: Store> Store for Halves<'a, A, B> {
             (B.disk self.new.second.now)) }
         ensures first { IsAbsorbed A.lane_seen A.lane_faults lane.first (A.disk self.old.first.now)
             (A.disk self.new.first.now) }
-        ensures second { IsAbsorbed B.lane_seen B.lane_faults lane.second
+        ensures second { IsAbsorbed B.lane_seen B.lane_faults lane.second.lane
             (B.disk self.old.second.now) (B.disk self.new.second.now) }
-        ensures failed { self.new.failed ≡ sum_of self.old.failed lane.failed }
+        ensures failed { self.new.failed ≡ sum_of self.old.failed lane.second.failed }
     {
-        let MirrorLane {
-            first,
-            second,
+        let MirrorLane { first, second } = lane;
+        let SecondLane {
+            lane: second,
             failed,
-        } = lane;
+        } = second;
         self.first.absorb(first);
         self.second.absorb(second);
         self.failed = self.failed.saturating_add(failed);

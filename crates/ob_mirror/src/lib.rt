@@ -2,7 +2,15 @@
 #![tactic(auto)]
 
 mod halves;
+mod joining;
 mod lane;
+mod mirror;
+mod places;
+mod standing;
 
 pub use halves::Halves;
-pub use lane::MirrorLane;
+pub use joining::join;
+pub use lane::{MirrorLane, SecondLane};
+pub use mirror::Mirror;
+pub use places::Places;
+pub use standing::halves_stand;

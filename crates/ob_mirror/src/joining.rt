@@ -57,11 +57,7 @@ fn copy_cells<A: Store, B: Store>(
 /// # Errors
 /// One of them failed, and its count of faults rose. The first is as it was. What the second has
 /// in these cells is not told.
-pub fn join<A: Store, B: Store>(
-    first: &mut A,
-    second: &mut B,
-    cells: u64,
-) -> Result<(), Failed>
+pub fn join<A: Store, B: Store>(first: &mut A, second: &mut B, cells: u64) -> Result<(), Failed>
     requires free { (B.disk second.old).out ≡ 0 }
     ensures first { IsOnlyRead (A.disk first.old) (A.disk first.new) }
     ensures first_seen { NotesAsFar (cell_reads cells) (A.disk first.old).seen

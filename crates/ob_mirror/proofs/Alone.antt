@@ -1,0 +1,123 @@
+-- Each half of a mirror alone.
+use Rattle.std.proofs.Common.{◌≡◌, ◌<◌, ◌⊎◌, inl, inr, ⊎_elim, ℕ, ◌+◌, ◌*◌, ◌/◌, ◌%◌, List, [], ◌∷◌, ◌++◌, Option, Some, None, Result, Ok, Err, Bool, refl, sym, ◌∙◌, ap, subst, arith}
+use mathlib.Core.Path.{fun_ext}
+use Rattle.std.specs.Borrow.{GName}
+use Rattle.ob_base.specs.declared.fault.Failed.{Failed}
+use Rattle.ob_store.specs.declared.event.Event.{Event}
+use Rattle.ob_store.specs.declared.event.Event.TheVariants.{Read, Write, Sync}
+use Rattle.ob_store.specs.Disk.{Clock, Disk, Image}
+use Rattle.ob_store.specs.Images.{LeavesOnly}
+use Rattle.ob_store.specs.Calls.{Notes, NotesLane, IsFreshLane}
+use Rattle.ob_store.specs.Pair.{weave, evens, odds}
+use Rattle.ob_store.proofs.Events.{joined, none_noted}
+use Rattle.ob_store.proofs.Lanes.{lane_noted}
+use Rattle.ob_mirror.specs.Mirrored.{Agree, Together, mirrored}
+use Rattle.ob_mirror.specs.Asked.{IsAbsorbed, IsMadeSure, IsWritten}
+use Rattle.ob_mirror.specs.Both.{AreAsked}
+use Rattle.ob_mirror.specs.Joins.{IsCopy}
+use Rattle.ob_mirror.specs.Lanes.{AreLanesMade}
+use Rattle.ob_mirror.specs.Standing.{EachStands, Follows, OnlyReads, changes}
+
+woven_even : (a b : Clock) (part : ℕ) → part % 2 ≡ 0 → weave a b part ≡ a (part / 2)
+woven_even a b part is = rw is refl
+
+woven_odd : (a b : Clock) (part : ℕ) → part % 2 ≡ 1 → weave a b part ≡ b (part / 2)
+woven_odd a b part is = rw is refl
+
+at_even : (a b : Clock) (part : ℕ) → weave a b (2 * part) ≡ a part
+at_even a b part =
+    let zero_rest : (2 * part) % 2 ≡ 0 = omega arith in
+    let half : (2 * part) / 2 ≡ part = omega arith in
+    woven_even a b (2 * part) zero_rest ∙ ap a half
+
+at_odd : (a b : Clock) (part : ℕ) → weave a b (2 * part + 1) ≡ b part
+at_odd a b part =
+    let one_rest : (2 * part + 1) % 2 ≡ 1 = omega arith in
+    let half : (2 * part + 1) / 2 ≡ part = omega arith in
+    woven_odd a b (2 * part + 1) one_rest ∙ ap b half
+
+evens_woven : (a b : Clock) → evens (weave a b) ≡ a
+evens_woven a b = fun_ext (λ part. at_even a b part)
+
+odds_woven : (a b : Clock) → odds (weave a b) ≡ b
+odds_woven a b = fun_ext (λ part. at_odd a b part)
+
+module _ (x y : GName) (was is : Type 0) (a c b d : Disk) where
+  pub each_stands : Agree is c d → EachStands a c b d (mirrored x y was a b) (mirrored x y is c d)
+  each_stands agree = record {
+    first = λ image left. inl left;
+    second = λ image left. inr left;
+    first_since = λ image left. inl (subst (λ (t : Clock). c.left_since t image) (sym (evens_woven a.moment b.moment)) left);
+    second_since = λ image left. inr (subst (λ (t : Clock). d.left_since t image) (sym (odds_woven a.moment b.moment)) left);
+    no_other = λ image left. ⊎_elim
+        (λ l. inl (subst (λ (t : Clock). c.left_since t image) (evens_woven a.moment b.moment) l))
+        (λ r. inr (subst (λ (t : Clock). d.left_since t image) (odds_woven a.moment b.moment) r))
+        left;
+    reads = λ tells cell. (refl, agree tells.0 tells.1 tells.2 cell);
+  }
+
+  -- what is proved of the mirror's images is true of those of either half
+  pub half_leaves : (P : Image → Type 0) → LeavesOnly (mirrored x y was a b) (mirrored x y is c d) P → ((image : Image) → c.left_since a.moment image → P image) × ((image : Image) → d.left_since b.moment image → P image)
+  half_leaves P leaves = (
+    (λ image left. leaves.each image (inl (subst (λ (t : Clock). c.left_since t image) (sym (evens_woven a.moment b.moment)) left))),
+    (λ image left. leaves.each image (inr (subst (λ (t : Clock). d.left_since t image) (sym (odds_woven a.moment b.moment)) left))),
+  )
+
+-- behind a join, what is true of the first half's cells, and is told by those that were copied, is true of each image of the second
+pub copy_leaves : (cells : ℕ) (P : Image → Type 0) (first second : Disk) → ((c d : Image) → ((k : ℕ) → k < cells → c k ≡ d k) → P d → P c) → IsCopy cells first second → first.tells → second.tells → P first.cells → (image : Image) → second.may_leave image → P image
+copy_leaves cells P first second by copy one two has image left = by image first.cells (λ k lt. copy.images one two image left k lt) has
+
+-- ---- events
+
+changes_join : (xs ys : List Event) → changes (xs ++ ys) ≡ changes xs ++ changes ys
+changes_join [] ys = refl
+changes_join (Read cell ∷ xs) ys = changes_join xs ys
+changes_join (Write cell ∷ xs) ys = ap (λ (es : List Event). Write cell ∷ es) (changes_join xs ys)
+changes_join (Sync ∷ xs) ys = ap (λ (es : List Event). Sync ∷ es) (changes_join xs ys)
+
+pub follows_none : (a b : Disk) → Follows a a b b
+follows_none a b = record { made = []; own = []; first = none_noted a.seen; second = none_noted b.seen; same = refl }
+
+pub follows_then : (a c e b d f : Disk) → Follows a c b d → Follows c e d f → Follows a e b f
+follows_then a c e b d f p q = record {
+  made = p.made ++ q.made;
+  own = p.own ++ q.own;
+  first = joined p.made q.made a.seen c.seen e.seen p.first q.first;
+  second = joined p.own q.own b.seen d.seen f.seen p.second q.second;
+  same = changes_join p.own q.own ∙ ap (λ (es : List Event). es ++ changes q.own) p.same ∙ ap (λ (es : List Event). changes p.made ++ es) q.same ∙ sym (changes_join p.made q.made);
+}
+
+lane_row : (lane old new : Option (List Event)) → OnlyReads lane → NotesLane lane old new → (made : List Event) × Notes made old new × (changes made ≡ [])
+lane_row (Some events) old new only back = (events, back, only)
+lane_row None old None only back = ([], tt, refl)
+lane_row None old (Some x) only back = absurd (let wrong : Some x ≡ None = back in cc)
+
+module _ {L M : Type 0} (seen_a : L → Option (List Event)) (faults_a : L → ℕ) (seen_b : M → Option (List Event)) (faults_b : M → ℕ) where
+  pub follows_absorb : (first : L) (second : M) (a c b d : Disk) → OnlyReads (seen_a first) → OnlyReads (seen_b second) → IsAbsorbed seen_a faults_a first a c → IsAbsorbed seen_b faults_b second b d → Follows a c b d
+  follows_absorb first second a c b d one two back again =
+      let f = lane_row (seen_a first) a.seen c.seen one back.seen in
+      let s = lane_row (seen_b second) b.seen d.seen two again.seen in
+      record { made = f.0; own = s.0; first = f.1; second = s.1; same = s.2 ∙ sym f.2 }
+
+  pub follows_lane : {S T : Type 0} (one : S → Disk) (two : T → Disk) (a c : S) (b d : T) (result : _) → AreLanesMade seen_a faults_a seen_b faults_b one two a c b d result → Follows (one a) (one c) (two b) (two d)
+  follows_lane one two a c b d (Ok lane) made = record { made = []; own = []; first = made.0.seen; second = made.1.seen; same = refl }
+  follows_lane one two a c b d (Err e) (inl refused) = record {
+    made = [];
+    own = [];
+    first = refused.0.seen;
+    second = subst (λ (t : _). Notes [] (two b).seen (two t).seen) (sym refused.1) (none_noted (two b).seen);
+    same = refl;
+  }
+  follows_lane one two a c b d (Err e) (inr had) = record {
+    made = [];
+    own = [];
+    first = lane_noted [] (one a).seen (one had.0).seen (seen_a had.1) (seen_a had.1) (one c).seen had.2.fresh_seen had.2.seen (none_noted (seen_a had.1)) had.3.seen;
+    second = had.4.seen;
+    same = refl;
+  }
+
+pub follows_write : (cell : ℕ) (bytes : List ℕ) (result : Result (Unit {0}) Failed) (a c b d : Disk) → AreAsked (IsWritten cell bytes) a c b d result → Follows a c b d
+follows_write cell bytes result a c b d asked = record { made = Write cell ∷ []; own = Write cell ∷ []; first = asked.first.seen; second = asked.second.seen; same = refl }
+
+pub follows_sync : (result : Result (Unit {0}) Failed) (a c b d : Disk) → AreAsked IsMadeSure a c b d result → Follows a c b d
+follows_sync result a c b d asked = record { made = Sync ∷ []; own = Sync ∷ []; first = asked.first.seen; second = asked.second.seen; same = refl }

@@ -1,0 +1,188 @@
+//! The mirror.
+
+ghost use Rattle.std.specs.Prelude.{◌≡◌, ◌+◌, ◌-◌, ◌≤◌, ◌<◌, ℕ, length, false};
+ghost use denote.Param.Send.{IsSync};
+ghost use Rattle.ob_lanes.specs.Hands.{IsPlaceRead, hand_at};
+ghost use Rattle.ob_mirror.specs.Mirrored.{Together, mirrored};
+ghost use Rattle.ob_mirror.specs.Laws.{counts_now, only_now, includes_reads};
+ghost use Rattle.ob_mirror.specs.Asked.{IsLaneMade, IsRead, IsAbsorbed, IsWritten, IsMadeSure};
+ghost use Rattle.ob_mirror.specs.Both.{AreAsked, sum_of, with_refusal};
+ghost use Rattle.ob_mirror.specs.Lanes.{AreLanesMade, IsReadOfEither};
+
+use crate::halves::Halves;
+use crate::lane::MirrorLane;
+use crate::places::{Places, read_both};
+use ob_base::Failed;
+use ob_lanes::{Hand, Lanes};
+use ob_store::Store;
+use std::thread::Threads;
+
+/// Two stores that are lent and serve as one.
+#[derive(Drop)]
+pub struct Mirror<'a, A: Store, B: Store> {
+    halves: Halves<'a, A, B>,
+    places: Places<A::Lane, B::Lane>,
+}
+
+impl<'a, A: Store, B: Store> Mirror<'a, A, B> {
+    /// Two stores as they are. It tells its cells where they read alike.
+    pub fn over(
+        first: &'a mut A,
+        second: &'a mut B,
+        places: Places<A::Lane, B::Lane>,
+    ) -> Mirror<'a, A, B>
+        ensures name { result.halves.first.ghost_name ≡ first.entry.ghost_name }
+        ensures first { result.halves.first.now ≡ first.entry.now }
+        ensures second_name { result.halves.second.ghost_name ≡ second.entry.ghost_name }
+        ensures second { result.halves.second.now ≡ second.entry.now }
+        ensures apart { result.halves.apart ≡ false }
+        ensures first_then { result.halves.first_then.value ≡ first.entry.now }
+        ensures second_then { result.halves.second_then.value ≡ second.entry.now }
+        ensures failed { result.halves.failed ≡ 0 }
+    {
+        Mirror {
+            halves: Halves::over(first, second),
+            places,
+        }
+    }
+
+    /// Gives both back.
+    pub fn into_lent(self) -> (&'a mut A, &'a mut B)
+        ensures name { result.0.ghost_name ≡ self.entry.halves.first.ghost_name }
+        ensures first { result.0.now ≡ self.entry.halves.first.now }
+        ensures second_name { result.1.ghost_name ≡ self.entry.halves.second.ghost_name }
+        ensures second { result.1.now ≡ self.entry.halves.second.now }
+    {
+        let Mirror { halves, .. } = self;
+        halves.into_lent()
+    }
+}
+
+impl<'a, A: Store, B: Store> Store for Mirror<'a, A, B> {
+    type Lane = MirrorLane<A::Lane, B::Lane>;
+
+    ghost disk = { λ m. mirrored m.halves.first.ghost_name m.halves.second.ghost_name (Together m.halves.apart (A.disk m.halves.first_then.value) (B.disk m.halves.second_then.value)) (A.disk m.halves.first.now) (B.disk m.halves.second.now) };
+
+    ghost lane_faults = { λ lane. A.lane_faults lane.first + B.lane_faults lane.second.lane };
+
+    ghost lane_seen = { λ lane. A.lane_seen lane.first };
+
+    ghost counts_now = { λ m t c le left. counts_now m.halves.first.ghost_name m.halves.second.ghost_name (Together m.halves.apart (A.disk m.halves.first_then.value) (B.disk m.halves.second_then.value)) (A.disk m.halves.first.now) (B.disk m.halves.second.now) (A.counts_now m.halves.first.now) (B.counts_now m.halves.second.now) t c le left };
+
+    ghost only_now = { λ m c left. only_now m.halves.first.ghost_name m.halves.second.ghost_name (Together m.halves.apart (A.disk m.halves.first_then.value) (B.disk m.halves.second_then.value)) (A.disk m.halves.first.now) (B.disk m.halves.second.now) (A.only_now m.halves.first.now) (B.only_now m.halves.second.now) c left };
+
+    ghost includes_reads = { λ m tells leaves. includes_reads m.halves.first.ghost_name m.halves.second.ghost_name (Together m.halves.apart (A.disk m.halves.first_then.value) (B.disk m.halves.second_then.value)) (A.disk m.halves.first.now) (B.disk m.halves.second.now) (A.includes_reads m.halves.first.now) tells leaves };
+
+    fn lane(&mut self) -> Result<MirrorLane<A::Lane, B::Lane>, Failed>
+        ensures asked { IsLaneMade (λ lane. A.lane_seen lane.first)
+            (λ lane. A.lane_faults lane.first + B.lane_faults lane.second.lane)
+            (mirrored self.old.halves.first.ghost_name self.old.halves.second.ghost_name
+            (Together self.old.halves.apart (A.disk self.old.halves.first_then.value)
+            (B.disk self.old.halves.second_then.value)) (A.disk self.old.halves.first.now)
+            (B.disk self.old.halves.second.now))
+            (mirrored self.new.halves.first.ghost_name self.new.halves.second.ghost_name
+            (Together self.new.halves.apart (A.disk self.new.halves.first_then.value)
+            (B.disk self.new.halves.second_then.value)) (A.disk self.new.halves.first.now)
+            (B.disk self.new.halves.second.now)) result }
+        ensures halves { AreLanesMade A.lane_seen A.lane_faults B.lane_seen B.lane_faults A.disk B.disk
+            self.old.halves.first.now self.new.halves.first.now self.old.halves.second.now self.new.halves.second.now result }
+        ensures failed { self.new.halves.failed ≡ with_refusal result self.old.halves.failed }
+    {
+        self.halves.lane()
+    }
+
+    fn read(
+        &self,
+        lane: &mut MirrorLane<A::Lane, B::Lane>,
+        cell: u64,
+        out: &mut [u8; 128],
+    ) -> Result<(), Failed>
+        ensures asked { IsRead (λ lane. A.lane_seen lane.first)
+            (λ lane. A.lane_faults lane.first + B.lane_faults lane.second.lane)
+            (mirrored self.now.halves.first.ghost_name self.now.halves.second.ghost_name
+            (Together self.now.halves.apart (A.disk self.now.halves.first_then.value)
+            (B.disk self.now.halves.second_then.value)) (A.disk self.now.halves.first.now)
+            (B.disk self.now.halves.second.now)) cell lane.old lane.new out.new result }
+        ensures halves { IsReadOfEither A.lane_seen A.lane_faults B.lane_seen B.lane_faults
+            (A.disk self.now.halves.first.now) (B.disk self.now.halves.second.now) cell lane.old lane.new out.new
+            result }
+        ensures failed { lane.new.second.failed ≡ with_refusal result lane.old.second.failed }
+    {
+        self.halves.read(lane, cell, out)
+    }
+
+    fn absorb(&mut self, lane: MirrorLane<A::Lane, B::Lane>)
+        ensures asked { IsAbsorbed (λ lane. A.lane_seen lane.first)
+            (λ lane. A.lane_faults lane.first + B.lane_faults lane.second.lane) lane
+            (mirrored self.old.halves.first.ghost_name self.old.halves.second.ghost_name
+            (Together self.old.halves.apart (A.disk self.old.halves.first_then.value)
+            (B.disk self.old.halves.second_then.value)) (A.disk self.old.halves.first.now)
+            (B.disk self.old.halves.second.now))
+            (mirrored self.new.halves.first.ghost_name self.new.halves.second.ghost_name
+            (Together self.new.halves.apart (A.disk self.new.halves.first_then.value)
+            (B.disk self.new.halves.second_then.value)) (A.disk self.new.halves.first.now)
+            (B.disk self.new.halves.second.now)) }
+        ensures first { IsAbsorbed A.lane_seen A.lane_faults lane.first (A.disk self.old.halves.first.now)
+            (A.disk self.new.halves.first.now) }
+        ensures second { IsAbsorbed B.lane_seen B.lane_faults lane.second.lane
+            (B.disk self.old.halves.second.now) (B.disk self.new.halves.second.now) }
+        ensures failed { self.new.halves.failed ≡ sum_of self.old.halves.failed lane.second.failed }
+    {
+        self.halves.absorb(lane);
+    }
+
+    fn write(&mut self, cell: u64, bytes: &[u8; 128]) -> Result<(), Failed>
+        requires { (A.disk self.old.halves.first.now).out
+            + ((B.disk self.old.halves.second.now).out - (A.disk self.old.halves.first.now).out) ≡ 0 }
+        ensures asked { IsWritten cell bytes.now
+            (mirrored self.old.halves.first.ghost_name self.old.halves.second.ghost_name
+            (Together self.old.halves.apart (A.disk self.old.halves.first_then.value)
+            (B.disk self.old.halves.second_then.value)) (A.disk self.old.halves.first.now)
+            (B.disk self.old.halves.second.now))
+            (mirrored self.new.halves.first.ghost_name self.new.halves.second.ghost_name
+            (Together self.new.halves.apart (A.disk self.new.halves.first_then.value)
+            (B.disk self.new.halves.second_then.value)) (A.disk self.new.halves.first.now)
+            (B.disk self.new.halves.second.now)) result }
+        ensures halves { AreAsked (IsWritten cell bytes.now) (A.disk self.old.halves.first.now)
+            (A.disk self.new.halves.first.now) (B.disk self.old.halves.second.now) (B.disk self.new.halves.second.now)
+            result }
+        ensures failed { self.new.halves.failed ≡ with_refusal result self.old.halves.failed }
+    {
+        self.halves.write(cell, bytes)
+    }
+
+    fn sync(&mut self) -> Result<(), Failed>
+        requires { (A.disk self.old.halves.first.now).out
+            + ((B.disk self.old.halves.second.now).out - (A.disk self.old.halves.first.now).out) ≡ 0 }
+        ensures asked { IsMadeSure
+            (mirrored self.old.halves.first.ghost_name self.old.halves.second.ghost_name
+            (Together self.old.halves.apart (A.disk self.old.halves.first_then.value)
+            (B.disk self.old.halves.second_then.value)) (A.disk self.old.halves.first.now)
+            (B.disk self.old.halves.second.now))
+            (mirrored self.new.halves.first.ghost_name self.new.halves.second.ghost_name
+            (Together self.new.halves.apart (A.disk self.new.halves.first_then.value)
+            (B.disk self.new.halves.second_then.value)) (A.disk self.new.halves.first.now)
+            (B.disk self.new.halves.second.now)) result }
+        ensures halves { AreAsked IsMadeSure (A.disk self.old.halves.first.now) (A.disk self.new.halves.first.now)
+            (B.disk self.old.halves.second.now) (B.disk self.new.halves.second.now) result }
+        ensures failed { self.new.halves.failed ≡ with_refusal result self.old.halves.failed }
+    {
+        self.halves.sync()
+    }
+}
+
+impl<'a, A: Lanes, B: Store> Lanes for Mirror<'a, A, B> {
+    fn read_parts<R: Threads + Sync>(
+        &self,
+        rt: &R,
+        hands: &mut [Option<Hand<MirrorLane<A::Lane, B::Lane>>>],
+    ) {
+        read_both(
+            rt,
+            &self.places,
+            &*self.halves.first,
+            &*self.halves.second,
+            hands,
+        );
+    }
+}

@@ -1,0 +1,11 @@
+//! Tests of a mirror of two stores in memory.
+#![tactic(auto)]
+
+#[cfg(test)]
+mod batches;
+#[cfg(test)]
+mod calls;
+#[cfg(test)]
+mod spy;
+#[cfg(test)]
+mod steps;
