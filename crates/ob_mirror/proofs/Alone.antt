@@ -42,8 +42,8 @@ evens_woven a b = fun_ext (λ part. at_even a b part)
 odds_woven : (a b : Clock) → odds (weave a b) ≡ b
 odds_woven a b = fun_ext (λ part. at_odd a b part)
 
-module _ (x y : GName) (was is : Type 0) (a c b d : Disk) where
-  pub each_stands : Agree is c d → EachStands a c b d (mirrored x y was a b) (mirrored x y is c d)
+module _ (x y v w : GName) (was is : Type 0) (a c b d : Disk) where
+  pub each_stands : Agree is c d → EachStands a c b d (mirrored x y was a b) (mirrored v w is c d)
   each_stands agree = record {
     first = λ image left. inl left;
     second = λ image left. inr left;
@@ -57,7 +57,7 @@ module _ (x y : GName) (was is : Type 0) (a c b d : Disk) where
   }
 
   -- what is proved of the mirror's images is true of those of either half
-  pub half_leaves : (P : Image → Type 0) → LeavesOnly (mirrored x y was a b) (mirrored x y is c d) P → ((image : Image) → c.left_since a.moment image → P image) × ((image : Image) → d.left_since b.moment image → P image)
+  pub half_leaves : (P : Image → Type 0) → LeavesOnly (mirrored x y was a b) (mirrored v w is c d) P → ((image : Image) → c.left_since a.moment image → P image) × ((image : Image) → d.left_since b.moment image → P image)
   half_leaves P leaves = (
     (λ image left. leaves.each image (inl (subst (λ (t : Clock). c.left_since t image) (sym (evens_woven a.moment b.moment)) left))),
     (λ image left. leaves.each image (inr (subst (λ (t : Clock). d.left_since t image) (sym (odds_woven a.moment b.moment)) left))),

@@ -1,12 +1,10 @@
 -- What each half of a mirror is alone.
 use Rattle.std.specs.Prelude.{◌≡◌, ◌⊎◌, ℕ, List, [], ◌∷◌, Option, Some, None, Bool, Result}
-use Rattle.std.specs.Borrow.{GName}
 use Rattle.ob_base.specs.declared.fault.Failed.{Failed}
 use Rattle.ob_store.specs.declared.event.Event.{Event}
 use Rattle.ob_store.specs.declared.event.Event.TheVariants.{Read, Write, Sync}
 use Rattle.ob_store.specs.Disk.{Disk, Image}
 use Rattle.ob_store.specs.Calls.{Notes}
-use Rattle.ob_mirror.specs.Mirrored.{Agree, Together, mirrored}
 use Rattle.ob_mirror.specs.Asked.{IsAbsorbed, IsMadeSure, IsWritten}
 use Rattle.ob_mirror.specs.Both.{AreAsked}
 use Rattle.ob_mirror.specs.Lanes.{AreLanesMade}
@@ -20,12 +18,6 @@ pub record EachStands (a c b d : Disk) (old new : Disk) : Type 0 where
   pub second_since : (image : Image) → d.left_since b.moment image → new.left_since old.moment image
   pub no_other : (image : Image) → new.left_since old.moment image → c.left_since a.moment image ⊎ d.left_since b.moment image
   pub reads : new.tells → (cell : ℕ) → (c.cells cell ≡ new.cells cell) × (d.cells cell ≡ new.cells cell)
-
--- So it is for any two stores, whatever they did.
-abbrev pub HalvesStand : {S T : Type 0} → (S → Disk) → (T → Disk) → Type 0
-HalvesStand {S} {T} first second = (x y : GName) (apart later : Bool) (began : S) (joined : T) (a c : S) (b d : T)
-    → Agree (Together later (first began) (second joined)) (first c) (second d)
-    → EachStands (first a) (first c) (second b) (second d) (mirrored x y (Together apart (first began) (second joined)) (first a) (second b)) (mirrored x y (Together later (first began) (second joined)) (first c) (second d))
 
 -- events without the reads
 abbrev pub changes : List Event → List Event

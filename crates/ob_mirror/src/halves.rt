@@ -108,7 +108,7 @@ impl<'a, A: Store, B: Store> Store for Halves<'a, A, B> {
             self.old.first.now self.new.first.now self.old.second.now self.new.second.now result }
         ensures failed { self.new.failed ≡ with_refusal result self.old.failed }
     {
-        let first = match self.first.lane() {
+        let had = match self.first.lane() {
             Ok(lane) => lane,
             Err(Failed) => {
                 self.failed = self.failed.saturating_add(1);
@@ -116,15 +116,12 @@ impl<'a, A: Store, B: Store> Store for Halves<'a, A, B> {
             }
         };
         match self.second.lane() {
-            Ok(second) => Ok(MirrorLane {
-                first,
-                second: SecondLane {
-                    lane: second,
-                    failed: 0,
-                },
+            Ok(lane) => Ok(MirrorLane {
+                first: had,
+                second: SecondLane { lane, failed: 0 },
             }),
             Err(Failed) => {
-                self.first.absorb(first);
+                self.first.absorb(had);
                 self.failed = self.failed.saturating_add(1);
                 Err(Failed)
             }

@@ -13,4 +13,4 @@ pub use joining::join;
 pub use lane::{MirrorLane, SecondLane};
 pub use mirror::Mirror;
 pub use places::Places;
-pub use standing::halves_stand;
+pub use standing::{halves_follow, halves_stand};

@@ -3,7 +3,7 @@
 ghost use Rattle.std.specs.Prelude.{◌≡◌, ◌+◌, ◌-◌, ◌≤◌, ◌<◌, ℕ, length, false};
 ghost use denote.Param.Send.{IsSync};
 ghost use Rattle.ob_lanes.specs.Hands.{IsPlaceRead, hand_at};
-ghost use Rattle.ob_mirror.specs.Mirrored.{Together, mirrored};
+ghost use Rattle.ob_mirror.specs.Mirrored.{Together};
 ghost use Rattle.ob_mirror.specs.Laws.{counts_now, only_now, includes_reads};
 ghost use Rattle.ob_mirror.specs.Asked.{IsLaneMade, IsRead, IsAbsorbed, IsWritten, IsMadeSure};
 ghost use Rattle.ob_mirror.specs.Both.{AreAsked, sum_of, with_refusal};
@@ -61,7 +61,7 @@ impl<'a, A: Store, B: Store> Mirror<'a, A, B> {
 impl<'a, A: Store, B: Store> Store for Mirror<'a, A, B> {
     type Lane = MirrorLane<A::Lane, B::Lane>;
 
-    ghost disk = { λ m. mirrored m.halves.first.ghost_name m.halves.second.ghost_name (Together m.halves.apart (A.disk m.halves.first_then.value) (B.disk m.halves.second_then.value)) (A.disk m.halves.first.now) (B.disk m.halves.second.now) };
+    ghost disk = { λ m. ⟦<Halves<'a, A, B> as Store>⟧.disk m.halves };
 
     ghost lane_faults = { λ lane. A.lane_faults lane.first + B.lane_faults lane.second.lane };
 
@@ -76,14 +76,8 @@ impl<'a, A: Store, B: Store> Store for Mirror<'a, A, B> {
     fn lane(&mut self) -> Result<MirrorLane<A::Lane, B::Lane>, Failed>
         ensures asked { IsLaneMade (λ lane. A.lane_seen lane.first)
             (λ lane. A.lane_faults lane.first + B.lane_faults lane.second.lane)
-            (mirrored self.old.halves.first.ghost_name self.old.halves.second.ghost_name
-            (Together self.old.halves.apart (A.disk self.old.halves.first_then.value)
-            (B.disk self.old.halves.second_then.value)) (A.disk self.old.halves.first.now)
-            (B.disk self.old.halves.second.now))
-            (mirrored self.new.halves.first.ghost_name self.new.halves.second.ghost_name
-            (Together self.new.halves.apart (A.disk self.new.halves.first_then.value)
-            (B.disk self.new.halves.second_then.value)) (A.disk self.new.halves.first.now)
-            (B.disk self.new.halves.second.now)) result }
+            (⟦<Halves<'a, A, B> as Store>⟧.disk self.old.halves)
+            (⟦<Halves<'a, A, B> as Store>⟧.disk self.new.halves) result }
         ensures halves { AreLanesMade A.lane_seen A.lane_faults B.lane_seen B.lane_faults A.disk B.disk
             self.old.halves.first.now self.new.halves.first.now self.old.halves.second.now self.new.halves.second.now result }
         ensures failed { self.new.halves.failed ≡ with_refusal result self.old.halves.failed }
@@ -99,10 +93,7 @@ impl<'a, A: Store, B: Store> Store for Mirror<'a, A, B> {
     ) -> Result<(), Failed>
         ensures asked { IsRead (λ lane. A.lane_seen lane.first)
             (λ lane. A.lane_faults lane.first + B.lane_faults lane.second.lane)
-            (mirrored self.now.halves.first.ghost_name self.now.halves.second.ghost_name
-            (Together self.now.halves.apart (A.disk self.now.halves.first_then.value)
-            (B.disk self.now.halves.second_then.value)) (A.disk self.now.halves.first.now)
-            (B.disk self.now.halves.second.now)) cell lane.old lane.new out.new result }
+            (⟦<Halves<'a, A, B> as Store>⟧.disk self.now.halves) cell lane.old lane.new out.new result }
         ensures halves { IsReadOfEither A.lane_seen A.lane_faults B.lane_seen B.lane_faults
             (A.disk self.now.halves.first.now) (B.disk self.now.halves.second.now) cell lane.old lane.new out.new
             result }
@@ -114,14 +105,8 @@ impl<'a, A: Store, B: Store> Store for Mirror<'a, A, B> {
     fn absorb(&mut self, lane: MirrorLane<A::Lane, B::Lane>)
         ensures asked { IsAbsorbed (λ lane. A.lane_seen lane.first)
             (λ lane. A.lane_faults lane.first + B.lane_faults lane.second.lane) lane
-            (mirrored self.old.halves.first.ghost_name self.old.halves.second.ghost_name
-            (Together self.old.halves.apart (A.disk self.old.halves.first_then.value)
-            (B.disk self.old.halves.second_then.value)) (A.disk self.old.halves.first.now)
-            (B.disk self.old.halves.second.now))
-            (mirrored self.new.halves.first.ghost_name self.new.halves.second.ghost_name
-            (Together self.new.halves.apart (A.disk self.new.halves.first_then.value)
-            (B.disk self.new.halves.second_then.value)) (A.disk self.new.halves.first.now)
-            (B.disk self.new.halves.second.now)) }
+            (⟦<Halves<'a, A, B> as Store>⟧.disk self.old.halves)
+            (⟦<Halves<'a, A, B> as Store>⟧.disk self.new.halves) }
         ensures first { IsAbsorbed A.lane_seen A.lane_faults lane.first (A.disk self.old.halves.first.now)
             (A.disk self.new.halves.first.now) }
         ensures second { IsAbsorbed B.lane_seen B.lane_faults lane.second.lane
@@ -135,14 +120,8 @@ impl<'a, A: Store, B: Store> Store for Mirror<'a, A, B> {
         requires { (A.disk self.old.halves.first.now).out
             + ((B.disk self.old.halves.second.now).out - (A.disk self.old.halves.first.now).out) ≡ 0 }
         ensures asked { IsWritten cell bytes.now
-            (mirrored self.old.halves.first.ghost_name self.old.halves.second.ghost_name
-            (Together self.old.halves.apart (A.disk self.old.halves.first_then.value)
-            (B.disk self.old.halves.second_then.value)) (A.disk self.old.halves.first.now)
-            (B.disk self.old.halves.second.now))
-            (mirrored self.new.halves.first.ghost_name self.new.halves.second.ghost_name
-            (Together self.new.halves.apart (A.disk self.new.halves.first_then.value)
-            (B.disk self.new.halves.second_then.value)) (A.disk self.new.halves.first.now)
-            (B.disk self.new.halves.second.now)) result }
+            (⟦<Halves<'a, A, B> as Store>⟧.disk self.old.halves)
+            (⟦<Halves<'a, A, B> as Store>⟧.disk self.new.halves) result }
         ensures halves { AreAsked (IsWritten cell bytes.now) (A.disk self.old.halves.first.now)
             (A.disk self.new.halves.first.now) (B.disk self.old.halves.second.now) (B.disk self.new.halves.second.now)
             result }
@@ -155,14 +134,8 @@ impl<'a, A: Store, B: Store> Store for Mirror<'a, A, B> {
         requires { (A.disk self.old.halves.first.now).out
             + ((B.disk self.old.halves.second.now).out - (A.disk self.old.halves.first.now).out) ≡ 0 }
         ensures asked { IsMadeSure
-            (mirrored self.old.halves.first.ghost_name self.old.halves.second.ghost_name
-            (Together self.old.halves.apart (A.disk self.old.halves.first_then.value)
-            (B.disk self.old.halves.second_then.value)) (A.disk self.old.halves.first.now)
-            (B.disk self.old.halves.second.now))
-            (mirrored self.new.halves.first.ghost_name self.new.halves.second.ghost_name
-            (Together self.new.halves.apart (A.disk self.new.halves.first_then.value)
-            (B.disk self.new.halves.second_then.value)) (A.disk self.new.halves.first.now)
-            (B.disk self.new.halves.second.now)) result }
+            (⟦<Halves<'a, A, B> as Store>⟧.disk self.old.halves)
+            (⟦<Halves<'a, A, B> as Store>⟧.disk self.new.halves) result }
         ensures halves { AreAsked IsMadeSure (A.disk self.old.halves.first.now) (A.disk self.new.halves.first.now)
             (B.disk self.old.halves.second.now) (B.disk self.new.halves.second.now) result }
         ensures failed { self.new.halves.failed ≡ with_refusal result self.old.halves.failed }

@@ -4,7 +4,7 @@ ghost use Rattle.std.specs.Prelude.{◌≡◌, ◌≢◌, ◌≤◌, ◌<◌, �
 ghost use Rattle.ob_base.specs.Causes.{Rose};
 ghost use Rattle.ob_store.specs.Calls.{Notes};
 ghost use Rattle.ob_lanes.specs.Hands.{hand_at, reads_in, slot_at};
-ghost ghost use Rattle.ob_mirror.specs.Reading.{AreMended, IsMended, IsParted, IsPlaceMended, IsPlaceReadOfEither, failed_in, lane_at, with_refusals};
+ghost use Rattle.ob_mirror.specs.Reading.{AreMended, IsMended, IsParted, IsPlaceMended, IsPlaceReadOfEither, failed_in, lane_at, with_refusals};
 
 use crate::lane::{MirrorLane, SecondLane};
 use ob_base::Failed;

@@ -1,13 +1,23 @@
-//! The law of a mirror: each half stands alone.
+//! The laws of a mirror: each half stands alone.
 
-ghost use Rattle.ob_mirror.specs.Standing.{HalvesStand, HalvesFollow};
+ghost use Rattle.ob_mirror.specs.Standing.{EachStands, HalvesFollow};
 
+use crate::mirror::Mirror;
 use ob_store::Store;
 
-/// Whatever a mirror of two stores has done: what a crash leaves of either half alone, at any
-/// moment, is what it leaves of the mirror; and the second was asked for the writes and syncs of
-/// the first, in their order.
-pub fn halves_stand<A: Store, B: Store>()
-    ensures stand { HalvesStand A.disk B.disk }
-    ensures follow { HalvesFollow A.disk B.disk A.lane_seen A.lane_faults B.lane_seen B.lane_faults }
+/// Of any two states of a mirror: what a crash between them leaves of either half alone is what it
+/// leaves of the mirror, and what the mirror tells of its cells both halves read.
+pub fn halves_stand<'a, A: Store, B: Store>(old: &Mirror<'a, A, B>, new: &Mirror<'a, A, B>)
+    ensures { EachStands (A.disk old.now.halves.first.now) (A.disk new.now.halves.first.now)
+        (B.disk old.now.halves.second.now) (B.disk new.now.halves.second.now)
+        (⟦<Mirror<'a, A, B> as Store>⟧.disk old.now) (⟦<Mirror<'a, A, B> as Store>⟧.disk new.now) }
+{
+    let _ = old;
+    let _ = new;
+}
+
+/// From call to call of a mirror the second half was asked for the writes and syncs that the first
+/// was, in their order, and so for any calls one behind another.
+pub fn halves_follow<A: Store, B: Store>()
+    ensures { HalvesFollow A.disk B.disk A.lane_seen A.lane_faults B.lane_seen B.lane_faults }
 {}

@@ -58,7 +58,7 @@ returns-in-Err-write-clause-writes g c =
     row_first (λ k. Write k) c.args.cells (c.loop-cell.cell + 1) _ _ (omega (arith, c.loop-cell-test.true)) (row_next (λ k. Write k) c.loop-cell.cell _ _ _ c.loop-cell.invariant.copying.writes c.write.ensures.seen)
 
 pub returns-in-Err-write-clause-goes : goal.returns-in-Err-write-clause-goes
-returns-in-Err-write-clause-goes g c = goes_then _ (g.B.Store.disk c.loop-cell.second) _ c.loop-cell.invariant.copying.goes c.write.ensures.serves.goes
+returns-in-Err-write-clause-goes g c = goes_then (g.B.Store.disk c.args.second.now) (g.B.Store.disk c.loop-cell.second) (g.B.Store.disk c.write.new.self) c.loop-cell.invariant.copying.goes c.write.ensures.serves.goes
 
 pub returns-in-Err-write-clause-out : goal.returns-in-Err-write-clause-out
 returns-in-Err-write-clause-out g c = let none = c.loop-cell.invariant.copying.out in let still = c.write.ensures.serves.out in omega (arith, none, still)

@@ -12,7 +12,7 @@ use Rattle.ob_mirror.proofs.joining.join.Goals as goal
 -- ---- no lane was made
 
 pub returns-in-Err-clause-first : goal.returns-in-Err-clause-first
-returns-in-Err-clause-first g c = let made = c.in-Err.ensures in only_read_one _ _ made.goes made.keeps made.crash made.time made.out_err
+returns-in-Err-clause-first g c = let made = c.in-Err.ensures in only_read_one (g.A.Store.disk c.args.first.now) (g.A.Store.disk c.lane.new.self) made.goes made.keeps made.crash made.time made.out_err
 
 pub returns-in-Err-clause-first_seen : goal.returns-in-Err-clause-first_seen
 returns-in-Err-clause-first_seen g c = none_as_far _ _ _ c.in-Err.ensures.seen
@@ -47,7 +47,7 @@ pub returns-in-Ok-copied-clause-first : goal.returns-in-Ok-copied-clause-first
 returns-in-Ok-copied-clause-first g c =
     let made = c.in-Ok.ensures in
     let back = c.absorb.ensures in
-    only_read_both _ (g.A.Store.disk c.lane.new.self) _ made.goes made.keeps made.crash made.time made.out back.goes back.keeps back.crash back.time back.out
+    only_read_both (g.A.Store.disk c.args.first.now) (g.A.Store.disk c.lane.new.self) (g.A.Store.disk c.absorb.new.self) made.goes made.keeps made.crash made.time made.out back.goes back.keeps back.crash back.time back.out
 
 pub returns-in-Ok-copied-clause-first_seen : goal.returns-in-Ok-copied-clause-first_seen
 returns-in-Ok-copied-clause-first_seen g c =
@@ -57,7 +57,7 @@ returns-in-Ok-copied-clause-first_seen g c =
     (lane_noted (cell_reads c.args.cells) _ (g.A.Store.disk c.lane.new.self).seen (seen c.in-Ok.lane) (seen c.copy_cells-copied.new.lane) _ made.fresh_seen made.seen c.in-Ok-copied.ensures.reads c.absorb.ensures.seen)
 
 pub returns-in-Ok-copied-clause-second : goal.returns-in-Ok-copied-clause-second
-returns-in-Ok-copied-clause-second g c = goes_then _ (g.B.Store.disk c.copy_cells-copied.new.second) _ c.copy_cells-copied.ensures.goes c.sync.ensures.serves.goes
+returns-in-Ok-copied-clause-second g c = goes_then (g.B.Store.disk c.args.second.now) (g.B.Store.disk c.copy_cells-copied.new.second) (g.B.Store.disk c.sync.new.self) c.copy_cells-copied.ensures.goes c.sync.ensures.serves.goes
 
 pub returns-in-Ok-copied-clause-second_seen : goal.returns-in-Ok-copied-clause-second_seen
 returns-in-Ok-copied-clause-second_seen g c =
@@ -67,26 +67,26 @@ pub returns-in-Ok-copied-clause-second_out : goal.returns-in-Ok-copied-clause-se
 returns-in-Ok-copied-clause-second_out g c = let none = c.copy_cells-copied.ensures.out in let still = c.sync.ensures.serves.out in omega (arith, none, still)
 
 pub returns-in-Ok-copied-clause-second_tells : goal.returns-in-Ok-copied-clause-second_tells
-returns-in-Ok-copied-clause-second_tells g c = tells_on _ (g.B.Store.disk c.copy_cells-copied.new.second) _ c.sync.result c.in-Ok-copied.ensures.tells c.sync.ensures.serves
+returns-in-Ok-copied-clause-second_tells g c = tells_on (g.B.Store.disk c.args.second.now) (g.B.Store.disk c.copy_cells-copied.new.second) (g.B.Store.disk c.sync.new.self) c.sync.result c.in-Ok-copied.ensures.tells c.sync.ensures.serves
 
 pub returns-in-Ok-copied-clause-second_rest : goal.returns-in-Ok-copied-clause-second_rest
-returns-in-Ok-copied-clause-second_rest g c = rest_on c.args.cells _ (g.B.Store.disk c.copy_cells-copied.new.second) _ c.in-Ok-copied.ensures.tells c.copy_cells-copied.ensures.rest c.sync.ensures.keeps
+returns-in-Ok-copied-clause-second_rest g c = rest_on c.args.cells (g.B.Store.disk c.args.second.now) (g.B.Store.disk c.copy_cells-copied.new.second) (g.B.Store.disk c.sync.new.self) c.in-Ok-copied.ensures.tells c.copy_cells-copied.ensures.rest c.sync.ensures.keeps
 
 pub returns-in-Ok-copied-clause-second_passes : goal.returns-in-Ok-copied-clause-second_passes
 returns-in-Ok-copied-clause-second_passes g c =
     let synced = c.sync.ensures in
-    passed_still (SameOff 0 c.args.cells) _ (g.B.Store.disk c.copy_cells-copied.new.second) _ c.copy_cells-copied.ensures.passes synced.serves.goes synced.time synced.crash synced.keeps
+    passed_still (SameOff 0 c.args.cells) (g.B.Store.disk c.args.second.now) (g.B.Store.disk c.copy_cells-copied.new.second) (g.B.Store.disk c.sync.new.self) c.copy_cells-copied.ensures.passes synced.serves.goes synced.time synced.crash synced.keeps
 
 pub returns-in-Ok-copied-clause-copied : goal.returns-in-Ok-copied-clause-copied
 returns-in-Ok-copied-clause-copied g c =
     let copied = c.in-Ok-copied.ensures in
     let back = c.absorb.ensures in
     let synced = c.sync.ensures in
-    is_copy c.args.cells (g.A.Store.disk c.lane.new.self) (g.B.Store.disk c.args.second.now) (g.B.Store.disk c.copy_cells-copied.new.second) _ _ c.sync.result
+    is_copy c.args.cells (g.A.Store.disk c.lane.new.self) (g.B.Store.disk c.args.second.now) (g.B.Store.disk c.copy_cells-copied.new.second) (g.A.Store.disk c.absorb.new.self) (g.B.Store.disk c.sync.new.self) c.sync.result
     copied.copied back.goes back.keeps copied.goes synced.serves synced.keeps synced.durable
 
 pub returns-in-Ok-copied-clause-cause : goal.returns-in-Ok-copied-clause-cause
-returns-in-Ok-copied-clause-cause g c = sync_cause _ _ (g.B.Store.disk c.copy_cells-copied.new.second) _ c.sync.result c.copy_cells-copied.ensures.goes c.sync.ensures.serves
+returns-in-Ok-copied-clause-cause g c = sync_cause _ (g.B.Store.disk c.args.second.now) (g.B.Store.disk c.copy_cells-copied.new.second) (g.B.Store.disk c.sync.new.self) c.sync.result c.copy_cells-copied.ensures.goes c.sync.ensures.serves
 
 -- ---- a read or a write was refused
 
@@ -94,7 +94,7 @@ pub returns-in-Err-copied-clause-first : goal.returns-in-Err-copied-clause-first
 returns-in-Err-copied-clause-first g c =
     let made = c.in-Ok.ensures in
     let back = c.absorb.ensures in
-    only_read_both _ (g.A.Store.disk c.lane.new.self) _ made.goes made.keeps made.crash made.time made.out back.goes back.keeps back.crash back.time back.out
+    only_read_both (g.A.Store.disk c.args.first.now) (g.A.Store.disk c.lane.new.self) (g.A.Store.disk c.absorb.new.self) made.goes made.keeps made.crash made.time made.out back.goes back.keeps back.crash back.time back.out
 
 pub returns-in-Err-copied-clause-first_seen : goal.returns-in-Err-copied-clause-first_seen
 returns-in-Err-copied-clause-first_seen g c =

@@ -1,7 +1,7 @@
 use Rattle.std.proofs.Common.{◌≡◌, ◌≤◌, ◌<◌, ℕ, subst, sym, ◌∙◌, below_more, arith, length}
 use Rattle.ob_lanes.specs.Hands.{hand_at}
 use Rattle.ob_mirror.specs.Reading.{IsPlaceMended, lane_at}
-use Rattle.ob_mirror.proofs.Places.{mended_from}
+use Rattle.ob_mirror.proofs.Parting.{mended_from}
 use Rattle.ob_mirror.proofs.places.join_all.Goals as goal
 
 pub loop-i-preserved : goal.loop-i-preserved

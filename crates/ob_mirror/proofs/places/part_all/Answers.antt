@@ -1,7 +1,7 @@
 use Rattle.std.proofs.Common.{◌≡◌, ◌≤◌, ◌<◌, ℕ, subst, sym, ◌∙◌, below_more, arith, length}
 use Rattle.ob_lanes.specs.Hands.{hand_at}
 use Rattle.ob_mirror.specs.Reading.{IsParted, lane_at}
-use Rattle.ob_mirror.proofs.Places.{parted_still}
+use Rattle.ob_mirror.proofs.Parting.{parted_still}
 use Rattle.ob_mirror.proofs.places.part_all.Goals as goal
 
 pub loop-i-preserved : goal.loop-i-preserved

@@ -28,14 +28,14 @@ loop-i-preserved g c =
       failed = failed_more i old new (slot_at new i) _ _ _ step.front so_far.failed step.failed;
     }
 
-pub returns-clause : goal.returns-clause
-returns-clause g c =
+pub returns : goal.returns
+returns g c =
     let so_far = c.loop-i.invariant in
     let whole : c.loop-i.i ≡ length c.args.part.now = omega (arith, c.loop-i-test.false, c.loop-i.auto.i-end) in
     record {
       many = so_far.many;
       each = λ j lt. so_far.mended j (omega (arith, whole, lt));
-      reads = subst (λ l. Notes (reads_in (failed_in l)) _ _) (take_all c.loop-i.i c.args.part.now (omega (arith, whole))) so_far.reads;
+      reads = subst (λ l. Notes (reads_in (failed_in l)) (g.B.Store.lane_seen c.args.second.now.lane) (g.B.Store.lane_seen c.loop-i.second.lane)) (take_all c.loop-i.i c.args.part.now (omega (arith, whole))) so_far.reads;
       later = so_far.later;
       cause = (let m = so_far.many in λ j lt bad. so_far.cause j (omega (arith, whole, lt, m)) bad);
       failed = (let m = so_far.many in so_far.failed ∙ ap (λ l. with_refusals l c.args.second.now.failed) (take_all c.loop-i.i c.loop-i.part (omega (arith, whole, m))));

@@ -1,26 +1,12 @@
 use Rattle.ob_mirror.specs.Mirrored.{Together}
-use Rattle.ob_mirror.proofs.Alone.{each_stands, follows_absorb, follows_lane, follows_none, follows_sync, follows_then, follows_write}
+use Rattle.ob_mirror.proofs.Alone.{each_stands}
 use Rattle.ob_mirror.proofs.standing.halves_stand.Goals as goal
 
-pub returns-clause-stand : goal.returns-clause-stand
-returns-clause-stand g c =
+pub returns : goal.returns
+returns g c =
+    let was = c.args.old.now.halves in
+    let is = c.args.new.now.halves in
     let one = g.A.Store.disk in
     let two = g.B.Store.disk in
-    λ x y apart later began joined first now second then agree. each_stands x y (Together apart (one began) (two joined)) (Together later (one began) (two joined)) (one first) (one now) (two second) (two then) agree
-
-pub returns-clause-follow : goal.returns-clause-follow
-returns-clause-follow g c =
-    let one = g.A.Store.disk in
-    let two = g.B.Store.disk in
-    let seen_a = g.A.Store.lane_seen in
-    let faults_a = g.A.Store.lane_faults in
-    let seen_b = g.B.Store.lane_seen in
-    let faults_b = g.B.Store.lane_faults in
-    record {
-      none = λ a b. follows_none (one a) (two b);
-      then = λ a c e b d f p q. follows_then (one a) (one c) (one e) (two b) (two d) (two f) p q;
-      lane = λ a c b d result made. follows_lane seen_a faults_a seen_b faults_b one two a c b d result made;
-      absorb = λ first second a c b d reads again back given. follows_absorb seen_a faults_a seen_b faults_b first second (one a) (one c) (two b) (two d) reads again back given;
-      write = λ cell bytes result a c b d asked. follows_write cell bytes result (one a) (one c) (two b) (two d) asked;
-      sync = λ result a c b d asked. follows_sync result (one a) (one c) (two b) (two d) asked;
-    }
+    let together = Together is.apart (one is.first_then.value) (two is.second_then.value) in
+    each_stands was.first.ghost_name was.second.ghost_name is.first.ghost_name is.second.ghost_name (Together was.apart (one was.first_then.value) (two was.second_then.value)) together (one was.first.now) (one is.first.now) (two was.second.now) (two is.second.now) is.agree
