@@ -1,6 +1,5 @@
 -- Slots that are read again, one behind another.
-use Rattle.std.proofs.Common.{◌≡◌, ◌≤◌, ◌<◌, ◌+◌, ℕ, List, [], ◌∷◌, ◌++◌, Option, false, length, map, not, take, refl, if◌then◌else◌, sym, subst, ap, ◌∙◌, arith, below_more}
-use Rattle.std.specs.List.{filter}
+use Rattle.std.proofs.Common.{◌≡◌, ◌≤◌, ◌<◌, ◌+◌, ℕ, List, [], ◌∷◌, ◌++◌, Option, false, length, not, take, refl, if◌then◌else◌, sym, subst, ap, ◌∙◌, arith, below_more}
 use Rattle.std.proofs.lemmas.List.{map-append, take_more}
 use Rattle.std.proofs.lemmas.List.Elements.{filter-append}
 use Rattle.ob_base.specs.Causes.{Rose}

@@ -1,5 +1,5 @@
 -- Each half of a mirror alone.
-use Rattle.std.proofs.Common.{◌≡◌, ◌<◌, ◌⊎◌, inl, inr, ⊎_elim, ℕ, ◌+◌, ◌*◌, ◌/◌, ◌%◌, List, [], ◌∷◌, ◌++◌, Option, Some, None, Result, Ok, Err, Bool, refl, sym, ◌∙◌, ap, subst, arith}
+use Rattle.std.proofs.Common.{◌≡◌, ◌<◌, inl, inr, ⊎_elim, ℕ, ◌+◌, ◌*◌, ◌/◌, ◌%◌, List, [], ◌∷◌, ◌++◌, Option, Some, None, Result, Ok, Err, refl, sym, ◌∙◌, ap, subst, arith}
 use mathlib.Core.Path.{fun_ext}
 use Rattle.std.specs.Borrow.{GName}
 use Rattle.ob_base.specs.declared.fault.Failed.{Failed}
@@ -7,11 +7,11 @@ use Rattle.ob_store.specs.declared.event.Event.{Event}
 use Rattle.ob_store.specs.declared.event.Event.TheVariants.{Read, Write, Sync}
 use Rattle.ob_store.specs.Disk.{Clock, Disk, Image}
 use Rattle.ob_store.specs.Images.{LeavesOnly}
-use Rattle.ob_store.specs.Calls.{Notes, NotesLane, IsFreshLane}
+use Rattle.ob_store.specs.Calls.{Notes, NotesLane}
 use Rattle.ob_store.specs.Pair.{weave, evens, odds}
 use Rattle.ob_store.proofs.Events.{joined, none_noted}
 use Rattle.ob_store.proofs.Lanes.{lane_noted}
-use Rattle.ob_mirror.specs.Mirrored.{Agree, Together, mirrored}
+use Rattle.ob_mirror.specs.Mirrored.{Agree, mirrored}
 use Rattle.ob_mirror.specs.Asked.{IsAbsorbed, IsMadeSure, IsWritten}
 use Rattle.ob_mirror.specs.Both.{AreAsked}
 use Rattle.ob_mirror.specs.Joins.{IsCopy}

@@ -1,18 +1,16 @@
 -- Cells as far as they are copied.
-use Rattle.std.proofs.Common.{◌≡◌, ◌⊎◌, inl, inr, ◌≤◌, ◌<◌, ℕ, ◌+◌, List, [], ◌∷◌, ◌++◌, length, Option, Some, None, Result, Ok, Err, refl, sym, ◌∙◌, ap, subst, arith, below_more, map}
-use Rattle.ob_base.specs.Causes.{Rose, HasCause}
-use Rattle.ob_base.specs.declared.fault.Failed.{Failed}
+use Rattle.std.proofs.Common.{◌≡◌, ◌⊎◌, inl, inr, ◌≤◌, ◌<◌, ℕ, ◌+◌, List, [], ◌∷◌, Option, Ok, refl, sym, ◌∙◌, subst, arith, below_more, map}
 use Rattle.ob_store.specs.declared.event.Event.{Event}
-use Rattle.ob_store.specs.declared.event.Event.TheVariants.{Read, Write, Sync}
-use Rattle.ob_store.specs.Disk.{Disk, Image}
+use Rattle.ob_store.specs.declared.event.Event.TheVariants.{Write}
+use Rattle.ob_store.specs.Disk.{Disk}
 use Rattle.ob_store.specs.Images.{Elapses, Passes, SameBut, SameOff, Tears}
-use Rattle.ob_store.specs.Calls.{GoesOn, Keeps, Serves, IsFailed, Notes, NotesFirst}
-use Rattle.ob_store.proofs.Events.{all_first, first_more, joined, joined_first, none_noted}
+use Rattle.ob_store.specs.Calls.{GoesOn, Serves, IsFailed, Notes, NotesFirst}
+use Rattle.ob_store.proofs.Events.{joined, none_noted}
 use Rattle.ob_store.proofs.Moments.{passed_none, passed_on, run_step}
 use Rattle.ob_store.proofs.Runs.{run_next, length_run, take_run}
 use Rattle.ob_store.proofs.Serving.{goes_same, goes_then}
 use Rattle.ob_store.specs.Runs.{from_on}
-use Rattle.ob_mirror.specs.Joins.{cell_reads, cell_writes}
+use Rattle.ob_mirror.specs.Joins.{cell_writes}
 
 -- the second half, as far as cells of the first are copied to it
 pub record Copying (cells i : ℕ) (first old now : Disk) : Type 0 where

@@ -1,18 +1,16 @@
 -- A second half that was made from the first.
-use Rattle.std.proofs.Common.{◌≡◌, ◌⊎◌, inl, inr, ◌≤◌, ◌<◌, ◌+◌, ◌-◌, ℕ, List, [], ◌∷◌, ◌++◌, Option, Result, Ok, Err, OnOk, OnErr, sym, ◌∙◌, arith, length, take}
+use Rattle.std.proofs.Common.{◌≡◌, ◌⊎◌, inl, inr, ◌≤◌, ◌<◌, ◌+◌, ◌-◌, ℕ, List, [], Option, Result, Ok, Err, OnOk, OnErr, sym, ◌∙◌, arith, take}
 use Rattle.ob_base.specs.Causes.{Rose}
 use Rattle.ob_base.specs.declared.fault.Failed.{Failed}
 use Rattle.ob_store.specs.declared.event.Event.{Event}
-use Rattle.ob_store.specs.declared.event.Event.TheVariants.{Sync}
-use Rattle.ob_store.specs.Disk.{Disk, Image}
-use Rattle.ob_store.specs.Images.{Elapses, IsSynced, Passes, SameOff, Shrinks}
+use Rattle.ob_store.specs.Disk.{Disk}
+use Rattle.ob_store.specs.Images.{Elapses, IsSynced, SameOff, Shrinks}
 use Rattle.ob_store.specs.Calls.{AddsFaults, GoesOn, IsFailed, IsFreshLane, Keeps, Notes, NotesFirst, NotesLane, Serves}
-use Rattle.ob_store.proofs.Events.{all_first, first_more, joined, none_noted}
+use Rattle.ob_store.proofs.Events.{all_first}
 use Rattle.ob_store.proofs.Keeping.{keeps_then, same_none, same_still}
 use Rattle.ob_store.proofs.Lanes.{lane_noted}
-use Rattle.ob_store.proofs.Moments.{passed_still}
 use Rattle.ob_store.proofs.Serving.{goes_then, rose_later}
-use Rattle.ob_mirror.specs.Joins.{HasCells, IsCopy, IsOnlyRead, NotesAsFar, cell_writes}
+use Rattle.ob_mirror.specs.Joins.{HasCells, IsCopy, IsOnlyRead, NotesAsFar}
 
 -- ---- the first half
 

@@ -1,23 +1,18 @@
 -- Hands that both halves have read are read of the mirror.
-use Rattle.std.proofs.Common.{◌≡◌, ◌≤◌, ◌<◌, ◌+◌, ◌^◌, ℕ, List, [], ◌∷◌, ◌++◌, length, length-append, Option, Some, None, Bool, true, false, not, min, refl, sym, ◌∙◌, ap, subst, arith, take, set, get_or, map, inl, inr, ⊎_elim}
-use Rattle.std.specs.List.{filter}
+use Rattle.std.proofs.Common.{◌≡◌, ◌≤◌, ◌+◌, ℕ, List, Option, Some, None, Bool, true, false, refl, sym, ◌∙◌, ap, subst, arith}
 use Rattle.std.specs.Borrow.{GName}
 use Rattle.std.specs.Prelude.{vec_capacity}
-use Rattle.std.proofs.lemmas.List.{map-append, take_more}
-use Rattle.std.proofs.lemmas.List.Elements.{filter-append}
 use Rattle.ob_base.specs.Causes.{Rose}
 use Rattle.ob_store.specs.declared.event.Event.{Event}
 use Rattle.ob_store.specs.Disk.{Disk}
 use Rattle.ob_store.specs.Calls.{Notes}
-use Rattle.ob_store.proofs.Events.{joined}
 use Rattle.ob_lanes.specs.declared.hand.Hand.{Hand}
 use Rattle.ob_lanes.specs.declared.hand.Slot.{Slot}
-use Rattle.ob_lanes.specs.Hands.{IsSlotRead, IsHandRead, IsPlaceRead, AreFailuresCounted, reads_in, slot_at}
+use Rattle.ob_lanes.specs.Hands.{IsSlotRead, IsHandRead, IsPlaceRead, reads_in}
 use Rattle.ob_mirror.specs.declared.lane.MirrorLane.{MirrorLane}
 use Rattle.ob_mirror.specs.declared.lane.SecondLane.{SecondLane}
 use Rattle.ob_mirror.specs.Mirrored.{Agree, mirrored}
-use Rattle.ob_mirror.specs.Both.{sum_of}
-use Rattle.ob_mirror.specs.Reading.{AreMended, IsHandMended, IsHandReadOfEither, IsMended, IsParted, IsPlaceMended, IsPlaceReadOfEither, failed_in}
+use Rattle.ob_mirror.specs.Reading.{AreMended, IsHandReadOfEither, IsMended, IsParted, IsPlaceMended, IsPlaceReadOfEither}
 
 rose_more : (a c b d : ℕ) → a ≤ c → Rose b d → Rose (a + b) (c + d)
 rose_more a c b d le rose = omega arith

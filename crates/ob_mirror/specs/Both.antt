@@ -1,9 +1,7 @@
 -- Which half is asked, and how two answers are one.
-use Rattle.std.specs.Prelude.{◌≡◌, ◌⊎◌, ℕ, ◌+◌, ◌^◌, ◌-◌, min, List, Option, Result, Ok, Err}
+use Rattle.std.specs.Prelude.{◌≡◌, ℕ, ◌+◌, ◌^◌, ◌-◌, min, Result, Ok, Err}
 use Rattle.ob_base.specs.declared.fault.Failed.{Failed}
-use Rattle.ob_store.specs.declared.event.Event.{Event}
 use Rattle.ob_store.specs.Disk.{Disk}
-use Rattle.ob_mirror.specs.Asked.{IsLaneMade, IsRead, IsAbsorbed}
 
 -- refused where either was
 abbrev pub both : Result (Unit {0}) Failed → Result (Unit {0}) Failed → Result (Unit {0}) Failed

@@ -1,7 +1,7 @@
 -- A second half that is made from the first.
-use Rattle.std.specs.Prelude.{◌≡◌, ◌<◌, ◌≤◌, ℕ, List, [], ◌∷◌, ◌++◌, map, Option, Result, Ok, Err}
+use Rattle.std.specs.Prelude.{◌≡◌, ◌<◌, ◌≤◌, ℕ, List, map, Option, Result, Ok, Err}
 use Rattle.ob_store.specs.declared.event.Event.{Event}
-use Rattle.ob_store.specs.declared.event.Event.TheVariants.{Read, Write, Sync}
+use Rattle.ob_store.specs.declared.event.Event.TheVariants.{Read, Write}
 use Rattle.ob_store.specs.Disk.{Disk, Image}
 use Rattle.ob_store.specs.Images.{Same, Passes}
 use Rattle.ob_store.specs.Calls.{GoesOn, Keeps, Notes, NotesFirst}

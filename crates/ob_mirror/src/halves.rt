@@ -87,25 +87,20 @@ impl<'a, A: Store, B: Store> Store for Halves<'a, A, B> {
 
     ghost lane_seen = { λ lane. A.lane_seen lane.first };
 
-    ghost counts_now = { λ m t c le left. counts_now m.first.ghost_name m.second.ghost_name (Together m.apart (A.disk m.first_then.value) (B.disk m.second_then.value)) (A.disk m.first.now) (B.disk m.second.now) (A.counts_now m.first.now) (B.counts_now m.second.now) t c le left };
+    ghost counts_now = { λ m t c le left. counts_now (A.disk m.first.now) (B.disk m.second.now) (A.counts_now m.first.now) (B.counts_now m.second.now) t c le left };
 
-    ghost only_now = { λ m c left. only_now m.first.ghost_name m.second.ghost_name (Together m.apart (A.disk m.first_then.value) (B.disk m.second_then.value)) (A.disk m.first.now) (B.disk m.second.now) (A.only_now m.first.now) (B.only_now m.second.now) c left };
+    ghost only_now = { λ m c left. only_now (A.disk m.first.now) (B.disk m.second.now) (A.only_now m.first.now) (B.only_now m.second.now) c left };
 
-    ghost includes_reads = { λ m tells leaves. includes_reads m.first.ghost_name m.second.ghost_name (Together m.apart (A.disk m.first_then.value) (B.disk m.second_then.value)) (A.disk m.first.now) (B.disk m.second.now) (A.includes_reads m.first.now) tells leaves };
+    ghost includes_reads = { λ m tells leaves. includes_reads (A.disk m.first.now) (B.disk m.second.now) _ (A.includes_reads m.first.now) tells leaves };
 
     fn lane(&mut self) -> Result<MirrorLane<A::Lane, B::Lane>, Failed>
         ensures asked { IsLaneMade (λ lane. A.lane_seen lane.first)
             (λ lane. A.lane_faults lane.first + B.lane_faults lane.second.lane)
-            (mirrored self.old.first.ghost_name self.old.second.ghost_name
-            (Together self.old.apart (A.disk self.old.first_then.value)
-            (B.disk self.old.second_then.value)) (A.disk self.old.first.now)
-            (B.disk self.old.second.now))
-            (mirrored self.new.first.ghost_name self.new.second.ghost_name
-            (Together self.new.apart (A.disk self.new.first_then.value)
-            (B.disk self.new.second_then.value)) (A.disk self.new.first.now)
-            (B.disk self.new.second.now)) result }
-        ensures halves { AreLanesMade A.lane_seen A.lane_faults B.lane_seen B.lane_faults A.disk B.disk
-            self.old.first.now self.new.first.now self.old.second.now self.new.second.now result }
+            (⟦<Halves<'a, A, B> as Store>⟧.disk self.old)
+            (⟦<Halves<'a, A, B> as Store>⟧.disk self.new) result }
+        ensures halves { AreLanesMade A.lane_seen A.lane_faults B.lane_seen B.lane_faults A.disk
+            B.disk self.old.first.now self.new.first.now self.old.second.now self.new.second.now
+            result }
         ensures failed { self.new.failed ≡ with_refusal result self.old.failed }
     {
         let had = match self.first.lane() {
@@ -136,10 +131,7 @@ impl<'a, A: Store, B: Store> Store for Halves<'a, A, B> {
     ) -> Result<(), Failed>
         ensures asked { IsRead (λ lane. A.lane_seen lane.first)
             (λ lane. A.lane_faults lane.first + B.lane_faults lane.second.lane)
-            (mirrored self.now.first.ghost_name self.now.second.ghost_name
-            (Together self.now.apart (A.disk self.now.first_then.value)
-            (B.disk self.now.second_then.value)) (A.disk self.now.first.now)
-            (B.disk self.now.second.now)) cell lane.old lane.new out.new result }
+            (⟦<Halves<'a, A, B> as Store>⟧.disk self.now) cell lane.old lane.new out.new result }
         ensures halves { IsReadOfEither A.lane_seen A.lane_faults B.lane_seen B.lane_faults
             (A.disk self.now.first.now) (B.disk self.now.second.now) cell lane.old lane.new out.new
             result }
@@ -161,14 +153,8 @@ impl<'a, A: Store, B: Store> Store for Halves<'a, A, B> {
     fn absorb(&mut self, lane: MirrorLane<A::Lane, B::Lane>)
         ensures asked { IsAbsorbed (λ lane. A.lane_seen lane.first)
             (λ lane. A.lane_faults lane.first + B.lane_faults lane.second.lane) lane
-            (mirrored self.old.first.ghost_name self.old.second.ghost_name
-            (Together self.old.apart (A.disk self.old.first_then.value)
-            (B.disk self.old.second_then.value)) (A.disk self.old.first.now)
-            (B.disk self.old.second.now))
-            (mirrored self.new.first.ghost_name self.new.second.ghost_name
-            (Together self.new.apart (A.disk self.new.first_then.value)
-            (B.disk self.new.second_then.value)) (A.disk self.new.first.now)
-            (B.disk self.new.second.now)) }
+            (⟦<Halves<'a, A, B> as Store>⟧.disk self.old)
+            (⟦<Halves<'a, A, B> as Store>⟧.disk self.new) }
         ensures first { IsAbsorbed A.lane_seen A.lane_faults lane.first (A.disk self.old.first.now)
             (A.disk self.new.first.now) }
         ensures second { IsAbsorbed B.lane_seen B.lane_faults lane.second.lane
@@ -189,14 +175,8 @@ impl<'a, A: Store, B: Store> Store for Halves<'a, A, B> {
         requires { (A.disk self.old.first.now).out
             + ((B.disk self.old.second.now).out - (A.disk self.old.first.now).out) ≡ 0 }
         ensures asked { IsWritten cell bytes.now
-            (mirrored self.old.first.ghost_name self.old.second.ghost_name
-            (Together self.old.apart (A.disk self.old.first_then.value)
-            (B.disk self.old.second_then.value)) (A.disk self.old.first.now)
-            (B.disk self.old.second.now))
-            (mirrored self.new.first.ghost_name self.new.second.ghost_name
-            (Together self.new.apart (A.disk self.new.first_then.value)
-            (B.disk self.new.second_then.value)) (A.disk self.new.first.now)
-            (B.disk self.new.second.now)) result }
+            (⟦<Halves<'a, A, B> as Store>⟧.disk self.old)
+            (⟦<Halves<'a, A, B> as Store>⟧.disk self.new) result }
         ensures halves { AreAsked (IsWritten cell bytes.now) (A.disk self.old.first.now)
             (A.disk self.new.first.now) (B.disk self.old.second.now) (B.disk self.new.second.now)
             result }
@@ -222,14 +202,8 @@ impl<'a, A: Store, B: Store> Store for Halves<'a, A, B> {
         requires { (A.disk self.old.first.now).out
             + ((B.disk self.old.second.now).out - (A.disk self.old.first.now).out) ≡ 0 }
         ensures asked { IsMadeSure
-            (mirrored self.old.first.ghost_name self.old.second.ghost_name
-            (Together self.old.apart (A.disk self.old.first_then.value)
-            (B.disk self.old.second_then.value)) (A.disk self.old.first.now)
-            (B.disk self.old.second.now))
-            (mirrored self.new.first.ghost_name self.new.second.ghost_name
-            (Together self.new.apart (A.disk self.new.first_then.value)
-            (B.disk self.new.second_then.value)) (A.disk self.new.first.now)
-            (B.disk self.new.second.now)) result }
+            (⟦<Halves<'a, A, B> as Store>⟧.disk self.old)
+            (⟦<Halves<'a, A, B> as Store>⟧.disk self.new) result }
         ensures halves { AreAsked IsMadeSure (A.disk self.old.first.now) (A.disk self.new.first.now)
             (B.disk self.old.second.now) (B.disk self.new.second.now) result }
         ensures failed { self.new.failed ≡ with_refusal result self.old.failed }

@@ -3,7 +3,6 @@
 ghost use Rattle.std.specs.Prelude.{◌≡◌, ◌+◌, ◌-◌, ◌≤◌, ◌<◌, ℕ, length, false};
 ghost use denote.Param.Send.{IsSync};
 ghost use Rattle.ob_lanes.specs.Hands.{IsPlaceRead, hand_at};
-ghost use Rattle.ob_mirror.specs.Mirrored.{Together};
 ghost use Rattle.ob_mirror.specs.Laws.{counts_now, only_now, includes_reads};
 ghost use Rattle.ob_mirror.specs.Asked.{IsLaneMade, IsRead, IsAbsorbed, IsWritten, IsMadeSure};
 ghost use Rattle.ob_mirror.specs.Both.{AreAsked, sum_of, with_refusal};
@@ -67,19 +66,20 @@ impl<'a, A: Store, B: Store> Store for Mirror<'a, A, B> {
 
     ghost lane_seen = { λ lane. A.lane_seen lane.first };
 
-    ghost counts_now = { λ m t c le left. counts_now m.halves.first.ghost_name m.halves.second.ghost_name (Together m.halves.apart (A.disk m.halves.first_then.value) (B.disk m.halves.second_then.value)) (A.disk m.halves.first.now) (B.disk m.halves.second.now) (A.counts_now m.halves.first.now) (B.counts_now m.halves.second.now) t c le left };
+    ghost counts_now = { λ m t c le left. counts_now (A.disk m.halves.first.now) (B.disk m.halves.second.now) (A.counts_now m.halves.first.now) (B.counts_now m.halves.second.now) t c le left };
 
-    ghost only_now = { λ m c left. only_now m.halves.first.ghost_name m.halves.second.ghost_name (Together m.halves.apart (A.disk m.halves.first_then.value) (B.disk m.halves.second_then.value)) (A.disk m.halves.first.now) (B.disk m.halves.second.now) (A.only_now m.halves.first.now) (B.only_now m.halves.second.now) c left };
+    ghost only_now = { λ m c left. only_now (A.disk m.halves.first.now) (B.disk m.halves.second.now) (A.only_now m.halves.first.now) (B.only_now m.halves.second.now) c left };
 
-    ghost includes_reads = { λ m tells leaves. includes_reads m.halves.first.ghost_name m.halves.second.ghost_name (Together m.halves.apart (A.disk m.halves.first_then.value) (B.disk m.halves.second_then.value)) (A.disk m.halves.first.now) (B.disk m.halves.second.now) (A.includes_reads m.halves.first.now) tells leaves };
+    ghost includes_reads = { λ m tells leaves. includes_reads (A.disk m.halves.first.now) (B.disk m.halves.second.now) _ (A.includes_reads m.halves.first.now) tells leaves };
 
     fn lane(&mut self) -> Result<MirrorLane<A::Lane, B::Lane>, Failed>
         ensures asked { IsLaneMade (λ lane. A.lane_seen lane.first)
             (λ lane. A.lane_faults lane.first + B.lane_faults lane.second.lane)
             (⟦<Halves<'a, A, B> as Store>⟧.disk self.old.halves)
             (⟦<Halves<'a, A, B> as Store>⟧.disk self.new.halves) result }
-        ensures halves { AreLanesMade A.lane_seen A.lane_faults B.lane_seen B.lane_faults A.disk B.disk
-            self.old.halves.first.now self.new.halves.first.now self.old.halves.second.now self.new.halves.second.now result }
+        ensures halves { AreLanesMade A.lane_seen A.lane_faults B.lane_seen B.lane_faults A.disk
+            B.disk self.old.halves.first.now self.new.halves.first.now
+            self.old.halves.second.now self.new.halves.second.now result }
         ensures failed { self.new.halves.failed ≡ with_refusal result self.old.halves.failed }
     {
         self.halves.lane()
@@ -93,10 +93,11 @@ impl<'a, A: Store, B: Store> Store for Mirror<'a, A, B> {
     ) -> Result<(), Failed>
         ensures asked { IsRead (λ lane. A.lane_seen lane.first)
             (λ lane. A.lane_faults lane.first + B.lane_faults lane.second.lane)
-            (⟦<Halves<'a, A, B> as Store>⟧.disk self.now.halves) cell lane.old lane.new out.new result }
-        ensures halves { IsReadOfEither A.lane_seen A.lane_faults B.lane_seen B.lane_faults
-            (A.disk self.now.halves.first.now) (B.disk self.now.halves.second.now) cell lane.old lane.new out.new
+            (⟦<Halves<'a, A, B> as Store>⟧.disk self.now.halves) cell lane.old lane.new out.new
             result }
+        ensures halves { IsReadOfEither A.lane_seen A.lane_faults B.lane_seen B.lane_faults
+            (A.disk self.now.halves.first.now) (B.disk self.now.halves.second.now) cell lane.old
+            lane.new out.new result }
         ensures failed { lane.new.second.failed ≡ with_refusal result lane.old.second.failed }
     {
         self.halves.read(lane, cell, out)
@@ -107,8 +108,8 @@ impl<'a, A: Store, B: Store> Store for Mirror<'a, A, B> {
             (λ lane. A.lane_faults lane.first + B.lane_faults lane.second.lane) lane
             (⟦<Halves<'a, A, B> as Store>⟧.disk self.old.halves)
             (⟦<Halves<'a, A, B> as Store>⟧.disk self.new.halves) }
-        ensures first { IsAbsorbed A.lane_seen A.lane_faults lane.first (A.disk self.old.halves.first.now)
-            (A.disk self.new.halves.first.now) }
+        ensures first { IsAbsorbed A.lane_seen A.lane_faults lane.first
+            (A.disk self.old.halves.first.now) (A.disk self.new.halves.first.now) }
         ensures second { IsAbsorbed B.lane_seen B.lane_faults lane.second.lane
             (B.disk self.old.halves.second.now) (B.disk self.new.halves.second.now) }
         ensures failed { self.new.halves.failed ≡ sum_of self.old.halves.failed lane.second.failed }
@@ -118,13 +119,14 @@ impl<'a, A: Store, B: Store> Store for Mirror<'a, A, B> {
 
     fn write(&mut self, cell: u64, bytes: &[u8; 128]) -> Result<(), Failed>
         requires { (A.disk self.old.halves.first.now).out
-            + ((B.disk self.old.halves.second.now).out - (A.disk self.old.halves.first.now).out) ≡ 0 }
+            + ((B.disk self.old.halves.second.now).out
+            - (A.disk self.old.halves.first.now).out) ≡ 0 }
         ensures asked { IsWritten cell bytes.now
             (⟦<Halves<'a, A, B> as Store>⟧.disk self.old.halves)
             (⟦<Halves<'a, A, B> as Store>⟧.disk self.new.halves) result }
         ensures halves { AreAsked (IsWritten cell bytes.now) (A.disk self.old.halves.first.now)
-            (A.disk self.new.halves.first.now) (B.disk self.old.halves.second.now) (B.disk self.new.halves.second.now)
-            result }
+            (A.disk self.new.halves.first.now) (B.disk self.old.halves.second.now)
+            (B.disk self.new.halves.second.now) result }
         ensures failed { self.new.halves.failed ≡ with_refusal result self.old.halves.failed }
     {
         self.halves.write(cell, bytes)
@@ -132,12 +134,14 @@ impl<'a, A: Store, B: Store> Store for Mirror<'a, A, B> {
 
     fn sync(&mut self) -> Result<(), Failed>
         requires { (A.disk self.old.halves.first.now).out
-            + ((B.disk self.old.halves.second.now).out - (A.disk self.old.halves.first.now).out) ≡ 0 }
+            + ((B.disk self.old.halves.second.now).out
+            - (A.disk self.old.halves.first.now).out) ≡ 0 }
         ensures asked { IsMadeSure
             (⟦<Halves<'a, A, B> as Store>⟧.disk self.old.halves)
             (⟦<Halves<'a, A, B> as Store>⟧.disk self.new.halves) result }
-        ensures halves { AreAsked IsMadeSure (A.disk self.old.halves.first.now) (A.disk self.new.halves.first.now)
-            (B.disk self.old.halves.second.now) (B.disk self.new.halves.second.now) result }
+        ensures halves { AreAsked IsMadeSure (A.disk self.old.halves.first.now)
+            (A.disk self.new.halves.first.now) (B.disk self.old.halves.second.now)
+            (B.disk self.new.halves.second.now) result }
         ensures failed { self.new.halves.failed ≡ with_refusal result self.old.halves.failed }
     {
         self.halves.sync()

@@ -109,7 +109,8 @@ fn join_place<L: Drop, B: Store>(
     first: Option<Hand<L>>,
     second: Option<SecondLane<B::Lane>>,
 ) -> Option<Hand<MirrorLane<L, B::Lane>>>
-    ensures joined { IsPlaceMended (B.disk store.now) B.lane_seen B.lane_faults first second result }
+    ensures joined { IsPlaceMended (B.disk store.now) B.lane_seen B.lane_faults first second
+        result }
 {
     match (first, second) {
         (Some(hand), Some(mut second)) => {

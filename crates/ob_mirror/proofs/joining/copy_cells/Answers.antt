@@ -1,4 +1,4 @@
-use Rattle.std.proofs.Common.{rules, ◌≡◌, ◌+◌, inl, inr, length, subst, arith}
+use Rattle.std.proofs.Common.{rules, ◌≡◌, ◌+◌, inl, inr, subst, arith}
 use Rattle.ob_store.specs.declared.event.Event.TheVariants.{Read, Write}
 use Rattle.ob_store.specs.Calls.{Notes}
 use Rattle.ob_store.proofs.Events.{none_noted}

@@ -1,4 +1,4 @@
-use Rattle.std.proofs.Common.{rules, ◌≡◌, [], ◌∷◌, inl, refl, arith}
+use Rattle.std.proofs.Common.{rules, [], ◌∷◌, ◌++◌, inl, refl, arith}
 use Rattle.ob_store.specs.declared.event.Event.TheVariants.{Sync}
 use Rattle.ob_store.specs.Images.{SameOff}
 use Rattle.ob_store.proofs.Events.{first_more, joined, none_noted}
@@ -53,15 +53,18 @@ pub returns-in-Ok-copied-clause-first_seen : goal.returns-in-Ok-copied-clause-fi
 returns-in-Ok-copied-clause-first_seen g c =
     let seen = g.A.Store.lane_seen in
     let made = c.in-Ok.ensures in
-    all_as_far (cell_reads c.args.cells) _ _ c.sync.result
-    (lane_noted (cell_reads c.args.cells) _ (g.A.Store.disk c.lane.new.self).seen (seen c.in-Ok.lane) (seen c.copy_cells-copied.new.lane) _ made.fresh_seen made.seen c.in-Ok-copied.ensures.reads c.absorb.ensures.seen)
+    let disk = g.A.Store.disk in
+    all_as_far (cell_reads c.args.cells) (disk c.args.first.now).seen (disk c.absorb.new.self).seen c.sync.result
+    (lane_noted (cell_reads c.args.cells) (disk c.args.first.now).seen (disk c.lane.new.self).seen (seen c.in-Ok.lane) (seen c.copy_cells-copied.new.lane) (disk c.absorb.new.self).seen made.fresh_seen made.seen c.in-Ok-copied.ensures.reads c.absorb.ensures.seen)
 
 pub returns-in-Ok-copied-clause-second : goal.returns-in-Ok-copied-clause-second
 returns-in-Ok-copied-clause-second g c = goes_then (g.B.Store.disk c.args.second.now) (g.B.Store.disk c.copy_cells-copied.new.second) (g.B.Store.disk c.sync.new.self) c.copy_cells-copied.ensures.goes c.sync.ensures.serves.goes
 
 pub returns-in-Ok-copied-clause-second_seen : goal.returns-in-Ok-copied-clause-second_seen
 returns-in-Ok-copied-clause-second_seen g c =
-    all_as_far _ _ _ c.sync.result (joined (cell_writes c.args.cells) (Sync ∷ []) _ (g.B.Store.disk c.copy_cells-copied.new.second).seen _ c.in-Ok-copied.ensures.writes c.sync.ensures.seen)
+    let disk = g.B.Store.disk in
+    all_as_far (cell_writes c.args.cells ++ Sync ∷ []) (disk c.args.second.now).seen (disk c.sync.new.self).seen c.sync.result
+    (joined (cell_writes c.args.cells) (Sync ∷ []) (disk c.args.second.now).seen (disk c.copy_cells-copied.new.second).seen (disk c.sync.new.self).seen c.in-Ok-copied.ensures.writes c.sync.ensures.seen)
 
 pub returns-in-Ok-copied-clause-second_out : goal.returns-in-Ok-copied-clause-second_out
 returns-in-Ok-copied-clause-second_out g c = let none = c.copy_cells-copied.ensures.out in let still = c.sync.ensures.serves.out in omega (arith, none, still)
@@ -100,13 +103,14 @@ pub returns-in-Err-copied-clause-first_seen : goal.returns-in-Err-copied-clause-
 returns-in-Err-copied-clause-first_seen g c =
     let seen = g.A.Store.lane_seen in
     let made = c.in-Ok.ensures in
-    lane_first (cell_reads c.args.cells) _ (g.A.Store.disk c.lane.new.self).seen (seen c.in-Ok.lane) (seen c.copy_cells-copied.new.lane) _ made.fresh_seen made.seen c.in-Err-copied.ensures.reads c.absorb.ensures.seen
+    let disk = g.A.Store.disk in
+    lane_first (cell_reads c.args.cells) (disk c.args.first.now).seen (disk c.lane.new.self).seen (seen c.in-Ok.lane) (seen c.copy_cells-copied.new.lane) (disk c.absorb.new.self).seen made.fresh_seen made.seen c.in-Err-copied.ensures.reads c.absorb.ensures.seen
 
 pub returns-in-Err-copied-clause-second : goal.returns-in-Err-copied-clause-second
 returns-in-Err-copied-clause-second g c = c.copy_cells-copied.ensures.goes
 
 pub returns-in-Err-copied-clause-second_seen : goal.returns-in-Err-copied-clause-second_seen
-returns-in-Err-copied-clause-second_seen g c = first_more (cell_writes c.args.cells) (Sync ∷ []) _ _ c.in-Err-copied.ensures.writes
+returns-in-Err-copied-clause-second_seen g c = first_more (cell_writes c.args.cells) (Sync ∷ []) (g.B.Store.disk c.args.second.now).seen (g.B.Store.disk c.copy_cells-copied.new.second).seen c.in-Err-copied.ensures.writes
 
 pub returns-in-Err-copied-clause-second_out : goal.returns-in-Err-copied-clause-second_out
 returns-in-Err-copied-clause-second_out g c = let none = c.copy_cells-copied.ensures.out in omega (arith, none)
@@ -121,4 +125,4 @@ pub returns-in-Err-copied-clause-cause : goal.returns-in-Err-copied-clause-cause
 returns-in-Err-copied-clause-cause g c =
     let made = c.in-Ok.ensures in
     let back = c.absorb.ensures in
-    copy_cause _ (g.A.Store.disk c.lane.new.self).faults _ (g.A.Store.lane_faults c.in-Ok.lane) (g.A.Store.lane_faults c.copy_cells-copied.new.lane) _ made.goes.faults made.fresh back.goes.faults back.faults c.in-Err-copied.ensures.cause
+    copy_cause (g.A.Store.disk c.args.first.now).faults (g.A.Store.disk c.lane.new.self).faults (g.A.Store.disk c.absorb.new.self).faults (g.A.Store.lane_faults c.in-Ok.lane) (g.A.Store.lane_faults c.copy_cells-copied.new.lane) _ made.goes.faults made.fresh back.goes.faults back.faults c.in-Err-copied.ensures.cause

@@ -1,4 +1,4 @@
-use Rattle.std.proofs.Common.{◌≡◌, ◌≤◌, ◌<◌, ℕ, subst, sym, ◌∙◌, below_more, arith, length}
+use Rattle.std.proofs.Common.{subst, sym, ◌∙◌, below_more, arith}
 use Rattle.ob_lanes.specs.Hands.{hand_at}
 use Rattle.ob_mirror.specs.Reading.{IsPlaceMended, lane_at}
 use Rattle.ob_mirror.proofs.Parting.{mended_from}

@@ -1,6 +1,6 @@
-use Rattle.std.proofs.Common.{◌≡◌, ◌≤◌, ◌<◌, ℕ, subst, sym, ◌∙◌, ap, below_more, arith, length, take}
+use Rattle.std.proofs.Common.{◌≡◌, subst, sym, ◌∙◌, ap, below_more, arith, length}
 use Rattle.std.proofs.lemmas.List.{take_all}
-use Rattle.ob_lanes.specs.Hands.{slot_at, reads_in, AreFailuresCounted}
+use Rattle.ob_lanes.specs.Hands.{slot_at, reads_in}
 use Rattle.ob_store.specs.Calls.{Notes}
 use Rattle.ob_mirror.specs.Reading.{IsMended, failed_in, with_refusals}
 use Rattle.ob_mirror.proofs.Again.{counted_more, failed_more, reads_more}

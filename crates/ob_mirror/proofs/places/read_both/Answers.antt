@@ -1,4 +1,4 @@
-use Rattle.std.proofs.Common.{rules, arith}
+use Rattle.std.proofs.Common.{arith}
 use Rattle.ob_mirror.proofs.Reread.{place_by}
 use Rattle.ob_mirror.proofs.places.read_both.Goals as goal
 
