@@ -4,7 +4,7 @@ ghost use Rattle.std.specs.Prelude.{◌≡◌, ◌≤◌, ◌⊎◌, ◌∷◌, 
 ghost use Rattle.ob_base.specs.Causes.{Rose};
 ghost use Rattle.ob_store.specs.declared.event.Event.TheVariants as event;
 ghost use Rattle.ob_store.specs.Images.{Passes, SameOff};
-ghost use Rattle.ob_store.specs.Calls.{GoesOn, TellsOn};
+ghost use Rattle.ob_store.specs.Calls.{GoesOn};
 ghost use Rattle.ob_mirror.specs.Joins.{HasCells, IsOnlyRead, IsCopy, NotesAsFar, cell_reads, cell_writes};
 
 use ob_base::Failed;

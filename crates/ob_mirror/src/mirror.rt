@@ -1,12 +1,13 @@
 //! The mirror.
 
-ghost use Rattle.std.specs.Prelude.{◌≡◌, ◌+◌, ◌-◌, ◌≤◌, ◌<◌, ℕ, length, false};
+ghost use Rattle.std.specs.Prelude.{◌≡◌, ◌≤◌, ◌<◌, ◌+◌, ◌-◌, ℕ, length, false};
 ghost use denote.Param.Send.{IsSync};
 ghost use Rattle.ob_lanes.specs.Hands.{IsPlaceRead, hand_at};
 ghost use Rattle.ob_mirror.specs.Laws.{counts_now, only_now, includes_reads};
 ghost use Rattle.ob_mirror.specs.Asked.{IsLaneMade, IsRead, IsAbsorbed, IsWritten, IsMadeSure};
 ghost use Rattle.ob_mirror.specs.Both.{AreAsked, sum_of, with_refusal};
 ghost use Rattle.ob_mirror.specs.Lanes.{AreLanesMade, IsReadOfEither};
+ghost use Rattle.ob_mirror.specs.Reading.{IsPlaceReadOfEither};
 
 use crate::halves::Halves;
 use crate::lane::MirrorLane;
@@ -153,7 +154,20 @@ impl<'a, A: Lanes, B: Store> Lanes for Mirror<'a, A, B> {
         &self,
         rt: &R,
         hands: &mut [Option<Hand<MirrorLane<A::Lane, B::Lane>>>],
-    ) {
+    )
+        requires sync { IsSync R.row }
+        requires few { length hands.old ≤ 16 }
+        ensures many { length hands.new ≡ length hands.old }
+        ensures each { (i : ℕ) → i < length hands.old
+            → IsPlaceRead (⟦<Halves<'a, A, B> as Store>⟧.disk self.now.halves)
+            (λ lane. A.lane_seen lane.first)
+            (λ lane. A.lane_faults lane.first + B.lane_faults lane.second.lane)
+            (hand_at hands.old i) (hand_at hands.new i) }
+        ensures halves { (i : ℕ) → i < length hands.old
+            → IsPlaceReadOfEither A.lane_seen A.lane_faults B.lane_seen B.lane_faults
+            (A.disk self.now.halves.first.now) (B.disk self.now.halves.second.now)
+            (hand_at hands.old i) (hand_at hands.new i) }
+    {
         read_both(
             rt,
             &self.places,
