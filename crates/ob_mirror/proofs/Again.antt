@@ -9,7 +9,7 @@ use Rattle.ob_store.specs.Calls.{Notes}
 use Rattle.ob_store.proofs.Events.{joined}
 use Rattle.ob_lanes.specs.declared.hand.Slot.{Slot}
 use Rattle.ob_lanes.specs.Hands.{AreFailuresCounted, reads_in, slot_at}
-use Rattle.ob_mirror.specs.Both.{sum_of}
+use Rattle.ob_mirror.specs.Both.{saturating_sum}
 use Rattle.ob_mirror.specs.Reading.{failed_in, with_refusals}
 
 blank : Slot
@@ -30,7 +30,7 @@ reads_more all i slot a b c lt is so_far one =
 
 refusals_join : (xs ys : List Slot) (n : ℕ) → with_refusals (xs ++ ys) n ≡ with_refusals ys (with_refusals xs n)
 refusals_join [] ys n = refl
-refusals_join (x ∷ xs) ys n = refusals_join xs ys (if x.good then n else sum_of n 1)
+refusals_join (x ∷ xs) ys n = refusals_join xs ys (if x.good then n else saturating_sum n 1)
 
 pub failed_more : (i : ℕ) (old new : List Slot) (x : Slot) (first mid last : ℕ) → take (i + 1) new ≡ take i old ++ x ∷ []
     → mid ≡ with_refusals (take i old) first → last ≡ with_refusals (x ∷ []) mid → last ≡ with_refusals (take (i + 1) new) first

@@ -8,38 +8,37 @@ use Rattle.ob_store.specs.declared.event.Event.TheVariants.{Read, Write, Sync}
 use Rattle.ob_store.specs.Disk.{Clock, Disk, Image}
 use Rattle.ob_store.specs.Images.{LeavesOnly}
 use Rattle.ob_store.specs.Calls.{Notes, NotesLane}
-use Rattle.ob_store.specs.Pair.{weave, evens, odds}
 use Rattle.ob_store.proofs.Events.{joined, none_noted}
 use Rattle.ob_store.proofs.Lanes.{lane_noted}
-use Rattle.ob_mirror.specs.Mirrored.{Agree, mirrored}
-use Rattle.ob_mirror.specs.Asked.{IsAbsorbed, IsMadeSure, IsWritten}
+use Rattle.ob_mirror.specs.Mirrored.{even_moments, odd_moments, woven_moments, Agree, mirrored}
+use Rattle.ob_mirror.specs.Asked.{IsAbsorbed, IsMadeSure, IsCellWritten}
 use Rattle.ob_mirror.specs.Both.{AreAsked}
 use Rattle.ob_mirror.specs.Joins.{IsCopy}
 use Rattle.ob_mirror.specs.Lanes.{AreLanesMade}
 use Rattle.ob_mirror.specs.Standing.{EachStands, Follows, OnlyReads, changes}
 
-woven_even : (a b : Clock) (part : ℕ) → part % 2 ≡ 0 → weave a b part ≡ a (part / 2)
+woven_even : (a b : Clock) (part : ℕ) → part % 2 ≡ 0 → woven_moments a b part ≡ a (part / 2)
 woven_even a b part is = rw is refl
 
-woven_odd : (a b : Clock) (part : ℕ) → part % 2 ≡ 1 → weave a b part ≡ b (part / 2)
+woven_odd : (a b : Clock) (part : ℕ) → part % 2 ≡ 1 → woven_moments a b part ≡ b (part / 2)
 woven_odd a b part is = rw is refl
 
-at_even : (a b : Clock) (part : ℕ) → weave a b (2 * part) ≡ a part
+at_even : (a b : Clock) (part : ℕ) → woven_moments a b (2 * part) ≡ a part
 at_even a b part =
     let zero_rest : (2 * part) % 2 ≡ 0 = omega arith in
     let half : (2 * part) / 2 ≡ part = omega arith in
     woven_even a b (2 * part) zero_rest ∙ ap a half
 
-at_odd : (a b : Clock) (part : ℕ) → weave a b (2 * part + 1) ≡ b part
+at_odd : (a b : Clock) (part : ℕ) → woven_moments a b (2 * part + 1) ≡ b part
 at_odd a b part =
     let one_rest : (2 * part + 1) % 2 ≡ 1 = omega arith in
     let half : (2 * part + 1) / 2 ≡ part = omega arith in
     woven_odd a b (2 * part + 1) one_rest ∙ ap b half
 
-evens_woven : (a b : Clock) → evens (weave a b) ≡ a
+evens_woven : (a b : Clock) → even_moments (woven_moments a b) ≡ a
 evens_woven a b = fun_ext (λ part. at_even a b part)
 
-odds_woven : (a b : Clock) → odds (weave a b) ≡ b
+odds_woven : (a b : Clock) → odd_moments (woven_moments a b) ≡ b
 odds_woven a b = fun_ext (λ part. at_odd a b part)
 
 module _ (x y v w : GName) (was is : Type 0) (a c b d : Disk) where
@@ -116,7 +115,7 @@ module _ {L M : Type 0} (seen_a : L → Option (List Event)) (faults_a : L → �
     same = refl;
   }
 
-pub follows_write : (cell : ℕ) (bytes : List ℕ) (result : Result (Unit {0}) Failed) (a c b d : Disk) → AreAsked (IsWritten cell bytes) a c b d result → Follows a c b d
+pub follows_write : (cell : ℕ) (bytes : List ℕ) (result : Result (Unit {0}) Failed) (a c b d : Disk) → AreAsked (IsCellWritten cell bytes) a c b d result → Follows a c b d
 follows_write cell bytes result a c b d asked = record { made = Write cell ∷ []; own = Write cell ∷ []; first = asked.first.seen; second = asked.second.seen; same = refl }
 
 pub follows_sync : (result : Result (Unit {0}) Failed) (a c b d : Disk) → AreAsked IsMadeSure a c b d result → Follows a c b d

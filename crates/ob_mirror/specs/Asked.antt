@@ -22,7 +22,7 @@ pub record IsLaneMade {L : Type 0} (lane_seen : L → Option (List Event)) (lane
   pub cause : HasCause old.faults new.faults result
 
 -- A lane was to read a cell.
-pub record IsRead {L : Type 0} (lane_seen : L → Option (List Event)) (lane_faults : L → ℕ) (disk : Disk) (cell : ℕ) (old new : L) (out : List ℕ) (result : Result (Unit {0}) Failed) : Type 0 where
+pub record IsLaneRead {L : Type 0} (lane_seen : L → Option (List Event)) (lane_faults : L → ℕ) (disk : Disk) (cell : ℕ) (old new : L) (out : List ℕ) (result : Result (Unit {0}) Failed) : Type 0 where
   pub bytes : disk.tells → OnOk result (out ≡ disk.cells cell)
   pub seen : Notes (event.Read cell ∷ []) (lane_seen old) (lane_seen new)
   pub tells : TellsOn (lane_seen old) (lane_seen new) (lane_faults old) (lane_faults new)
@@ -39,7 +39,7 @@ pub record IsAbsorbed {L : Type 0} (lane_seen : L → Option (List Event)) (lane
   pub faults : AddsFaults (lane_faults lane) old.faults new.faults
 
 -- It was to write a cell.
-pub record IsWritten (cell : ℕ) (bytes : List ℕ) (old new : Disk) (result : Result (Unit {0}) Failed) : Type 0 where
+pub record IsCellWritten (cell : ℕ) (bytes : List ℕ) (old new : Disk) (result : Result (Unit {0}) Failed) : Type 0 where
   pub serves : Serves IsFailed old new result
   pub written : old.tells → OnOk result (new.cells cell ≡ bytes)
   pub rest : old.tells → SameBut cell new.cells old.cells

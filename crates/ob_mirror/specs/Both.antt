@@ -17,10 +17,10 @@ pub record AreAsked (Asked : Disk → Disk → Result (Unit {0}) Failed → Type
   pub answer : result ≡ both one two
 
 -- both up to the last value of a `u64`
-abbrev pub sum_of : ℕ → ℕ → ℕ
-sum_of some more = min (some + more) (2 ^ 64 - 1)
+abbrev pub saturating_sum : ℕ → ℕ → ℕ
+saturating_sum some more = min (some + more) (2 ^ 64 - 1)
 
 -- a refusal is counted
 abbrev pub with_refusal : {T : Type 0} → Result T Failed → ℕ → ℕ
 with_refusal (Ok value) failed = failed
-with_refusal (Err e) failed = sum_of failed 1
+with_refusal (Err e) failed = saturating_sum failed 1

@@ -1,8 +1,7 @@
 -- Two stores that serve as one.
-use Rattle.std.specs.Prelude.{◌≡◌, ◌⊎◌, ℕ, ◌+◌, ◌-◌, ◌∷◌, ◌++◌, Bool, false}
+use Rattle.std.specs.Prelude.{◌≡◌, ◌⊎◌, ℕ, ◌+◌, ◌-◌, ◌*◌, ◌/◌, ◌%◌, ◌==◌, if◌then◌else◌, ◌∷◌, ◌++◌, Bool, false}
 use Rattle.std.specs.Borrow.{GName}
-use Rattle.ob_store.specs.Disk.{Disk}
-use Rattle.ob_store.specs.Pair.{weave, evens, odds}
+use Rattle.ob_store.specs.Disk.{Clock, Disk}
 
 -- the second half reads as the first
 abbrev pub Alike : Disk → Disk → Type 0
@@ -16,6 +15,16 @@ Together apart first second = (apart ≡ false) × Alike first second
 abbrev pub Agree : Type 0 → Disk → Disk → Type 0
 Agree together a b = together → a.tells → b.tells → Alike a b
 
+-- the moments of the first half at the even parts, of the second at the odd ones
+abbrev pub woven_moments : Clock → Clock → Clock
+woven_moments a b part = if part % 2 == 0 then a (part / 2) else b (part / 2)
+
+abbrev pub even_moments : Clock → Clock
+even_moments t part = t (2 * part)
+
+abbrev pub odd_moments : Clock → Clock
+odd_moments t part = t (2 * part + 1)
+
 -- Cells are told where both halves tell them and are together; what a crash leaves is what it leaves of either; the moments are
 -- those of both; the calls are the first half's.
 abbrev pub mirrored : GName → GName → Type 0 → Disk → Disk → Disk
@@ -24,8 +33,8 @@ mirrored x y together a b = record {
   cells = a.cells;
   leaves = a.leaves × b.leaves;
   may_leave = λ c. a.may_leave c ⊎ b.may_leave c;
-  moment = weave a.moment b.moment;
-  left_since = λ t c. a.left_since (evens t) c ⊎ b.left_since (odds t) c;
+  moment = woven_moments a.moment b.moment;
+  left_since = λ t c. a.left_since (even_moments t) c ⊎ b.left_since (odd_moments t) c;
   seen = a.seen;
   out = a.out + (b.out - a.out);
   faults = a.faults + b.faults;

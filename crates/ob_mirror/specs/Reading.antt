@@ -9,7 +9,7 @@ use Rattle.ob_lanes.specs.declared.hand.Slot.{Slot}
 use Rattle.ob_lanes.specs.declared.hand.Hand.{Hand}
 use Rattle.ob_mirror.specs.declared.lane.MirrorLane.{MirrorLane}
 use Rattle.ob_mirror.specs.declared.lane.SecondLane.{SecondLane}
-use Rattle.ob_mirror.specs.Both.{sum_of}
+use Rattle.ob_mirror.specs.Both.{saturating_sum}
 
 -- the slots whose read failed
 abbrev pub failed_in : List Slot → List Slot
@@ -18,7 +18,7 @@ failed_in slots = filter (λ s. not s.good) slots
 -- each slot whose read failed is counted as a refusal
 abbrev pub with_refusals : List Slot → ℕ → ℕ
 with_refusals [] failed = failed
-with_refusals (slot ∷ slots) failed = with_refusals slots (if slot.good then failed else sum_of failed 1)
+with_refusals (slot ∷ slots) failed = with_refusals slots (if slot.good then failed else saturating_sum failed 1)
 
 -- A slot that was good stays; one that wasn't is read of this disk.
 pub record IsMended (disk : Disk) (old new : Slot) : Type 0 where

@@ -5,7 +5,7 @@ use Rattle.ob_store.specs.declared.event.Event.{Event}
 use Rattle.ob_store.specs.declared.event.Event.TheVariants.{Read, Write, Sync}
 use Rattle.ob_store.specs.Disk.{Disk, Image}
 use Rattle.ob_store.specs.Calls.{Notes}
-use Rattle.ob_mirror.specs.Asked.{IsAbsorbed, IsMadeSure, IsWritten}
+use Rattle.ob_mirror.specs.Asked.{IsAbsorbed, IsMadeSure, IsCellWritten}
 use Rattle.ob_mirror.specs.Both.{AreAsked}
 use Rattle.ob_mirror.specs.Lanes.{AreLanesMade}
 
@@ -45,5 +45,5 @@ pub record HalvesFollow {S T L M : Type 0} (one : S → Disk) (two : T → Disk)
   pub then : (a c e : S) (b d f : T) → Follows (one a) (one c) (two b) (two d) → Follows (one c) (one e) (two d) (two f) → Follows (one a) (one e) (two b) (two f)
   pub lane : (a c : S) (b d : T) (result : _) → AreLanesMade seen_a faults_a seen_b faults_b one two a c b d result → Follows (one a) (one c) (two b) (two d)
   pub absorb : (first : L) (second : M) (a c : S) (b d : T) → OnlyReads (seen_a first) → OnlyReads (seen_b second) → IsAbsorbed seen_a faults_a first (one a) (one c) → IsAbsorbed seen_b faults_b second (two b) (two d) → Follows (one a) (one c) (two b) (two d)
-  pub write : (cell : ℕ) (bytes : List ℕ) (result : Result (Unit {0}) Failed) (a c : S) (b d : T) → AreAsked (IsWritten cell bytes) (one a) (one c) (two b) (two d) result → Follows (one a) (one c) (two b) (two d)
+  pub write : (cell : ℕ) (bytes : List ℕ) (result : Result (Unit {0}) Failed) (a c : S) (b d : T) → AreAsked (IsCellWritten cell bytes) (one a) (one c) (two b) (two d) result → Follows (one a) (one c) (two b) (two d)
   pub sync : (result : Result (Unit {0}) Failed) (a c : S) (b d : T) → AreAsked IsMadeSure (one a) (one c) (two b) (two d) result → Follows (one a) (one c) (two b) (two d)

@@ -2,9 +2,9 @@
 
 ghost use Rattle.std.specs.Prelude.{◌≡◌, ◌+◌, ◌-◌, false};
 ghost use Rattle.ob_mirror.specs.Mirrored.{Agree, Together, mirrored};
-ghost use Rattle.ob_mirror.specs.Laws.{counts_now, only_now, includes_reads};
-ghost use Rattle.ob_mirror.specs.Asked.{IsLaneMade, IsRead, IsAbsorbed, IsWritten, IsMadeSure};
-ghost use Rattle.ob_mirror.specs.Both.{AreAsked, both, sum_of, with_refusal};
+ghost use Rattle.ob_mirror.specs.Laws.{counts_now_of_either, only_now_of_either, includes_reads_of_first};
+ghost use Rattle.ob_mirror.specs.Asked.{IsLaneMade, IsLaneRead, IsAbsorbed, IsCellWritten, IsMadeSure};
+ghost use Rattle.ob_mirror.specs.Both.{AreAsked, both, saturating_sum, with_refusal};
 ghost use Rattle.ob_mirror.specs.Lanes.{AreLanesMade, IsReadOfEither};
 
 use crate::lane::{MirrorLane, SecondLane};
@@ -87,11 +87,11 @@ impl<'a, A: Store, B: Store> Store for Halves<'a, A, B> {
 
     ghost lane_seen = { λ lane. A.lane_seen lane.first };
 
-    ghost counts_now = { λ m t c le left. counts_now (A.disk m.first.now) (B.disk m.second.now) (A.counts_now m.first.now) (B.counts_now m.second.now) t c le left };
+    ghost counts_now = { λ m t c le left. counts_now_of_either (A.disk m.first.now) (B.disk m.second.now) (A.counts_now m.first.now) (B.counts_now m.second.now) t c le left };
 
-    ghost only_now = { λ m c left. only_now (A.disk m.first.now) (B.disk m.second.now) (A.only_now m.first.now) (B.only_now m.second.now) c left };
+    ghost only_now = { λ m c left. only_now_of_either (A.disk m.first.now) (B.disk m.second.now) (A.only_now m.first.now) (B.only_now m.second.now) c left };
 
-    ghost includes_reads = { λ m tells leaves. includes_reads (A.disk m.first.now) (B.disk m.second.now) _ (A.includes_reads m.first.now) tells leaves };
+    ghost includes_reads = { λ m tells leaves. includes_reads_of_first (A.disk m.first.now) (B.disk m.second.now) _ (A.includes_reads m.first.now) tells leaves };
 
     fn lane(&mut self) -> Result<MirrorLane<A::Lane, B::Lane>, Failed>
         ensures asked { IsLaneMade (λ lane. A.lane_seen lane.first)
@@ -129,7 +129,7 @@ impl<'a, A: Store, B: Store> Store for Halves<'a, A, B> {
         cell: u64,
         out: &mut [u8; 128],
     ) -> Result<(), Failed>
-        ensures asked { IsRead (λ lane. A.lane_seen lane.first)
+        ensures asked { IsLaneRead (λ lane. A.lane_seen lane.first)
             (λ lane. A.lane_faults lane.first + B.lane_faults lane.second.lane)
             (⟦<Halves<'a, A, B> as Store>⟧.disk self.now) cell lane.old lane.new out.new result }
         ensures halves { IsReadOfEither A.lane_seen A.lane_faults B.lane_seen B.lane_faults
@@ -159,7 +159,7 @@ impl<'a, A: Store, B: Store> Store for Halves<'a, A, B> {
             (A.disk self.new.first.now) }
         ensures second { IsAbsorbed B.lane_seen B.lane_faults lane.second.lane
             (B.disk self.old.second.now) (B.disk self.new.second.now) }
-        ensures failed { self.new.failed ≡ sum_of self.old.failed lane.second.failed }
+        ensures failed { self.new.failed ≡ saturating_sum self.old.failed lane.second.failed }
     {
         let MirrorLane { first, second } = lane;
         let SecondLane {
@@ -174,10 +174,10 @@ impl<'a, A: Store, B: Store> Store for Halves<'a, A, B> {
     fn write(&mut self, cell: u64, bytes: &[u8; 128]) -> Result<(), Failed>
         requires { (A.disk self.old.first.now).out
             + ((B.disk self.old.second.now).out - (A.disk self.old.first.now).out) ≡ 0 }
-        ensures asked { IsWritten cell bytes.now
+        ensures asked { IsCellWritten cell bytes.now
             (⟦<Halves<'a, A, B> as Store>⟧.disk self.old)
             (⟦<Halves<'a, A, B> as Store>⟧.disk self.new) result }
-        ensures halves { AreAsked (IsWritten cell bytes.now) (A.disk self.old.first.now)
+        ensures halves { AreAsked (IsCellWritten cell bytes.now) (A.disk self.old.first.now)
             (A.disk self.new.first.now) (B.disk self.old.second.now) (B.disk self.new.second.now)
             result }
         ensures failed { self.new.failed ≡ with_refusal result self.old.failed }

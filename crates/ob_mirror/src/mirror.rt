@@ -3,9 +3,9 @@
 ghost use Rattle.std.specs.Prelude.{◌≡◌, ◌≤◌, ◌<◌, ◌+◌, ◌-◌, ℕ, length, false};
 ghost use denote.Param.Send.{IsSync};
 ghost use Rattle.ob_lanes.specs.Hands.{IsPlaceRead, hand_at};
-ghost use Rattle.ob_mirror.specs.Laws.{counts_now, only_now, includes_reads};
-ghost use Rattle.ob_mirror.specs.Asked.{IsLaneMade, IsRead, IsAbsorbed, IsWritten, IsMadeSure};
-ghost use Rattle.ob_mirror.specs.Both.{AreAsked, sum_of, with_refusal};
+ghost use Rattle.ob_mirror.specs.Laws.{counts_now_of_either, only_now_of_either, includes_reads_of_first};
+ghost use Rattle.ob_mirror.specs.Asked.{IsLaneMade, IsLaneRead, IsAbsorbed, IsCellWritten, IsMadeSure};
+ghost use Rattle.ob_mirror.specs.Both.{AreAsked, saturating_sum, with_refusal};
 ghost use Rattle.ob_mirror.specs.Lanes.{AreLanesMade, IsReadOfEither};
 ghost use Rattle.ob_mirror.specs.Reading.{IsPlaceReadOfEither};
 
@@ -67,11 +67,11 @@ impl<'a, A: Store, B: Store> Store for Mirror<'a, A, B> {
 
     ghost lane_seen = { λ lane. A.lane_seen lane.first };
 
-    ghost counts_now = { λ m t c le left. counts_now (A.disk m.halves.first.now) (B.disk m.halves.second.now) (A.counts_now m.halves.first.now) (B.counts_now m.halves.second.now) t c le left };
+    ghost counts_now = { λ m t c le left. counts_now_of_either (A.disk m.halves.first.now) (B.disk m.halves.second.now) (A.counts_now m.halves.first.now) (B.counts_now m.halves.second.now) t c le left };
 
-    ghost only_now = { λ m c left. only_now (A.disk m.halves.first.now) (B.disk m.halves.second.now) (A.only_now m.halves.first.now) (B.only_now m.halves.second.now) c left };
+    ghost only_now = { λ m c left. only_now_of_either (A.disk m.halves.first.now) (B.disk m.halves.second.now) (A.only_now m.halves.first.now) (B.only_now m.halves.second.now) c left };
 
-    ghost includes_reads = { λ m tells leaves. includes_reads (A.disk m.halves.first.now) (B.disk m.halves.second.now) _ (A.includes_reads m.halves.first.now) tells leaves };
+    ghost includes_reads = { λ m tells leaves. includes_reads_of_first (A.disk m.halves.first.now) (B.disk m.halves.second.now) _ (A.includes_reads m.halves.first.now) tells leaves };
 
     fn lane(&mut self) -> Result<MirrorLane<A::Lane, B::Lane>, Failed>
         ensures asked { IsLaneMade (λ lane. A.lane_seen lane.first)
@@ -92,7 +92,7 @@ impl<'a, A: Store, B: Store> Store for Mirror<'a, A, B> {
         cell: u64,
         out: &mut [u8; 128],
     ) -> Result<(), Failed>
-        ensures asked { IsRead (λ lane. A.lane_seen lane.first)
+        ensures asked { IsLaneRead (λ lane. A.lane_seen lane.first)
             (λ lane. A.lane_faults lane.first + B.lane_faults lane.second.lane)
             (⟦<Halves<'a, A, B> as Store>⟧.disk self.now.halves) cell lane.old lane.new out.new
             result }
@@ -113,7 +113,7 @@ impl<'a, A: Store, B: Store> Store for Mirror<'a, A, B> {
             (A.disk self.old.halves.first.now) (A.disk self.new.halves.first.now) }
         ensures second { IsAbsorbed B.lane_seen B.lane_faults lane.second.lane
             (B.disk self.old.halves.second.now) (B.disk self.new.halves.second.now) }
-        ensures failed { self.new.halves.failed ≡ sum_of self.old.halves.failed lane.second.failed }
+        ensures failed { self.new.halves.failed ≡ saturating_sum self.old.halves.failed lane.second.failed }
     {
         self.halves.absorb(lane);
     }
@@ -122,10 +122,10 @@ impl<'a, A: Store, B: Store> Store for Mirror<'a, A, B> {
         requires { (A.disk self.old.halves.first.now).out
             + ((B.disk self.old.halves.second.now).out
             - (A.disk self.old.halves.first.now).out) ≡ 0 }
-        ensures asked { IsWritten cell bytes.now
+        ensures asked { IsCellWritten cell bytes.now
             (⟦<Halves<'a, A, B> as Store>⟧.disk self.old.halves)
             (⟦<Halves<'a, A, B> as Store>⟧.disk self.new.halves) result }
-        ensures halves { AreAsked (IsWritten cell bytes.now) (A.disk self.old.halves.first.now)
+        ensures halves { AreAsked (IsCellWritten cell bytes.now) (A.disk self.old.halves.first.now)
             (A.disk self.new.halves.first.now) (B.disk self.old.halves.second.now)
             (B.disk self.new.halves.second.now) result }
         ensures failed { self.new.halves.failed ≡ with_refusal result self.old.halves.failed }
