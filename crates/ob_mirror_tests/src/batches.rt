@@ -1,14 +1,12 @@
 //! Batches that are read of a mirror by several lanes.
 
 ghost use Rattle.std.specs.Prelude.{◌≡◌, ◌≤◌, length};
-ghost use Rattle.ob_mem.specs.Memory.{disk_of_store};
 
-use crate::spy::Asked;
-use crate::spy::Spy;
+use crate::spy::{Asked, Spy};
 use crate::steps::new_spy;
 use ob_lanes::{Hand, Lanes, Slot, read_dealt};
 use ob_mem::Fail;
-use ob_mirror::{Mirror, Places, join};
+use ob_mirror::{Mirror, Places};
 use std::alloc::Global;
 use std::process::Abort;
 use std::thread::Threads;
@@ -38,9 +36,19 @@ fn new_part(rt: &impl Abort, alloc: Global, from: usize, each: usize) -> Vec<Slo
     part
 }
 
-// Whether each cell was read well, as its number and one.
+// The bytes of the four cells.
+const BYTES: [u8; 4] = [1, 2, 3, 4];
+
+// Whether a cell was read well, as its byte throughout.
+fn is_read(slot: &Slot) -> bool {
+    slot.good && slot.cell < 4 && slot.bytes == [BYTES[slot.cell as usize]; 128]
+}
+
+// Whether each was.
 fn are_read(parts: &[Vec<Slot>]) -> bool {
-    parts.iter().all(|part| part.iter().all(|slot| slot.good && slot.bytes == [slot.cell as u8 + 1; 128]))
+    parts
+        .iter()
+        .all(|part| part.iter().all(|slot| is_read(slot)))
 }
 
 // Whether so many lanes read them all.
@@ -54,45 +62,51 @@ fn reads_all<S: Lanes, R: Abort + Threads + Sync>(
     requires { many ≤ 16 }
 {
     let mut parts = new_parts(rt, alloc, many, each);
-    let mut hands: Vec<Option<Hand<S::Lane>>> = Vec::with_capacity(alloc, many).expect(rt, "memory");
+    let mut hands: Vec<Option<Hand<S::Lane>>> = Vec::with_capacity(alloc, many).expect(
+        rt, "memory",
+    );
     read_dealt(rt, store, many, &mut hands, &mut parts).is_ok() && are_read(parts.as_slice())
 }
 
-// How many lanes, of how many cells each, and the cell that the first half fails to read. The cells
-// go round, so of each four one failed, and was read of the second.
-const BATCHES: &[(usize, usize, u64)] = &[(1, 4, 2), (4, 4, 0), (16, 1, 3), (16, 8, 1)];
+// How many lanes read how many cells each, the cell that the first half fails to read, and how often
+// it comes: as the cells go round, it is each fourth.
+const BATCHES: &[(usize, usize, u64, usize)] = &[
+    (1, 4, 2, 1),
+    (4, 4, 0, 4),
+    (16, 1, 3, 4),
+    (16, 8, 1, 32),
+];
 
 // Whether the second was asked for this cell alone, so often.
 fn are_reads_of(heard: &[Asked], cell: u64, many: usize) -> bool {
     heard.len() == many && heard.iter().all(|asked| *asked == Asked::Read(cell))
 }
 
-// Whether the lanes read all cells, though the first half fails to read one, and the second is
-// asked for this one alone.
-fn serves<R: Abort + Threads + Sync>(
-    rt: &R,
-    alloc: Global,
-    many: usize,
-    each: usize,
-    cell: u64,
-) -> bool
-    requires { many ≤ 16 }
+// Makes a mirror of two such stores, of which the first fails to read one cell, and has lanes read
+// all cells: the second is asked for that one alone.
+fn read_rows<R: Abort + Threads + Sync>(rt: &R, alloc: Global, row: &(usize, usize, u64, usize))
+    requires { row.now.0 ≤ 16 }
 {
-    let fails = [Fail::Read { cell, writes: 4 }];
-    let mut first = new_spy(rt, alloc, [1, 2, 3, 4], &fails);
-    let mut second = new_spy(rt, alloc, [1, 2, 3, 4], &[]);
+    let (many, each, cell, reads) = *row;
+    let mut first = new_spy(rt, alloc, BYTES, &[Fail::Read { cell, writes: 4 }]);
+    let mut second = new_spy(rt, alloc, BYTES, &[]);
     let mut mirror = Mirror::over(&mut first, &mut second, Places::new());
-    if !reads_all(rt, alloc, &mut mirror, many, each) {
-        return false;
-    }
+    assert!(rt;
+        reads_all(rt, alloc, &mut mirror, many, each),
+        "{many} lanes"
+    );
     let _lent = mirror.into_lent();
-    are_reads_of(second.heard.as_slice(), cell, many * each / 4)
+    assert!(rt;
+        are_reads_of(second.heard.as_slice(), cell, reads),
+        "{many} lanes"
+    );
 }
 
 #[test]
 fn lanes_of_a_mirror_read_of_either_half(rt: HostRuntime) {
     for i in 0..BATCHES.len() {
-        let (many, each, cell) = BATCHES[i];
-        assert!(rt; many <= 16 && serves(&rt, rt.alloc(), many, each, cell), "row {i}");
+        let row = &BATCHES[i];
+        assert!(rt; row.0 <= 16);
+        read_rows(&rt, rt.alloc(), row);
     }
 }

@@ -5,14 +5,13 @@ ghost use Rattle.ob_mem.specs.Memory.{disk_of_store};
 
 use crate::spy::Asked::{self, Read, Sync, Write};
 use crate::spy::Spy;
-use crate::steps::Step;
-use crate::steps::{new_spy, play, reads_as};
+use crate::steps::{Step, new_spy, play, reads_as};
 use ob_mem::Fail;
 use ob_mirror::{Mirror, Places, join};
 use std::process::Abort;
 
-// Two stores of four cells: what fails in each (their cells were four writes), what is called of
-// the mirror behind a join, and what each was asked then, the join's own calls in front.
+// Two stores of four cells: what fails in each (behind four writes and a sync), what is called of
+// the mirror behind a join, and what each was asked then, behind the join's own calls.
 struct Row {
     fails_first: &'static [Fail],
     fails_second: &'static [Fail],
@@ -42,7 +41,12 @@ const ROWS: &[Row] = &[
     Row {
         fails_first: &[],
         fails_second: &[Fail::Write(8)],
-        steps: &[Step::NotWritten(1, 9), Step::Synced, Step::Read(1, 9), Step::Write(1, 8)],
+        steps: &[
+            Step::NotWritten(1, 9),
+            Step::Synced,
+            Step::Read(1, 9),
+            Step::Write(1, 8),
+        ],
         first: &[Write(1), Sync, Read(1), Write(1)],
         second: &[Write(1), Sync, Write(1)],
     },
@@ -57,14 +61,19 @@ const ROWS: &[Row] = &[
     // A sync of the second.
     Row {
         fails_first: &[],
-        fails_second: &[Fail::Sync(1)],
-        steps: &[Step::Write(1, 9), Step::NotSynced, Step::Read(1, 9), Step::Synced],
+        fails_second: &[Fail::Sync(2)],
+        steps: &[
+            Step::Write(1, 9),
+            Step::NotSynced,
+            Step::Read(1, 9),
+            Step::Synced,
+        ],
         first: &[Write(1), Sync, Read(1), Sync],
         second: &[Write(1), Sync, Sync],
     },
     // A sync of the first.
     Row {
-        fails_first: &[Fail::Sync(0)],
+        fails_first: &[Fail::Sync(1)],
         fails_second: &[],
         steps: &[Step::Write(1, 9), Step::NotSynced, Step::Synced],
         first: &[Write(1), Sync, Sync],
@@ -74,7 +83,12 @@ const ROWS: &[Row] = &[
     Row {
         fails_first: &[Fail::Read { cell: 2, writes: 5 }],
         fails_second: &[],
-        steps: &[Step::Write(1, 9), Step::Read(2, 3), Step::Read(0, 1), Step::Read(1, 9)],
+        steps: &[
+            Step::Write(1, 9),
+            Step::Read(2, 3),
+            Step::Read(0, 1),
+            Step::Read(1, 9),
+        ],
         first: &[Write(1), Read(2), Read(0), Read(1)],
         second: &[Write(1), Read(2)],
     },
@@ -106,10 +120,11 @@ const ROWS: &[Row] = &[
 
 // What a join asks of the first, and of the second.
 const JOIN_FIRST: [Asked; 4] = [Read(0), Read(1), Read(2), Read(3)];
+
 const JOIN_SECOND: [Asked; 5] = [Write(0), Write(1), Write(2), Write(3), Sync];
 
-// Makes these calls of a mirror.
-fn mirror_plays(rt: &impl Abort, first: &mut Spy, second: &mut Spy, steps: &[Step])
+/// Makes these calls of a mirror.
+pub fn mirror_plays(rt: &impl Abort, first: &mut Spy, second: &mut Spy, steps: &[Step])
     requires first { (disk_of_store first.old.store).out ≡ 0 }
     requires second { (disk_of_store second.old.store).out ≡ 0 }
 {
@@ -119,9 +134,9 @@ fn mirror_plays(rt: &impl Abort, first: &mut Spy, second: &mut Spy, steps: &[Ste
 
 // Whether this was asked, behind those.
 fn are_asked(heard: &[Asked], before: &[Asked], then: &[Asked]) -> bool {
-    heard.len() == before.len() + then.len()
-        && heard[..before.len()] == *before
-        && heard[before.len()..] == *then
+    heard.len().checked_sub(before.len()) == Some(then.len())
+        && heard.starts_with(before)
+        && heard.ends_with(then)
 }
 
 #[test]
@@ -132,8 +147,14 @@ fn each_half_is_asked_in_its_turn(rt: HostRuntime) {
         let mut second = new_spy(&rt, rt.alloc(), [0, 9, 0, 9], row.fails_second);
         assert!(rt; join(&mut first, &mut second, 4).is_ok(), "row {i}");
         mirror_plays(&rt, &mut first, &mut second, row.steps);
-        assert!(rt; are_asked(first.heard.as_slice(), &JOIN_FIRST, row.first), "row {i}");
-        assert!(rt; are_asked(second.heard.as_slice(), &JOIN_SECOND, row.second), "row {i}");
+        assert!(rt;
+            are_asked(first.heard.as_slice(), &JOIN_FIRST, row.first),
+            "row {i}"
+        );
+        assert!(rt;
+            are_asked(second.heard.as_slice(), &JOIN_SECOND, row.second),
+            "row {i}"
+        );
     }
 }
 
@@ -162,7 +183,7 @@ const REFUSED: &[Row] = &[
     },
     Row {
         fails_first: &[],
-        fails_second: &[Fail::Sync(0)],
+        fails_second: &[Fail::Sync(1)],
         steps: &[],
         first: &[Read(0), Read(1), Read(2), Read(3)],
         second: &[Write(0), Write(1), Write(2), Write(3), Sync],
@@ -176,8 +197,14 @@ fn a_refused_join_only_reads_the_first(rt: HostRuntime) {
         let mut first = new_spy(&rt, rt.alloc(), [1, 2, 3, 4], row.fails_first);
         let mut second = new_spy(&rt, rt.alloc(), [0, 9, 0, 9], row.fails_second);
         assert!(rt; join(&mut first, &mut second, 4).is_err(), "row {i}");
-        assert!(rt; are_asked(first.heard.as_slice(), &[], row.first), "row {i}");
-        assert!(rt; are_asked(second.heard.as_slice(), &[], row.second), "row {i}");
+        assert!(rt;
+            are_asked(first.heard.as_slice(), &[], row.first),
+            "row {i}"
+        );
+        assert!(rt;
+            are_asked(second.heard.as_slice(), &[], row.second),
+            "row {i}"
+        );
         assert!(rt; reads_as(&mut first, 3, Some(4)), "row {i}");
     }
 }

@@ -6,6 +6,8 @@ mod batches;
 #[cfg(test)]
 mod calls;
 #[cfg(test)]
+mod crashes;
+#[cfg(test)]
 mod spy;
 #[cfg(test)]
 mod steps;

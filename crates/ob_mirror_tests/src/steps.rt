@@ -84,7 +84,7 @@ pub fn play<S: Store>(rt: &impl Abort, store: &mut S, steps: &[Step])
     }
 }
 
-/// Four cells of these bytes, where these calls fail, the write of each cell being one.
+/// Four cells of these bytes, where these calls fail: four writes and a sync stand before them.
 pub fn new_spy(rt: &impl Abort, alloc: Global, bytes: [u8; 4], fails: &[Fail]) -> Spy
     ensures { (disk_of_store result.store).out ≡ 0 }
 {
@@ -94,5 +94,6 @@ pub fn new_spy(rt: &impl Abort, alloc: Global, bytes: [u8; 4], fails: &[Fail]) -
         let written = store.write(i as u64, &[bytes[i]; 128]);
         assert!(rt; written.is_ok(), "cell {i}");
     }
+    assert!(rt; store.sync().is_ok());
     Spy::new(alloc, store)
 }
