@@ -1,5 +1,5 @@
 -- What is said of histories.
-use Rattle.std.specs.Prelude.{◌≡◌, ℕ, List, [], ◌∷◌}
+use Rattle.std.specs.Prelude.{◌≡◌, List, [], ◌∷◌}
 use Rattle.std.specs.List.{flat_map}
 use Rattle.ob_schedule.specs.declared.line.Line.{Line}
 use Rattle.ob_schedule.specs.declared.line.Line.TheVariants as L
@@ -21,6 +21,3 @@ AreAdmitted (L.Bad ∷ lines) = ⊥
 
 abbrev pub HistoriesAreAdmitted : Type 0
 HistoriesAreAdmitted = (histories : List (List Line)) → AreHistories histories → AreAdmitted (flat_map (λ lines. lines) histories)
-
-abbrev pub AdmittedAreHistories : Type 0
-AdmittedAreHistories = (lines : List Line) → AreAdmitted lines → (histories : List (List Line)) × (lines ≡ flat_map (λ history. history) histories) × AreHistories histories
