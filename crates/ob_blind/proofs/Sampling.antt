@@ -6,7 +6,7 @@ use Rattle.ob_ring.proofs.Rows.{p0}
 use Rattle.ob_ring.specs.FlatTable.{FinalLifts, after, refill_order}
 use Rattle.ob_stand.specs.Fresh.{fresh_content}
 use Rattle.ob_stand.specs.Table.{flat_of}
-use Rattle.ob_blind.specs.Samples.{Sampled, bucket_words_apart, dummies_by_slot, epoch_picked, epoch_slots, leaves_by_bucket_word, leaves_then, own_ranks, slots_by_write_word, slots_then, turned_ranks, twice, write_words_apart, zero_words}
+use Rattle.ob_blind.specs.Samples.{Sampled, bucket_words_apart, dummies_by_slot, epoch_picked, epoch_slots, leaves_by_bucket_word, leaves_then, own_ranks, slots_by_write_word, slots_then, turned_ranks, twice, write_words_apart, blank_words}
 
 -- ---- two planners
 
@@ -43,7 +43,7 @@ filled_first : refill_order p0 (after p0 (twice p0 (flat_of p0 (fresh_content p0
 unfolding buckets
 filled_first = refl
 
-leaves : leaves_then p0 zero_words ≡ 1 ∷ 2 ∷ []
+leaves : leaves_then p0 blank_words ≡ 1 ∷ 2 ∷ []
 unfolding buckets
 leaves = refl
 
@@ -51,7 +51,7 @@ same_leaves : leaves_then p0 bucket_words_apart ≡ 1 ∷ 2 ∷ []
 unfolding buckets
 same_leaves = refl
 
-bucket_leaves : leaves_by_bucket_word p0 zero_words ≡ 0 ∷ 2 ∷ []
+bucket_leaves : leaves_by_bucket_word p0 blank_words ≡ 0 ∷ 2 ∷ []
 unfolding buckets
 bucket_leaves = refl
 
@@ -59,10 +59,10 @@ other_bucket_leaves : leaves_by_bucket_word p0 bucket_words_apart ≡ 1 ∷ 2 �
 unfolding buckets
 other_bucket_leaves = refl
 
-put_apart : leaves_by_bucket_word p0 zero_words ≡ leaves_by_bucket_word p0 bucket_words_apart → ⊥
+put_apart : leaves_by_bucket_word p0 blank_words ≡ leaves_by_bucket_word p0 bucket_words_apart → ⊥
 put_apart same = let x : ◌≡◌ {A = ℕ} 0 1 = ap (λ row. slice_index row 0) (sym bucket_leaves ∙ same ∙ other_bucket_leaves) in omega arith
 
-bucket_slots : slots_then p0 zero_words ≡ 0 ∷ 1 ∷ 2 ∷ 3 ∷ 4 ∷ []
+bucket_slots : slots_then p0 blank_words ≡ 0 ∷ 1 ∷ 2 ∷ 3 ∷ 4 ∷ []
 bucket_slots = refl
 
 other_bucket_slots : slots_then p0 bucket_words_apart ≡ 4 ∷ 3 ∷ 0 ∷ 2 ∷ 1 ∷ []
@@ -71,13 +71,13 @@ other_bucket_slots = refl
 write_slots : slots_then p0 write_words_apart ≡ 0 ∷ 1 ∷ 2 ∷ 3 ∷ 4 ∷ []
 write_slots = refl
 
-early_slots : slots_by_write_word p0 zero_words ≡ 4 ∷ 0 ∷ 1 ∷ 2 ∷ 3 ∷ []
+early_slots : slots_by_write_word p0 blank_words ≡ 4 ∷ 0 ∷ 1 ∷ 2 ∷ 3 ∷ []
 early_slots = refl
 
 other_early_slots : slots_by_write_word p0 write_words_apart ≡ 0 ∷ 1 ∷ 2 ∷ 3 ∷ 4 ∷ []
 other_early_slots = refl
 
-write_apart : slots_by_write_word p0 zero_words ≡ slots_by_write_word p0 write_words_apart → ⊥
+write_apart : slots_by_write_word p0 blank_words ≡ slots_by_write_word p0 write_words_apart → ⊥
 write_apart same = let x : ◌≡◌ {A = ℕ} 4 0 = ap (λ row. slice_index row 0) (sym early_slots ∙ same ∙ other_early_slots) in omega arith
 
 pub sampled : Sampled

@@ -68,8 +68,8 @@ abbrev pub slots_then : Params → List ℕ → List ℕ
 slots_then p words = ranks_of (words_of p (drop p.writes words) 0)
 
 -- Two rows of 27 words that differ in those of bucket 3, and one that differs from the first in a write's.
-abbrev pub zero_words : List ℕ
-zero_words = 1 ∷ 6 ∷ replicate 25 0
+abbrev pub blank_words : List ℕ
+blank_words = 1 ∷ 6 ∷ replicate 25 0
 
 abbrev pub bucket_words_apart : List ℕ
 bucket_words_apart = 1 ∷ 6 ∷ 9 ∷ 8 ∷ 1 ∷ 7 ∷ 6 ∷ replicate 20 0
@@ -100,12 +100,12 @@ pub record Sampled : Type 0 where
   pub by_slot_apart : dummies_by_slot p own_ranks ≡ dummies_by_slot p turned_ranks → ⊥
   -- words of buckets decide no label, and do decide slots
   pub filled_first : refill_order p (after p (twice p (flat_of p (fresh_content p own_ranks))) FinalLifts) ≡ 3 ∷ 5 ∷ 1 ∷ 2 ∷ 0 ∷ []
-  pub leaves : leaves_then p zero_words ≡ 1 ∷ 2 ∷ []
+  pub leaves : leaves_then p blank_words ≡ 1 ∷ 2 ∷ []
   pub same_leaves : leaves_then p bucket_words_apart ≡ 1 ∷ 2 ∷ []
-  pub bucket_slots : slots_then p zero_words ≡ 0 ∷ 1 ∷ 2 ∷ 3 ∷ 4 ∷ []
+  pub bucket_slots : slots_then p blank_words ≡ 0 ∷ 1 ∷ 2 ∷ 3 ∷ 4 ∷ []
   pub other_bucket_slots : slots_then p bucket_words_apart ≡ 4 ∷ 3 ∷ 0 ∷ 2 ∷ 1 ∷ []
   -- they would, where a put took one
-  pub put_apart : leaves_by_bucket_word p zero_words ≡ leaves_by_bucket_word p bucket_words_apart → ⊥
+  pub put_apart : leaves_by_bucket_word p blank_words ≡ leaves_by_bucket_word p bucket_words_apart → ⊥
   -- and words of writes decide no slot; they would, where a bucket took one
-  pub write_slots : slots_then p write_words_apart ≡ slots_then p zero_words
-  pub write_apart : slots_by_write_word p zero_words ≡ slots_by_write_word p write_words_apart → ⊥
+  pub write_slots : slots_then p write_words_apart ≡ slots_then p blank_words
+  pub write_apart : slots_by_write_word p blank_words ≡ slots_by_write_word p write_words_apart → ⊥
