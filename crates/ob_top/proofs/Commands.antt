@@ -19,7 +19,7 @@ use Rattle.ob_top.specs.Begun.{AreFewLanes}
 use Rattle.ob_conduct.specs.declared.run_err.RunErr.{RunErr}
 use Rattle.ob_conduct.specs.declared.run_err.RunErr.TheVariants as failed
 use Rattle.ob_io.specs.Streams.{Flow}
-use Rattle.ob_top.specs.Outside.{blind, Outside, IsCommandFinished, IsFinished, IsOnlyTold}
+use Rattle.ob_top.specs.Outside.{Given, blind, Outside, IsCommandFinished, IsFinished, IsOnlyTold}
 use Rattle.ob_top.specs.Formats.{FormatDone}
 use Rattle.ob_vault.specs.RingKind.{ring_kind}
 use Rattle.ob_vault.specs.Lives.{ring_lives}
@@ -209,7 +209,7 @@ module _ (before mid after : Outside) (status : ℕ) (input : after.input ≡ mi
 
   -- ---- with a store
 
-  module _ {S W : Type 0} (disk : S → Disk) (flow : W → Flow) (beat : BeatKind) (drawn : List ℕ) (words : List (List ℕ)) (text : Option (Bor (List ℕ))) (old new : S) (was is : Option W) where
+  module _ {S W : Type 0} (disk : S → Disk) (flow : W → Flow) (beat : BeatKind) (tape : Given) (words : List (List ℕ)) (text : Option (Bor (List ℕ))) (old new : S) (was is : Option W) where
     -- nothing was touched
     abbrev Kept : Type 0
     Kept = (new ≡ old) × (is ≡ was)
@@ -221,10 +221,10 @@ module _ (before mid after : Outside) (status : ℕ) (input : after.input ≡ mi
     KeysTell = (f : Fault) × IsKeysRefused text f × Tell f
 
     abbrev FormatsBy : Keys → Params → Option (List ℕ) → Type 0
-    FormatsBy keys p trace = ByTrace flow was is before after status trace (start_line p) (λ t u. FormatDone ring_kind ring_lives disk keys p old new before after t u status) old new
+    FormatsBy keys p trace = ByTrace flow was is before after status trace (start_line p) (λ t u. FormatDone ring_kind ring_lives disk tape keys p old new before after t u status) old new
 
     abbrev RunsBy : Keys → ℕ → Bool → Option (List ℕ) → Type 0
-    RunsBy keys k turns trace = ByTrace flow was is before after status trace open_line (λ t u. RunDone ring_kind ring_lives disk (manner beat (not turns) k) drawn keys old new before after t u status) old new
+    RunsBy keys k turns trace = ByTrace flow was is before after status trace open_line (λ t u. RunDone ring_kind ring_lives disk (manner beat (not turns) k) tape keys old new before after t u status) old new
 
     abbrev FormatTells : List (List ℕ) → Option (List ℕ) → Type 0
     FormatTells numbers trace = Tell Memory ⊎ (((field : Field) × IsBadNumber numbers field × Tell (BadParams field))
@@ -237,17 +237,17 @@ module _ (before mid after : Outside) (status : ℕ) (input : after.input ≡ mi
     abbrev Ended : Option RunErr → Type 0
     Ended err = IsCommandFinished mid.output after.output err status
 
-    pub usage_done : (err : Option RunErr) → CommandDoes disk flow beat drawn words text old new before mid was is err → Ended err → asked_by words ≡ None → Tell Usage ⊎ Tell Memory
+    pub usage_done : (err : Option RunErr) → CommandDoes disk flow beat tape words text old new before mid was is err → Ended err → asked_by words ≡ None → Tell Usage ⊎ Tell Memory
     usage_done err (inl (f, told, inl refused, kept, same)) done nothing = usage_tells Kept kept same words text (Some f) f refl (as_finished mid.output after.output f status err told done) refused nothing
     usage_done err (inl (f, told, inr ((command, (asked, by, fits)), bad), kept, same)) done nothing = absurd (nothing_asked words asked nothing by)
     usage_done err (inr (keys, has, (command, (asked, by, fits), does))) done nothing = absurd (nothing_asked words asked nothing by)
 
-    pub audit_told : (err : Option RunErr) → CommandDoes disk flow beat drawn words text old new before mid was is err → Ended err → asked_by words ≡ Some audit_asked → Tell Memory
+    pub audit_told : (err : Option RunErr) → CommandDoes disk flow beat tape words text old new before mid was is err → Ended err → asked_by words ≡ Some audit_asked → Tell Memory
     audit_told err (inl (f, told, inl refused, kept, same)) done asks = audit_tells Kept kept same words text (Some f) f refl (as_finished mid.output after.output f status err told done) refused asks
     audit_told err (inl (f, told, inr (some, bad), kept, same)) done asks = absurd (audit_alone words some asks)
     audit_told err (inr (keys, has, (command, fits, does))) done asks = absurd (audit_alone words (command, fits) asks)
 
-    pub drill_told : (err : Option RunErr) → CommandDoes disk flow beat drawn words text old new before mid was is err → Ended err → (word : List ℕ) → asked_by words ≡ Some (drill_asked word)
+    pub drill_told : (err : Option RunErr) → CommandDoes disk flow beat tape words text old new before mid was is err → Ended err → (word : List ℕ) → asked_by words ≡ Some (drill_asked word)
         → Tell Memory ⊎ (IsBadCount word × Tell (BadParams COUNT))
     drill_told err (inl (f, told, inl refused, kept, same)) done word asks = drill_tells Kept kept same words text (Some f) f refl (as_finished mid.output after.output f status err told done) word refused asks
     drill_told err (inl (f, told, inr (some, bad), kept, same)) done word asks = absurd (drill_alone words some word asks)
@@ -260,8 +260,8 @@ module _ (before mid after : Outside) (status : ℕ) (input : after.input ≡ mi
           let now : Ended (Some failed.Unwatched) = subst Ended told done in
           (kept, only_told SinkFault same now.status_is now.line)
 
-      by_trace : (command : Command) (keys : Keys) (traced : Bool) (trace : Option (List ℕ)) → traced ≡ is_some trace → TracedDoes disk flow beat drawn command keys old new before mid was is err traced → (Done : Trace → Trace → Type 0)
-          → ((t u : Trace) → WatchedDoes disk beat drawn command keys old new before mid t u err → Done t u) → ByTrace flow was is before after status trace (first_line (start_for command)) Done old new
+      by_trace : (command : Command) (keys : Keys) (traced : Bool) (trace : Option (List ℕ)) → traced ≡ is_some trace → TracedDoes disk flow beat tape command keys old new before mid was is err traced → (Done : Trace → Trace → Type 0)
+          → ((t u : Trace) → WatchedDoes disk beat tape command keys old new before mid t u err → Done t u) → ByTrace flow was is before after status trace (first_line (start_for command)) Done old new
       by_trace command keys false None same (kept, does) Done so = (kept, so blind blind does)
       by_trace command keys true (Some file) same (inl (none, kept, un)) Done so = let told = untraced_told un in inl (none, kept, told.0, told.1)
       by_trace command keys true (Some file) same (inr (t, u, has, inl (broken, still, un))) Done so = let told = untraced_told un in inr (t, u, has, inl (broken, still, told.0, told.1))
@@ -275,28 +275,28 @@ module _ (before mid after : Outside) (status : ℕ) (input : after.input ≡ mi
           not_both : false ≡ true → ⊥
           not_both one = cc one
 
-      formats_by : (store keys : List ℕ) (numbers : List (List ℕ)) (trace : Option (List ℕ)) (found : Keys) (command : Command) → IsCommandOf (format_asked store keys numbers trace) command → TracedDoes disk flow beat drawn command found old new before mid was is err (traced_of command)
+      formats_by : (store keys : List ℕ) (numbers : List (List ℕ)) (trace : Option (List ℕ)) (found : Keys) (command : Command) → IsCommandOf (format_asked store keys numbers trace) command → TracedDoes disk flow beat tape command found old new before mid was is err (traced_of command)
           → (p : Params) × AreParams numbers p × FormatsBy found p trace
       formats_by store keys numbers trace found (Format p traced) fits does = (
         p,
         fits.0,
-        by_trace (Format p traced) found traced trace fits.1 does (λ t u. FormatDone ring_kind ring_lives disk found p old new before after t u status)
-            (λ t u watched. format_done ring_kind ring_quiet ring_lives disk found p old new before mid after t u status err watched.0 watched.1 watched.2 input done),
+        by_trace (Format p traced) found traced trace fits.1 does (λ t u. FormatDone ring_kind ring_lives disk tape found p old new before after t u status)
+            (λ t u watched. format_done ring_kind ring_quiet ring_lives disk tape found p old new before mid after t u status err watched.0 watched.1 watched.2 input done),
       )
       formats_by store keys numbers trace found (Run k by_hand traced) fits does = absurd fits
 
-      runs_by : (store keys : List ℕ) (lanes : Option (List ℕ)) (turns : Bool) (trace : Option (List ℕ)) (found : Keys) (command : Command) → IsCommandOf (run_asked store keys lanes turns trace) command → TracedDoes disk flow beat drawn command found old new before mid was is err (traced_of command)
+      runs_by : (store keys : List ℕ) (lanes : Option (List ℕ)) (turns : Bool) (trace : Option (List ℕ)) (found : Keys) (command : Command) → IsCommandOf (run_asked store keys lanes turns trace) command → TracedDoes disk flow beat tape command found old new before mid was is err (traced_of command)
           → (k : ℕ) × AreLanes lanes k × RunsBy found k turns trace
       runs_by store keys lanes turns trace found (Run k by_hand traced) (are, same, given) does = (
         k,
         are,
         subst (λ (b : Bool). RunsBy found k b trace) same
-            (by_trace (Run k by_hand traced) found traced trace given does (λ t u. RunDone ring_kind ring_lives disk (manner beat (not by_hand) k) drawn found old new before after t u status)
-            (λ t u on. run_done ring_kind ring_quiet ring_lives disk (manner beat (not by_hand) k) drawn found old new before mid after t u input status err on done)),
+            (by_trace (Run k by_hand traced) found traced trace given does (λ t u. RunDone ring_kind ring_lives disk (manner beat (not by_hand) k) tape found old new before after t u status)
+            (λ t u on. run_done ring_kind ring_quiet ring_lives disk (manner beat (not by_hand) k) tape found old new before mid after t u input status err on done)),
       )
       runs_by store keys lanes turns trace found (Format p traced) fits does = absurd fits
 
-    pub format_does : (err : Option RunErr) → CommandDoes disk flow beat drawn words text old new before mid was is err → Ended err
+    pub format_does : (err : Option RunErr) → CommandDoes disk flow beat tape words text old new before mid was is err → Ended err
         → (store keys : List ℕ) (numbers : List (List ℕ)) (trace : Option (List ℕ)) → asked_by words ≡ Some (format_asked store keys numbers trace) → FormatTells numbers trace
     format_does err (inl (f, told, inl refused, kept, same)) done store keys numbers trace asks = early (format_tells Kept kept same words text (Some f) f refl (as_finished mid.output after.output f status err told done) store keys numbers trace refused asks)
     format_does err (inl (f, told, inr ((command, (asked, by, fits)), bad), kept, same)) done store keys numbers trace asks =
@@ -306,7 +306,7 @@ module _ (before mid after : Outside) (status : ℕ) (input : after.input ≡ mi
         let (p, are, its) = formats_by err done store keys numbers trace found command (params_asked words asked command store keys numbers trace by fits asks) does in
         inr (inr (p, are, inr (found, has, its)))
 
-    pub run_does : (err : Option RunErr) → CommandDoes disk flow beat drawn words text old new before mid was is err → Ended err
+    pub run_does : (err : Option RunErr) → CommandDoes disk flow beat tape words text old new before mid was is err → Ended err
         → (store keys : List ℕ) (lanes : Option (List ℕ)) (turns : Bool) (trace : Option (List ℕ)) → asked_by words ≡ Some (run_asked store keys lanes turns trace) → RunTells lanes turns trace
     run_does err (inl (f, told, inl refused, kept, same)) done store keys lanes turns trace asks = early (run_tells Kept kept same words text (Some f) f refl (as_finished mid.output after.output f status err told done) store keys lanes turns trace refused asks)
     run_does err (inl (f, told, inr ((command, (asked, by, fits)), bad), kept, same)) done store keys lanes turns trace asks =

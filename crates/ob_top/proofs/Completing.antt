@@ -28,7 +28,7 @@ use Rattle.ob_base.specs.declared.fault.Field.{Field}
 use Rattle.ob_base.specs.declared.fault.Field.TheVariants.{LANES}
 use Rattle.ob_words.specs.Reading.{asked_by, format_asked, run_asked}
 use Rattle.ob_words.specs.Work.{AreParams, IsBadNumber, AreLanes, AreBadLanes, HasKeys, IsKeysRefused}
-use Rattle.ob_top.specs.Outside.{blind, HasTrace, Outside, IsOnlyTold}
+use Rattle.ob_top.specs.Outside.{Given, blind, HasTrace, Outside, IsOnlyTold}
 use Rattle.ob_top.specs.Formats.{FormatTold, FormatDone}
 use Rattle.ob_vault.specs.RingKind.{RingMayStop, ring_kind}
 use Rattle.ob_vault.specs.Lives.{ring_lives}
@@ -50,21 +50,21 @@ use Rattle.ob_words.proofs.Named.{no_bad_number, no_bad_lanes, one_keys, keys_st
 rose_added : (text : List ℕ) (t u : Trace) → AddsOnly text t u → t.broken ≡ false → u.broken ≡ true → Rose t.faults u.faults
 rose_added text t u adds whole broken = subst (λ (b : Bool). BreaksOnly false b t.faults u.faults) broken (subst (λ (b : Bool). BreaksOnly b u.broken t.faults u.faults) whole adds.breaks)
 
-format_fault : {S : Type 0} (disk : S → Disk) (keys : Keys) (p : Params) (old new : S) (before after : Outside) (t u : Trace) (f : Option RunErr) → FormatTold ring_kind ring_lives disk keys p old new before.output after.output t u f
+format_fault : {S : Type 0} (disk : S → Disk) (tape : Given) (keys : Keys) (p : Params) (old new : S) (before after : Outside) (t u : Trace) (f : Option RunErr) → FormatTold ring_kind ring_lives disk tape keys p old new before.output after.output t u f
     → (Rose (disk old).faults (disk new).faults → ⊥) → (Rose before.output.faults after.output.faults → ⊥) → (t.broken ≡ false) → (Rose t.faults u.faults → ⊥) → (status_of (told_fault f) ≡ 0) ⊎ (status_of (told_fault f) ≡ 9)
-format_fault disk keys p old new before after t u None told store output whole watch = inl refl
-format_fault disk keys p old new before after t u (Some failed.Unwatched) told store output whole watch = absurd (watch (rose_added (lines_of (ring_kind.format_notes p)) t u told.2.0 whole told.2.1))
-format_fault disk keys p old new before after t u (Some (failed.Fault fault.SinkFault)) told store output whole watch = absurd (output told.1)
-format_fault disk keys p old new before after t u (Some (failed.Fault (fault.StoreFault unsure))) told store output whole watch = absurd (store told.1)
-format_fault disk keys p old new before after t u (Some (failed.Fault fault.Memory)) told store output whole watch = inr refl
-format_fault disk keys p old new before after t u (Some (failed.Fault fault.Usage)) told store output whole watch = inr (ap (λ (x : Fault). status_of (Some x)) told.0)
-format_fault disk keys p old new before after t u (Some (failed.Fault (fault.BadScript line))) told store output whole watch = inr (ap (λ (x : Fault). status_of (Some x)) told.0)
-format_fault disk keys p old new before after t u (Some (failed.Fault (fault.BadParams field))) told store output whole watch = inr (ap (λ (x : Fault). status_of (Some x)) told.0)
-format_fault disk keys p old new before after t u (Some (failed.Fault fault.NotStore)) told store output whole watch = inr (ap (λ (x : Fault). status_of (Some x)) told.0)
-format_fault disk keys p old new before after t u (Some (failed.Fault (fault.Damaged cell check kept computed))) told store output whole watch = inr (ap (λ (x : Fault). status_of (Some x)) told.0)
-format_fault disk keys p old new before after t u (Some (failed.Fault (fault.StashFull rows))) told store output whole watch = inr (ap (λ (x : Fault). status_of (Some x)) told.0)
-format_fault disk keys p old new before after t u (Some (failed.Fault (fault.Worn number))) told store output whole watch = inr (ap (λ (x : Fault). status_of (Some x)) told.0)
-format_fault disk keys p old new before after t u (Some (failed.Fault fault.SourceFault)) told store output whole watch = inr (ap (λ (x : Fault). status_of (Some x)) told.0)
+format_fault disk tape keys p old new before after t u None told store output whole watch = inl refl
+format_fault disk tape keys p old new before after t u (Some failed.Unwatched) told store output whole watch = absurd (watch (rose_added (lines_of (ring_kind.format_notes p)) t u told.2.0 whole told.2.1))
+format_fault disk tape keys p old new before after t u (Some (failed.Fault fault.SinkFault)) told store output whole watch = absurd (output told.1)
+format_fault disk tape keys p old new before after t u (Some (failed.Fault (fault.StoreFault unsure))) told store output whole watch = absurd (store told.1)
+format_fault disk tape keys p old new before after t u (Some (failed.Fault fault.Memory)) told store output whole watch = inr refl
+format_fault disk tape keys p old new before after t u (Some (failed.Fault fault.Usage)) told store output whole watch = inr (ap (λ (x : Fault). status_of (Some x)) told.0)
+format_fault disk tape keys p old new before after t u (Some (failed.Fault (fault.BadScript line))) told store output whole watch = inr (ap (λ (x : Fault). status_of (Some x)) told.0)
+format_fault disk tape keys p old new before after t u (Some (failed.Fault (fault.BadParams field))) told store output whole watch = inr (ap (λ (x : Fault). status_of (Some x)) told.0)
+format_fault disk tape keys p old new before after t u (Some (failed.Fault fault.NotStore)) told store output whole watch = inr (ap (λ (x : Fault). status_of (Some x)) told.0)
+format_fault disk tape keys p old new before after t u (Some (failed.Fault (fault.Damaged cell check kept computed))) told store output whole watch = inr (ap (λ (x : Fault). status_of (Some x)) told.0)
+format_fault disk tape keys p old new before after t u (Some (failed.Fault (fault.StashFull rows))) told store output whole watch = inr (ap (λ (x : Fault). status_of (Some x)) told.0)
+format_fault disk tape keys p old new before after t u (Some (failed.Fault (fault.Worn number))) told store output whole watch = inr (ap (λ (x : Fault). status_of (Some x)) told.0)
+format_fault disk tape keys p old new before after t u (Some (failed.Fault fault.SourceFault)) told store output whole watch = inr (ap (λ (x : Fault). status_of (Some x)) told.0)
 
 -- ---- run
 
@@ -119,26 +119,26 @@ module _ (store : StoreKind) (laws : AreStandingLaws store) (life : LifeWords st
       (subst (λ (q : Params). store.refuses can.keys q (disk old).cells f) (one_p opening.p opening.head) (opening.read can.tells))) (λ is. can.store_holds (opening.cause is))
 
   -- a run was stopped by a fault that may do that even so
-  pub record StopsFor (by : Manner) (drawn : List ℕ) (status : ℕ) : Type 0 where
+  pub record StopsFor (by : Manner) (tape : Given) (status : ℕ) : Type 0 where
     pub told : Fault
     pub may : store.may_stop can.p told
     pub status_is : status ≡ status_of (Some told)
     pub records : List (EpochRecord ℕ)
     pub first : Trace
     pub last : Trace
-    pub ran : Ran store life disk by drawn can.keys old new before after first last records (Some (failed.Fault told))
+    pub ran : Ran store life disk by tape can.keys old new before after first last records (Some (failed.Fault told))
 
-  module _ (by : Manner) (drawn : List ℕ) (records : List (EpochRecord ℕ)) (t u : Trace) (whole : t.broken ≡ false) (watch : Rose t.faults u.faults → ⊥) where
-    ran_keys : (f : Option RunErr) (r : Ran store life disk by drawn can.keys old new before after t u records f) → r.p.keys ≡ can.p.keys
+  module _ (by : Manner) (tape : Given) (records : List (EpochRecord ℕ)) (t u : Trace) (whole : t.broken ≡ false) (watch : Rose t.faults u.faults → ⊥) where
+    ran_keys : (f : Option RunErr) (r : Ran store life disk by tape can.keys old new before after t u records f) → r.p.keys ≡ can.p.keys
     ran_keys f r = many_keys r.p r.opened.head
 
-    ran_epoch : (f : Option RunErr) (r : Ran store life disk by drawn can.keys old new before after t u records f) → store.epoch r.found ≡ can.at.epoch
+    ran_epoch : (f : Option RunErr) (r : Ran store life disk by tape can.keys old new before after t u records f) → store.epoch r.found ≡ can.at.epoch
     ran_epoch f r = laws.finds can.keys can.p can.generation (disk old).cells can.at r.found can.stands (subst (λ (q : Params). store.finds can.keys q (disk old).cells r.found) (one_p r.p r.opened.head) (r.opened.finds can.tells))
 
-    ran_script : (f : Option RunErr) (r : Ran store life disk by drawn can.keys old new before after t u records f) → r.script ≡ script
+    ran_script : (f : Option RunErr) (r : Ran store life disk by tape can.keys old new before after t u records f) → r.script ≡ script
     ran_script f r = came_one r.p.keys r.script (ran_keys f r) r.opened.came
 
-    ran_few : (f : Option RunErr) (r : Ran store life disk by drawn can.keys old new before after t u records f) → length records ≤ length script.txns
+    ran_few : (f : Option RunErr) (r : Ran store life disk by tape can.keys old new before after t u records f) → length records ≤ length script.txns
     ran_few f r =
         let served = r.is_served.served in
         let epochs = few_epochs records served.some in
@@ -146,22 +146,22 @@ module _ (store : StoreKind) (laws : AreStandingLaws store) (life : LifeWords st
         subst (λ (s : Scripts). length records ≤ length s.txns) (ran_script f r) (omega (arith, epochs, txns))
 
     -- what stands was opened, so its map was found
-    ran_map : (f : Option RunErr) (r : Ran store life disk by drawn can.keys old new before after t u records f) → store.is_map can.keys can.p (disk r.between) r.found can.at.content
+    ran_map : (f : Option RunErr) (r : Ran store life disk by tape can.keys old new before after t u records f) → store.is_map can.keys can.p (disk r.between) r.found can.at.content
     ran_map f r =
         let same = one_p r.p r.opened.head in
         subst (λ (q : Params). store.is_map can.keys q (disk r.between) r.found can.at.content) same
         (r.stood can.at can.tells (can.generation, subst (λ (q : Params). store.stands can.keys q can.generation (disk old).cells can.at) (sym same) can.stands)).content
 
     -- a fault of the kind is one that may stop it even so
-    may_stop : (f : Fault) (r : Ran store life disk by drawn can.keys old new before after t u records (Some (failed.Fault f))) (h : store.Hidden) (so_far : List Shape) (call : Option VaultCall)
-        → store.causes can.keys r.p r.found (disk r.between) (disk new) h so_far (length records) call drawn f → store.may_stop can.p f
+    may_stop : (f : Fault) (r : Ran store life disk by tape can.keys old new before after t u records (Some (failed.Fault f))) (h : store.Hidden) (so_far : List Shape) (call : Option VaultCall)
+        → store.causes can.keys r.p r.found (disk r.between) (disk new) h so_far (length records) call tape.words f → store.may_stop can.p f
     may_stop f r h so_far call cause =
-        laws.serves can.keys can.p can.generation (length script.txns) (length records) r.found (disk r.between) (disk new) h so_far call drawn f can.at.content
+        laws.serves can.keys can.p can.generation (length script.txns) (length records) r.found (disk r.between) (disk new) h so_far call tape.words f can.at.content
         (subst (λ e. store.lasts can.p can.generation e (length script.txns)) (sym (ran_epoch (Some (failed.Fault f)) r)) can.lasts) (ran_few (Some (failed.Fault f)) r) (ran_map (Some (failed.Fault f)) r)
-        (subst (λ (q : Params). store.causes can.keys q r.found (disk r.between) (disk new) h so_far (length records) call drawn f) (one_p r.p r.opened.head) cause)
+        (subst (λ (q : Params). store.causes can.keys q r.found (disk r.between) (disk new) h so_far (length records) call tape.words f) (one_p r.p r.opened.head) cause)
 
-    ran_fault : (f : Fault) (r : Ran store life disk by drawn can.keys old new before after t u records (Some (failed.Fault f))) (h : store.Hidden) (so_far : List Shape) (call : Option VaultCall)
-        → EndsFor store can.keys r.p r.found (disk r.between) h so_far (length records) call drawn (disk old) (disk new) before.output after.output t u (Some (failed.Fault f))
+    ran_fault : (f : Fault) (r : Ran store life disk by tape can.keys old new before after t u records (Some (failed.Fault f))) (h : store.Hidden) (so_far : List Shape) (call : Option VaultCall)
+        → EndsFor store can.keys r.p r.found (disk r.between) h so_far (length records) call tape.words (disk old) (disk new) before.output after.output t u (Some (failed.Fault f))
         → (status_of (Some f) ≡ 9) ⊎ store.may_stop can.p f
     ran_fault fault.Memory r h so_far call cause = inl refl
     ran_fault fault.SinkFault r h so_far call cause = absurd (can.output_holds cause)
@@ -177,20 +177,20 @@ module _ (store : StoreKind) (laws : AreStandingLaws store) (life : LifeWords st
 
     -- it answers 0, or 9, or tells of a fault that may stop it even so
     abbrev pub Answers : ℕ → Type 0
-    Answers status = (status ≡ 0) ⊎ ((status ≡ 9) ⊎ StopsFor by drawn status)
+    Answers status = (status ≡ 0) ⊎ ((status ≡ 9) ⊎ StopsFor by tape status)
 
-    by_fault : (status : ℕ) (f : Fault) → status ≡ status_of (Some f) → Ran store life disk by drawn can.keys old new before after t u records (Some (failed.Fault f)) → (status_of (Some f) ≡ 9) ⊎ store.may_stop can.p f → Answers status
+    by_fault : (status : ℕ) (f : Fault) → status ≡ status_of (Some f) → Ran store life disk by tape can.keys old new before after t u records (Some (failed.Fault f)) → (status_of (Some f) ≡ 9) ⊎ store.may_stop can.p f → Answers status
     by_fault status f is ran (inl nine) = inr (inl (is ∙ nine))
     by_fault status f is ran (inr may) = inr (inr (record { told = f; may = may; status_is = is; records = records; first = t; last = u; ran = ran }))
 
-    answers : (status : ℕ) (f : Option RunErr) → status ≡ status_of (told_fault f) → Went store life disk by drawn can.keys old new before after t u records f → Answers status
+    answers : (status : ℕ) (f : Option RunErr) → status ≡ status_of (told_fault f) → Went store life disk by tape can.keys old new before after t u records f → Answers status
     answers status None is ran = inl is
     answers status (Some f) is (inl (none, ended, lives)) = inr (inl (is ∙ early by.lanes t u f whole watch ended))
     answers status (Some (failed.Fault f)) is (inr ran) = by_fault status f is ran (ran_fault f ran ran.traced.behind (shapes (calls ran.is_served.served.acts)) (refused (calls ran.is_served.served.acts)) ran.cause)
     answers status (Some failed.Unwatched) is (inr ran) = absurd (watch ran.cause.1)
 
-  pub run_answers : (by : Manner) (drawn : List ℕ) (status : ℕ) (t u : Trace) → t.broken ≡ false → (Rose t.faults u.faults → ⊥) → RunDone store life disk by drawn can.keys old new before after t u status → (status ≡ 0) ⊎ ((status ≡ 9) ⊎ StopsFor by drawn status)
-  run_answers by drawn status t u whole watch d = answers by drawn d.records t u whole watch status d.err d.status_is d.went
+  pub run_answers : (by : Manner) (tape : Given) (status : ℕ) (t u : Trace) → t.broken ≡ false → (Rose t.faults u.faults → ⊥) → RunDone store life disk by tape can.keys old new before after t u status → (status ≡ 0) ⊎ ((status ≡ 9) ⊎ StopsFor by tape status)
+  run_answers by tape status t u whole watch d = answers by tape d.records t u whole watch status d.err d.status_is d.went
 
 -- ---- the trace
 
@@ -221,7 +221,7 @@ module _ {S W : Type 0} (flow : W → Flow) (was is : Option W) (before after : 
 
 -- ---- both
 
-module _ {S W : Type 0} (disk : S → Disk) (flow : W → Flow) (beat : BeatKind) (drawn : List ℕ) (words : List (List ℕ)) (text : Option (Bor (List ℕ))) (old new : S) (was is : Option W) (before after : Outside) (status : ℕ) where
+module _ {S W : Type 0} (disk : S → Disk) (flow : W → Flow) (beat : BeatKind) (tape : Given) (words : List (List ℕ)) (text : Option (Bor (List ℕ))) (old new : S) (was is : Option W) (before after : Outside) (status : ℕ) where
   abbrev pub Tell : Fault → Type 0
   Tell f = ((new ≡ old) × (is ≡ was)) × IsOnlyTold f before after status
 
@@ -231,27 +231,27 @@ module _ {S W : Type 0} (disk : S → Disk) (flow : W → Flow) (beat : BeatKind
 
   abbrev pub FormatTells : List (List ℕ) → Option (List ℕ) → Type 0
   FormatTells numbers trace = Tell fault.Memory ⊎ (((field : Field) × IsBadNumber numbers field × Tell (fault.BadParams field))
-      ⊎ ((p : Params) × AreParams numbers p × (KeysTell ⊎ ((keys : Keys) × HasKeys text keys × ByTrace flow was is before after status trace (start_line p) (λ t u. FormatDone ring_kind ring_lives disk keys p old new before after t u status) old new))))
+      ⊎ ((p : Params) × AreParams numbers p × (KeysTell ⊎ ((keys : Keys) × HasKeys text keys × ByTrace flow was is before after status trace (start_line p) (λ t u. FormatDone ring_kind ring_lives disk tape keys p old new before after t u status) old new))))
 
   abbrev pub RunTells : Option (List ℕ) → Bool → Option (List ℕ) → Type 0
   RunTells lanes turns trace = Tell fault.Memory ⊎ ((AreBadLanes lanes × Tell (fault.BadParams LANES))
-      ⊎ ((k : ℕ) × AreLanes lanes k × (KeysTell ⊎ ((keys : Keys) × HasKeys text keys × ByTrace flow was is before after status trace open_line (λ t u. RunDone ring_kind ring_lives disk (manner beat (not turns) k) drawn keys old new before after t u status) old new))))
+      ⊎ ((k : ℕ) × AreLanes lanes k × (KeysTell ⊎ ((keys : Keys) × HasKeys text keys × ByTrace flow was is before after status trace open_line (λ t u. RunDone ring_kind ring_lives disk (manner beat (not turns) k) tape keys old new before after t u status) old new))))
 
   format_whole : (can : CanFormat flow words text (disk old) (disk new) was is before after) → FormatTells can.numbers can.trace → (status ≡ 0) ⊎ (status ≡ 9)
   format_whole can (inl (kept, told)) = inr told.status_is
   format_whole can (inr (inl (field, bad, (kept, told)))) = absurd (no_bad_number can.numbers can.p field can.params bad)
   format_whole can (inr (inr (p, are, inl (f, refused, (kept, told))))) = absurd (keys_stand text can.keys f can.has refused)
-  format_whole can (inr (inr (p, are, inr (keys, has, by)))) = of_trace flow was is before after status (start_line p) can.trace (λ t u. FormatDone ring_kind ring_lives disk keys p old new before after t u status) old new can.trace_holds by ((status ≡ 0) ⊎ (status ≡ 9))
-      (λ t u whole watch d. ⊎_elim (λ none. inl (d.status_is ∙ none)) (λ nine. inr (d.status_is ∙ nine)) (format_fault disk keys p old new before after t u d.err d.told can.store_holds can.output_holds whole watch))
+  format_whole can (inr (inr (p, are, inr (keys, has, by)))) = of_trace flow was is before after status (start_line p) can.trace (λ t u. FormatDone ring_kind ring_lives disk tape keys p old new before after t u status) old new can.trace_holds by ((status ≡ 0) ⊎ (status ≡ 9))
+      (λ t u whole watch d. ⊎_elim (λ none. inl (d.status_is ∙ none)) (λ nine. inr (d.status_is ∙ nine)) (format_fault disk tape keys p old new before after t u d.err d.told can.store_holds can.output_holds whole watch))
 
   module _ (script : Scripts) (can : CanRun flow words text (disk old) (disk new) was is before after ring_kind script) where
     abbrev by : Manner
     by = manner beat (not can.turns) can.k
 
     abbrev Full : Type 0
-    Full = StopsFull disk flow beat drawn words text was is before after status by can.keys can.p old new
+    Full = StopsFull disk flow beat tape words text was is before after status by can.keys can.p old new
 
-    by_stop : (f : Fault) → RingMayStop can.p f → status ≡ status_of (Some f) → (records : List (EpochRecord ℕ)) (t u : Trace) → Ran ring_kind ring_lives disk by drawn can.keys old new before after t u records (Some (failed.Fault f)) → Full
+    by_stop : (f : Fault) → RingMayStop can.p f → status ≡ status_of (Some f) → (records : List (EpochRecord ℕ)) (t u : Trace) → Ran ring_kind ring_lives disk by tape can.keys old new before after t u records (Some (failed.Fault f)) → Full
     by_stop (fault.StashFull rows) (past, few) is records t u ran = record { status_is = is; fewer = omega (arith, past, few); records = records; rows = rows; first = t; last = u; ran = ran }
     by_stop fault.Memory may is records t u ran = absurd may
     by_stop fault.Usage may is records t u ran = absurd may
@@ -265,7 +265,7 @@ module _ {S W : Type 0} (disk : S → Disk) (flow : W → Flow) (beat : BeatKind
     by_stop fault.SinkFault may is records t u ran = absurd may
 
     abbrev Stopped : Type 0
-    Stopped = StopsFor ring_kind ring_keeps ring_lives disk words text old new flow was is before after script can by drawn status
+    Stopped = StopsFor ring_kind ring_keeps ring_lives disk words text old new flow was is before after script can by tape status
 
     by_answer : (status ≡ 0) ⊎ ((status ≡ 9) ⊎ Stopped) → (status ≡ 0) ⊎ ((status ≡ 9) ⊎ Full)
     by_answer (inl none) = inl none
@@ -276,15 +276,15 @@ module _ {S W : Type 0} (disk : S → Disk) (flow : W → Flow) (beat : BeatKind
     run_whole (inl (kept, told)) = inr (inl told.status_is)
     run_whole (inr (inl (bad, (kept, told)))) = absurd (no_bad_lanes can.lanes can.k can.in_range bad)
     run_whole (inr (inr (k, are, inl (f, refusal, (kept, told))))) = absurd (keys_stand text can.keys f can.has refusal)
-    run_whole (inr (inr (k, are, inr (keys, has, done)))) = of_trace flow was is before after status open_line can.trace (λ t u. RunDone ring_kind ring_lives disk (manner beat (not can.turns) k) drawn keys old new before after t u status) old new can.trace_holds done
+    run_whole (inr (inr (k, are, inr (keys, has, done)))) = of_trace flow was is before after status open_line can.trace (λ t u. RunDone ring_kind ring_lives disk (manner beat (not can.turns) k) tape keys old new before after t u status) old new can.trace_holds done
         ((status ≡ 0) ⊎ ((status ≡ 9) ⊎ Full)) (λ t u whole watch d.
-        by_answer (run_answers ring_kind ring_keeps ring_lives disk words text old new flow was is before after script can by drawn status t u whole watch
-        (subst (λ (k : Keys). RunDone ring_kind ring_lives disk by drawn k old new before after t u status) (one_keys text keys can.keys has can.has)
-        (subst (λ m. RunDone ring_kind ring_lives disk (manner beat (not can.turns) m) drawn keys old new before after t u status) (one_lanes can.lanes k can.k are can.in_range) d))))
+        by_answer (run_answers ring_kind ring_keeps ring_lives disk words text old new flow was is before after script can by tape status t u whole watch
+        (subst (λ (k : Keys). RunDone ring_kind ring_lives disk by tape k old new before after t u status) (one_keys text keys can.keys has can.has)
+        (subst (λ m. RunDone ring_kind ring_lives disk (manner beat (not can.turns) m) tape keys old new before after t u status) (one_lanes can.lanes k can.k are can.in_range) d))))
 
   pub completes : ((store keys : List ℕ) (numbers : List (List ℕ)) (trace : Option (List ℕ)) → asked_by words ≡ Some (format_asked store keys numbers trace) → FormatTells numbers trace)
       → ((store keys : List ℕ) (lanes : Option (List ℕ)) (turns : Bool) (trace : Option (List ℕ)) → asked_by words ≡ Some (run_asked store keys lanes turns trace) → RunTells lanes turns trace)
-      → DoesWhatItCan disk flow beat drawn words text was is before after status old new
+      → DoesWhatItCan disk flow beat tape words text was is before after status old new
   completes format run = (
     λ can. format_whole can (format can.store_path can.keys_path can.numbers can.trace can.asked),
     λ script can. run_whole script can (run can.store_path can.keys_path can.lanes can.turns can.trace can.asked),

@@ -47,7 +47,7 @@ use Rattle.ob_conduct.specs.declared.run_err.RunErr.{RunErr}
 use Rattle.ob_top.specs.Drills.{drill_numbers}
 use Rattle.ob_top.specs.Outside.{blind}
 use Rattle.ob_top.proofs.Lent.{IsLent, rest_same, serves_lent}
-use Rattle.ob_top.proofs.RingServing.{at_rest, at_stop, tells}
+use Rattle.ob_top.proofs.RingServing.{at_rest, at_stop, tells, told_by}
 use Rattle.ob_top.proofs.SelfTest.{holds_behind, all_committed, its, its_length, keys_are, reads_called}
 use Rattle.ob_top.proofs.Serving.{Behind, CallsBehind, behind, counted_ends}
 use Rattle.ob_top.proofs.Wanting.{blind_chain, call_wants, chained, few_ended, reads_answered, run_wants}
@@ -69,7 +69,7 @@ lent_goes a b c d x y both = record { anchors = rest_same _ _ _ _ (rest_same _ _
 
 module _ {V S : Type 0} (k : Kind V) (counts : V → VaultCounts) (agrees : (x : V) (u : VaultState) → k.holds x u → counts_of u ≡ counts x) (disk : S → Disk) (counts_now : (x : S) (t : Clock) (c : Image) → NotAfter t (disk x).moment → (disk x).may_leave c → (disk x).left_since t c)
     (only_now : (x : S) (c : Image) → (disk x).left_since (disk x).moment c → (disk x).may_leave c) (runs : V → Running S) (words : HasRingWords k disk runs) (lent : IsLent k disk runs) (keys : Keys) (p : Params) (numbers : numbers_of p ≡ drill_numbers)
-    (found : Found) (f : RingFound) (first : V) (goes : GoesOnFrom keys p found f) (run_is : (runs first).run ≡ f.run) (lanes : (runs first).lanes ≡ 4) (has : HasPlanned f.run f.content f.records) (none : (runs first).drawn ≡ [])
+    (found : Found) (f : RingFound) (first : V) (goes : GoesOnFrom keys p found f) (run_is : (runs first).run ≡ f.run) (lanes : (runs first).lanes ≡ 4) (has : HasPlanned f.run f.content f.records) (none : (runs first).drawn ≡ []) (started : (runs first).present ≡ f.run.sealer.generation)
     (begins : (f.run).epoch ≡ 0) (left : (f.run).left ≡ p.batches) (is_map : IsRingMap keys p (disk (runs first).store) f empty) (epoch_is : (counts first).epoch ≡ ((runs first).run).epoch) (left_is : (counts first).left ≡ ((runs first).run).left) where
   abbrev opened : Disk
   opened = disk (runs first).store
@@ -88,10 +88,10 @@ module _ {V S : Type 0} (k : Kind V) (counts : V → VaultCounts) (agrees : (x :
 
   -- where the vault is behind calls that were answered, and what was seen of them
   behind_blind : (steps : List (VaultCall × VaultAnswer)) (last : V) → (chain : AllCalled k first steps last) → AreAnswered steps
-      → Behind k ring_kind disk (λ v. (runs v).store) keys 4 p f first At (λ v. (runs v).drawn) (ring_does k disk runs words keys 4 p f opened) (tells k disk counts_now only_now runs words keys 4 p f first) ring_lives (at_rest k disk counts_now only_now runs words keys 4 p f first)
+      → Behind k ring_kind disk (λ v. (runs v).store) keys 4 p f first At (λ v. told_by (runs v)) (ring_does k disk runs words keys 4 p f opened) (tells k disk counts_now only_now runs words keys 4 p f first) ring_lives (at_rest k disk counts_now only_now runs words keys 4 p f first)
       (at_stop k disk counts_now only_now runs words keys 4 p f first) (ring_public p f) (ring_hidden f) [] 0 first blind steps (blind_chain k first steps last chain).0 last blind
   behind_blind steps last chain all =
-      behind k ring_kind disk (λ v. (runs v).store) keys 4 p f first At (λ v. (runs v).drawn) (ring_does k disk runs words keys 4 p f opened) (tells k disk counts_now only_now runs words keys 4 p f first) ring_lives (at_rest k disk counts_now only_now runs words keys 4 p f first)
+      behind k ring_kind disk (λ v. (runs v).store) keys 4 p f first At (λ v. told_by (runs v)) (ring_does k disk runs words keys 4 p f opened) (tells k disk counts_now only_now runs words keys 4 p f first) ring_lives (at_rest k disk counts_now only_now runs words keys 4 p f first)
       (at_stop k disk counts_now only_now runs words keys 4 p f first) (ring_public p f) (ring_hidden f) [] 0 first blind steps (blind_chain k first steps last chain).0 last blind begun (blind_chain k first steps last chain).1 all
 
   -- a call was refused behind calls that were answered
@@ -120,16 +120,16 @@ module _ {V S : Type 0} (k : Kind V) (counts : V → VaultCounts) (agrees : (x :
 
     -- the script was served as `run` serves one
     served_as : (mid : V) (result : Result (Unit {0}) RunErr) → WasRun k counts beat p script runners first mid result
-        → (s : ServedOver ring_kind ring_lives disk (manner beat true 4) keys p f (f.run).sealer script (runs mid).drawn (runs first).store (runs mid).store no_output no_output blind blind (err_of result))
+        → (s : ServedOver ring_kind ring_lives disk (manner beat true 4) keys p f (f.run).sealer script (told_by (runs mid)) (runs first).store (runs mid).store no_output no_output blind blind (err_of result))
         × CallsBehind k first (calls s.is_served.served.acts) mid (err_of result)
     served_as mid result run =
         serves_lent first k beat true p script blind runners no_output mid blind run.ran no_output result _ _ (run.desk, run.by) refl (subst AreSound (sym script_is) (drill_sound n)) are disk counts_now only_now runs words lent keys 4 found f f.run goes run_is refl epoch_is left_is
-        (omega (arith, begins)) (omega (arith, left)) lanes (omega arith, omega arith) has none
+        (omega (arith, begins)) (omega (arith, left)) lanes (omega arith, omega arith) has none started
 
     -- all was served, and then read
     pub served_and_read : (last : V) (d : Drilled) → HasDrilled k counts beat p script runners first last d → IsServedAndRead disk beat keys p n f (runs first).store (runs last).store
     served_and_read last d h =
-        let (s, its) = subst (λ (x : Scripts). (s : ServedOver ring_kind ring_lives disk (manner beat true 4) keys p f (f.run).sealer x (runs h.mid).drawn (runs first).store (runs h.mid).store no_output no_output blind blind None) × CallsBehind k first
+        let (s, its) = subst (λ (x : Scripts). (s : ServedOver ring_kind ring_lives disk (manner beat true 4) keys p f (f.run).sealer x (told_by (runs h.mid)) (runs first).store (runs h.mid).store no_output no_output blind blind None) × CallsBehind k first
         (calls s.is_served.served.acts) h.mid None) script_is (served_as h.mid (Ok tt) h.run) in
         let asked = calls s.is_served.served.acts in
         let reads = h.reads.steps in
@@ -138,7 +138,7 @@ module _ {V S : Type 0} (k : Kind V) (counts : V → VaultCounts) (agrees : (x :
         let b = behind_blind (asked ++ reads) last (chained k first asked h.mid reads last its.called read) all in
         record {
           between = (runs h.mid).store;
-          words = (runs h.mid).drawn;
+          tape = told_by (runs h.mid);
           served = s;
           committed = λ patient. all_committed p numbers n few beat keys opened f left is_map s.records s.is_served patient;
           read = record { reads = reads; few = h.reads.few; reading = h.reads.reads; steps = b.taken; shapes_are = b.shapes_are; behind = b.kept; drawn = b.drawn; seen = b.seen };

@@ -23,7 +23,7 @@ use Rattle.ob_conduct.specs.declared.run_err.RunErr.TheVariants as failed
 use Rattle.ob_store.proofs.Serving.{rose_later}
 use Rattle.ob_serial.specs.Serial.{EpochRecord}
 use Rattle.ob_serial.specs.Vaults.{VaultCall}
-use Rattle.ob_top.specs.Outside.{Outside, ErrTold, IsCommandFinished}
+use Rattle.ob_top.specs.Outside.{Given, Outside, ErrTold, IsCommandFinished}
 use Rattle.ob_top.specs.Formats.{FormatEnds, FormatTold, FormatDone}
 use Rattle.ob_vault.specs.Kinds.{StoreKind}
 use Rattle.ob_vault.specs.KindLives.{LifeWords}
@@ -58,13 +58,13 @@ front before after text more p rose = record {
 }
 
 module _ (store : StoreKind) (quiet : IsQuiet store) (life : LifeWords store) where
-  module _ {S : Type 0} (disk : S → Disk) (by : Manner) (words : List ℕ) (keys : Keys) (old new : S) (before mid after : Outside) (t u : Trace) (input : after.input ≡ mid.input) where
+  module _ {S : Type 0} (disk : S → Disk) (by : Manner) (tape : Given) (keys : Keys) (old new : S) (before mid after : Outside) (t u : Trace) (input : after.input ≡ mid.input) where
     early_on : (err : RunErr) → EndsEarly store life keys by.lanes (disk old) (disk new) t u disk before.input mid.input err → EndsEarly store life keys by.lanes (disk old) (disk new) t u disk before.input after.input err
     early_on err early = subst (λ (f : Flow). EndsEarly store life keys by.lanes (disk old) (disk new) t u disk before.input f err) (sym input) early
 
-    ran_on : (records : List (EpochRecord ℕ)) (err : Option RunErr) (r : Ran store life disk by words keys old new before mid t u records err) → EndsFor store keys r.p r.found (disk r.between) r.traced.behind (shapes (calls r.is_served.served.acts))
-        (length records) (refused (calls r.is_served.served.acts)) words (disk old) (disk new) before.output after.output t u
-        err → Ran store life disk by words keys old new before after t u records err
+    ran_on : (records : List (EpochRecord ℕ)) (err : Option RunErr) (r : Ran store life disk by tape keys old new before mid t u records err) → EndsFor store keys r.p r.found (disk r.between) r.traced.behind (shapes (calls r.is_served.served.acts))
+        (length records) (refused (calls r.is_served.served.acts)) tape.words (disk old) (disk new) before.output after.output t u
+        err → Ran store life disk by tape keys old new before after t u records err
     ran_on records err r cause = record {
       p = r.p;
       script = r.script;
@@ -76,6 +76,7 @@ module _ (store : StoreKind) (quiet : IsQuiet store) (life : LifeWords store) wh
       cause = cause;
       events = r.events;
       traced = r.traced;
+      in_generation = r.in_generation;
       seen = r.seen;
       opening_seen = r.opening_seen;
       serving_seen = r.serving_seen;
@@ -94,7 +95,7 @@ module _ (store : StoreKind) (quiet : IsQuiet store) (life : LifeWords store) wh
     }
 
     module _ (status : ℕ) where
-      done_whole : (r : RunOn store life disk by words keys old new before mid t u None) → IsCommandFinished mid.output after.output None status → RunDone store life disk by words keys old new before after t u status
+      done_whole : (r : RunOn store life disk by tape keys old new before mid t u None) → IsCommandFinished mid.output after.output None status → RunDone store life disk by tape keys old new before after t u status
       done_whole r f =
           let bytes : after.output.bytes ≡ appended before.output.bytes (report decimal r.records) = ap (λ (o : Flow). o.bytes) f.line ∙ r.lines.0.bytes in
           record {
@@ -111,17 +112,17 @@ module _ (store : StoreKind) (quiet : IsQuiet store) (life : LifeWords store) wh
             sound = r.sound;
           }
 
-      sink_rose : (records : List (EpochRecord ℕ)) → Went store life disk by words keys old new before mid t u records (Some (failed.Fault SinkFault)) → Rose before.output.faults mid.output.faults
+      sink_rose : (records : List (EpochRecord ℕ)) → Went store life disk by tape keys old new before mid t u records (Some (failed.Fault SinkFault)) → Rose before.output.faults mid.output.faults
       sink_rose records (inl (none, inl head, lives)) = absurd (quiet.head head.kind)
       sink_rose records (inl (none, inr (inl input), lives)) = absurd input.refused
       sink_rose records (inl (none, inr (inr opening), lives)) = absurd (quiet.opening opening.kind)
       sink_rose records (inr ran) = ran.cause
 
-      sink_went : (records : List (EpochRecord ℕ)) → after.output ≡ mid.output → Went store life disk by words keys old new before mid t u records (Some (failed.Fault SinkFault)) → Went store life disk by words keys old new before after t u records (Some (failed.Fault SinkFault))
+      sink_went : (records : List (EpochRecord ℕ)) → after.output ≡ mid.output → Went store life disk by tape keys old new before mid t u records (Some (failed.Fault SinkFault)) → Went store life disk by tape keys old new before after t u records (Some (failed.Fault SinkFault))
       sink_went records same (inl (none, early, lives)) = inl (none, early_on (failed.Fault SinkFault) early, lives)
       sink_went records same (inr ran) = inr (ran_on records (Some (failed.Fault SinkFault)) ran (subst (λ (f : Flow). Rose before.output.faults f.faults) (sym same) ran.cause))
 
-      done_sink : (r : RunOn store life disk by words keys old new before mid t u (Some (failed.Fault SinkFault))) → IsCommandFinished mid.output after.output (Some (failed.Fault SinkFault)) status → RunDone store life disk by words keys old new before after t u status
+      done_sink : (r : RunOn store life disk by tape keys old new before mid t u (Some (failed.Fault SinkFault))) → IsCommandFinished mid.output after.output (Some (failed.Fault SinkFault)) status → RunDone store life disk by tape keys old new before after t u status
       done_sink r f = record {
         err = Some (failed.Fault SinkFault);
         status_is = f.status_is;
@@ -143,7 +144,7 @@ module _ (store : StoreKind) (quiet : IsQuiet store) (life : LifeWords store) wh
       -- anything else, behind the whole report
       done_other : (err : RunErr) (records : List (EpochRecord ℕ)) (whole : ℕ) → LinesStand (Some err) records whole before.output mid.output → ErrTold mid.output after.output (Some err)
           → mid.output.bytes ≡ appended before.output.bytes (report decimal records) → before.output.faults ≤ mid.output.faults → IsPrinted mid.output after.output (fault_line (told_fault (Some err))) → status ≡ status_of (told_fault (Some err))
-          → Went store life disk by words keys old new before after t u records (Some err) → StandsOn store disk keys old new → RunDone store life disk by words keys old new before after t u status
+          → Went store life disk by tape keys old new before after t u records (Some err) → StandsOn store disk keys old new → RunDone store life disk by tape keys old new before after t u status
       done_other err records whole lines told bytes later line status_is went sound = record {
         err = Some err;
         status_is = status_is;
@@ -162,13 +163,13 @@ module _ (store : StoreKind) (quiet : IsQuiet store) (life : LifeWords store) wh
           no_err is = cc is
 
       went_other : (err : RunErr) (records : List (EpochRecord ℕ)) → ((p : Params) (found : store.Found) (opened : Disk) (h : store.Hidden) (so_far : List Shape) (n : ℕ) (call : Option VaultCall)
-          → EndsFor store keys p found opened h so_far n call words (disk old) (disk new) before.output mid.output t u (Some err)
-          → EndsFor store keys p found opened h so_far n call words (disk old) (disk new) before.output after.output t u (Some err))
-          → Went store life disk by words keys old new before mid t u records (Some err) → Went store life disk by words keys old new before after t u records (Some err)
+          → EndsFor store keys p found opened h so_far n call tape.words (disk old) (disk new) before.output mid.output t u (Some err)
+          → EndsFor store keys p found opened h so_far n call tape.words (disk old) (disk new) before.output after.output t u (Some err))
+          → Went store life disk by tape keys old new before mid t u records (Some err) → Went store life disk by tape keys old new before after t u records (Some err)
       went_other err records same (inl (none, early, lives)) = inl (none, early_on err early, lives)
       went_other err records same (inr ran) = inr (ran_on records (Some err) ran (same ran.p ran.found (disk ran.between) ran.traced.behind (shapes (calls ran.is_served.served.acts)) (length records) (refused (calls ran.is_served.served.acts)) ran.cause))
 
-      pub run_done : (err : Option RunErr) → RunOn store life disk by words keys old new before mid t u err → IsCommandFinished mid.output after.output err status → RunDone store life disk by words keys old new before after t u status
+      pub run_done : (err : Option RunErr) → RunOn store life disk by tape keys old new before mid t u err → IsCommandFinished mid.output after.output err status → RunDone store life disk by tape keys old new before after t u status
       run_done None r f = done_whole r f
       run_done (Some (failed.Fault SinkFault)) r f = done_sink r f
       run_done (Some failed.Unwatched) r f = done_other failed.Unwatched r.records r.whole r.lines f.line r.lines.0.bytes r.lines.0.later f.line f.status_is (went_other failed.Unwatched r.records (λ p found opened h so_far n call cause. cause) r.went) r.sound
@@ -188,12 +189,12 @@ module _ (store : StoreKind) (quiet : IsQuiet store) (life : LifeWords store) wh
       run_done (Some (failed.Fault (Worn number))) r f = done_other (failed.Fault (Worn number)) r.records r.whole r.lines f.line r.lines.0.bytes r.lines.0.later f.line f.status_is (went_other (failed.Fault (Worn number)) r.records (λ p found opened h so_far n call cause. cause) r.went) r.sound
       run_done (Some (failed.Fault SourceFault)) r f = done_other (failed.Fault SourceFault) r.records r.whole r.lines f.line r.lines.0.bytes r.lines.0.later f.line f.status_is (went_other (failed.Fault SourceFault) r.records (λ p found opened h so_far n call cause. cause) r.went) r.sound
 
-  module _ {S : Type 0} (disk : S → Disk) (keys : Keys) (p : Params) (old new : S) (before mid after : Flow) (t u : Trace) where
+  module _ {S : Type 0} (disk : S → Disk) (tape : Given) (keys : Keys) (p : Params) (old new : S) (before mid after : Flow) (t u : Trace) where
     -- a format that did nothing
     nothing_told : (refused : Fault) → store.format_fault refused × (new ≡ old) × (mid ≡ before) × (u ≡ t) → IsPrinted mid after (fault_line (Some refused)) → store.format_fault refused × (new ≡ old) × IsPrinted before after (fault_line (Some refused)) × (u ≡ t)
     nothing_told refused (kind, same, quiet, still) printed = (kind, same, subst (λ (o : Flow). IsPrinted o after (fault_line (Some refused))) quiet printed, still)
 
-    format_told : (err : Option RunErr) → FormatEnds store life disk keys p old new before mid t u err → ErrTold mid after err → FormatTold store life disk keys p old new before after t u err
+    format_told : (err : Option RunErr) → FormatEnds store life disk tape keys p old new before mid t u err → ErrTold mid after err → FormatTold store life disk tape keys p old new before after t u err
     format_told None (formatted, bytes, shown) line = (formatted, ap (λ (o : Flow). o.bytes) line ∙ bytes, shown)
     format_told (Some failed.Unwatched) (formatted, same, shown) line = (formatted, subst (λ (o : Flow). IsPrinted o after (fault_line (Some SinkFault))) same line, shown)
     format_told (Some (failed.Fault SinkFault)) (formatted, rose, printed, shown) line = (
@@ -214,15 +215,15 @@ module _ (store : StoreKind) (quiet : IsQuiet store) (life : LifeWords store) wh
     format_told (Some (failed.Fault (Worn number))) ends line = nothing_told (Worn number) ends line
     format_told (Some (failed.Fault SourceFault)) ends line = nothing_told SourceFault ends line
 
-  pub format_done : {S : Type 0} (disk : S → Disk) (keys : Keys) (p : Params) (old new : S) (before mid after : Outside) (t u : Trace) (status : ℕ) (err : Option RunErr) → FormatEnds store life disk keys p old new before.output mid.output t u err
-      → ((disk old).tells → LeavesOnly (disk old) (disk new) (store.format_leaves keys p (disk old))) → mid.input ≡ before.input → after.input ≡ mid.input
-      → IsCommandFinished mid.output after.output err status → FormatDone store life disk keys p old new before after t u status
-  format_done disk keys p old new before mid after t u status err ends leaves first second f = record {
+  pub format_done : {S : Type 0} (disk : S → Disk) (tape : Given) (keys : Keys) (p : Params) (old new : S) (before mid after : Outside) (t u : Trace) (status : ℕ) (err : Option RunErr) → FormatEnds store life disk tape keys p old new before.output mid.output t u err
+      → ((disk old).tells → LeavesOnly (disk old) (disk new) (store.format_leaves keys p tape.words (disk old))) → mid.input ≡ before.input → after.input ≡ mid.input
+      → IsCommandFinished mid.output after.output err status → FormatDone store life disk tape keys p old new before after t u status
+  format_done disk tape keys p old new before mid after t u status err ends leaves first second f = record {
     err = err;
     status_is = f.status_is;
     untouched = second ∙ first;
-    told = format_told disk keys p old new before.output mid.output after.output t u err ends f.line;
+    told = format_told disk tape keys p old new before.output mid.output after.output t u err ends f.line;
     left = leaves;
     sound = λ zero tells.
-        formatted_sound store life disk keys p old new (subst (λ (x : Option RunErr). FormatEnds store life disk keys p old new before.output mid.output t u x) (none_told_at_0 err (sym f.status_is ∙ zero)) ends).0 tells;
+        formatted_sound store life disk tape keys p old new (subst (λ (x : Option RunErr). FormatEnds store life disk tape keys p old new before.output mid.output t u x) (none_told_at_0 err (sym f.status_is ∙ zero)) ends).0 tells;
   }

@@ -19,6 +19,7 @@ use Rattle.ob_pads.proofs.Chains.{chain_runs}
 use Rattle.ob_pads.specs.Lives.{Opens}
 use Rattle.ob_vault.specs.RingVaults.{HasPlanned, RingHolds, RingSound, Running, lent_both}
 use Rattle.ob_vault.proofs.SealCalls.{is_act}
+use Rattle.ob_vault.proofs.Tapes.{tapes_stay}
 use Rattle.ob_vault.specs.Kinds.{opened_with}
 use Rattle.ob_vault.proofs.Begun.{held_with, holds_found, ring_begins_sound, ring_begun}
 use Rattle.ob_vault.specs.RingKind.{GoesOnFrom, RingFound, ring_kind}
@@ -42,7 +43,7 @@ use Rattle.ob_top.specs.Endings.{err_of}
 use Rattle.ob_top.specs.Runs.{manner, ServedOver}
 use Rattle.ob_top.proofs.Opens.{may_open}
 use Rattle.ob_conduct.specs.Acts.{calls}
-use Rattle.ob_top.proofs.RingServing.{IsRingLender, ring_serves}
+use Rattle.ob_top.proofs.RingServing.{IsRingLender, ring_serves, told_by}
 use Rattle.ob_top.proofs.Serving.{CallsBehind}
 
 pub rest_same : (a b : GName) (xs ys : List GName) → ◌≡◌ {A = List GName} (a ∷ xs) (b ∷ ys) → xs ≡ ys
@@ -64,7 +65,7 @@ pub record IsLent {V S : Type 0} (k : Kind V) (disk : S → Disk) (runs : V → 
 
 module _ {V S : Type 0} (k : Kind V) (disk : S → Disk) (counts_now : (x : S) (t : Clock) (c : Image) → NotAfter t (disk x).moment → (disk x).may_leave c → (disk x).left_since t c)
     (only_now : (x : S) (c : Image) → (disk x).left_since (disk x).moment c → (disk x).may_leave c) (runs : V → Running S) (words : HasRingWords k disk runs) (lent : IsLent k disk runs)
-    (keys : Keys) (most : ℕ) (p : Params) (found : Found) (f : RingFound) (first : V) (goes : GoesOnFrom keys p found f) (run_is : (runs first).run ≡ f.run) where
+    (keys : Keys) (most : ℕ) (p : Params) (found : Found) (f : RingFound) (first : V) (goes : GoesOnFrom keys p found f) (run_is : (runs first).run ≡ f.run) (present_is : (runs first).present ≡ f.run.sealer.generation) where
   abbrev disk_of : V → Disk
   disk_of v = disk (runs v).store
 
@@ -110,6 +111,7 @@ module _ {V S : Type 0} (k : Kind V) (disk : S → Disk) (counts_now : (x : S) (
     rests = lent.rests;
     holds = λ m of. (held_with f.run m, lent.holds first (held_with f.run m) (subst (λ (r : Run). RingHolds r (disk_of first) (held_with f.run m)) (sym run_is) (holds_found keys p f (disk_of first) m goes.serving of)), refl);
     sound = λ at tells settled opened. lent.sound first (opened_with p f.run.left at) (subst (λ (r : Run). RingSound r (disk_of first) (opened_with p f.run.left at)) (sym run_is) (ring_begins_sound disk keys p f at (runs first).store goes.serving opened));
+    stays = λ w steps called. tapes_stay k disk runs words first w steps called ∙ present_is;
     told = λ w steps called all. told_on first w steps called all;
     lives = λ w steps called. λ old opens tells.
         chain_runs k disk (λ v. (runs v).store) (λ v. (runs v).run.sealer)
@@ -125,14 +127,14 @@ pub serves_lent : {V S : Type 0} (first : V) (k : Kind V) (beat : BeatKind) (thr
     → (disk : S → Disk) (counts_now : (x : S) (t : Clock) (c : Image) → NotAfter t (disk x).moment → (disk x).may_leave c → (disk x).left_since t c)
     (only_now : (x : S) (c : Image) → (disk x).left_since (disk x).moment c → (disk x).may_leave c) (runs : V → Running S) → HasRingWords k disk runs → IsLent k disk runs
     → (keys : Keys) (most : ℕ) (found : Found) (f : RingFound) (start : Run) → GoesOnFrom keys p found f → (runs first).run ≡ start → f.run ≡ start → epoch ≡ (runs first).run.epoch → left ≡ (runs first).run.left
-    → start.epoch < 2 ^ 62 → start.left ≤ p.batches → (runs first).lanes ≡ most → (1 ≤ most) × (most ≤ 16) → HasPlanned f.run f.content f.records → (runs first).drawn ≡ []
-    → (s : ServedOver ring_kind ring_lives disk (manner beat threads most) keys p f f.run.sealer script (runs last).drawn (runs first).store (runs last).store before after trace seen (err_of result))
+    → start.epoch < 2 ^ 62 → start.left ≤ p.batches → (runs first).lanes ≡ most → (1 ≤ most) × (most ≤ 16) → HasPlanned f.run f.content f.records → (runs first).drawn ≡ [] → (runs first).present ≡ start.sealer.generation
+    → (s : ServedOver ring_kind ring_lives disk (manner beat threads most) keys p f f.run.sealer script (told_by (runs last)) (runs first).store (runs last).store before after trace seen (err_of result))
     × CallsBehind k first (calls s.is_served.served.acts) last (err_of result)
-serves_lent first k beat threads p script trace runners before last seen ran after result epoch left done unbroken sound are disk counts_now only_now runs words lent keys most found f start goes is same epoch_is left_is small few lanes many has none =
+serves_lent first k beat threads p script trace runners before last seen ran after result epoch left done unbroken sound are disk counts_now only_now runs words lent keys most found f start goes is same epoch_is left_is small few lanes many has none present_is =
     let (new, run) = done in
     let run_is : (runs first).run ≡ f.run = is ∙ sym same in
     let may = may_open p f.run.epoch f.run.left script (subst (λ (r : Run). r.epoch < 2 ^ 62) (sym same) small) (subst (λ (r : Run). r.left ≤ p.batches) (sym same) few) sound in
     let planned = All-weaker (IsNewOf script) (λ r. plan_of r ≡ asks_by (client_of r) script.txns) (λ r n. n.plan) runners are.new in
     ring_serves k disk counts_now only_now runs words keys most p f first beat threads script_kind runs_scripts script sound may trace runners before (run_state (scene new last seen) ran after) result epoch left
-    unbroken are.clients_are planned (epoch_is ∙ ap (λ (r : Run). r.epoch) run_is) (left_is ∙ ap (λ (r : Run). r.left) run_is) run (lender k disk counts_now only_now runs words lent keys most p found f first goes run_is)
+    unbroken are.clients_are planned (epoch_is ∙ ap (λ (r : Run). r.epoch) run_is) (left_is ∙ ap (λ (r : Run). r.left) run_is) run (lender k disk counts_now only_now runs words lent keys most p found f first goes run_is (present_is ∙ ap (λ (r : Run). r.sealer.generation) (sym same)))
     (ring_begun k disk runs keys most p found f first goes run_is lanes many has none (λ u holds. lent.holds first u (subst (λ (r : Run). RingHolds r (disk (runs first).store) u) (sym run_is) holds)))

@@ -19,7 +19,7 @@ use Rattle.ob_audit.specs.declared.verdict.Audit.TheVariants.{Fits, Breaks}
 use Rattle.ob_audit.specs.Traces.{IsAuditFault}
 use Rattle.ob_words.specs.declared.work.Work.TheVariants.{Audit, Drill}
 use Rattle.ob_words.specs.Work.{AskFor, AreParams, IsBadNumber, AreLanes, AreBadLanes, IsCount, IsBadCount, HasKeys, IsKeysRefused}
-use Rattle.ob_top.specs.Outside.{Outside, IsFinished, IsOnlyTold}
+use Rattle.ob_top.specs.Outside.{Given, Outside, IsFinished, IsOnlyTold}
 use Rattle.ob_top.specs.Audits.{AuditDone, verdict_status}
 use Rattle.ob_top.specs.Drills.{DrillDone}
 use Rattle.ob_top.specs.Over.{OverStore, WithoutStore}
@@ -111,36 +111,36 @@ drill_low Kept before after status word n count (inr (inr (m, is, kept, done))) 
 
 -- ---- with a store
 
-module _ {S W : Type 0} (disk : S → Disk) (flow : W → Flow) (beat : BeatKind) (drawn : List ℕ) (words : List (List ℕ)) (text : Option (Bor (List ℕ))) (old new : S) (was is : Option W) (before after : Outside) (status : ℕ) where
-  pub usage_over : OverStore disk flow beat drawn words text old new before after was is status → asked_by words ≡ None
-      → Tell disk flow beat drawn words text old new was is before after status Usage ⊎ Tell disk flow beat drawn words text old new was is before after status Memory
+module _ {S W : Type 0} (disk : S → Disk) (flow : W → Flow) (beat : BeatKind) (tape : Given) (words : List (List ℕ)) (text : Option (Bor (List ℕ))) (old new : S) (was is : Option W) (before after : Outside) (status : ℕ) where
+  pub usage_over : OverStore disk flow beat tape words text old new before after was is status → asked_by words ≡ None
+      → Tell disk flow beat tape words text old new was is before after status Usage ⊎ Tell disk flow beat tape words text old new was is before after status Memory
   usage_over (inl (kept, inl (asked, done))) nothing = absurd (nothing_asked words audit_asked nothing asked)
   usage_over (inl (kept, inr (word, n, asked, count, done))) nothing = absurd (nothing_asked words (drill_asked word) nothing asked)
-  usage_over (inr (mid, err, does, input, done)) nothing = usage_done before mid after status input disk flow beat drawn words text old new was is err does done nothing
+  usage_over (inr (mid, err, does, input, done)) nothing = usage_done before mid after status input disk flow beat tape words text old new was is err does done nothing
 
-  pub audit_over : OverStore disk flow beat drawn words text old new before after was is status → asked_by words ≡ Some audit_asked
-      → Tell disk flow beat drawn words text old new was is before after status Memory ⊎ (((new ≡ old) × (is ≡ was)) × AuditDone before after status)
+  pub audit_over : OverStore disk flow beat tape words text old new before after was is status → asked_by words ≡ Some audit_asked
+      → Tell disk flow beat tape words text old new was is before after status Memory ⊎ (((new ≡ old) × (is ≡ was)) × AuditDone before after status)
   audit_over (inl (kept, inl (asked, done))) asks = inr (kept, done)
   audit_over (inl (kept, inr (word, n, asked, count, done))) asks = absurd (not_audit words word asked asks)
-  audit_over (inr (mid, err, does, input, done)) asks = inl (audit_told before mid after status input disk flow beat drawn words text old new was is err does done asks)
+  audit_over (inr (mid, err, does, input, done)) asks = inl (audit_told before mid after status input disk flow beat tape words text old new was is err does done asks)
 
-  pub drill_over : OverStore disk flow beat drawn words text old new before after was is status → (word : List ℕ) → asked_by words ≡ Some (drill_asked word)
-      → Tell disk flow beat drawn words text old new was is before after status Memory ⊎ ((IsBadCount word × Tell disk flow beat drawn words text old new was is before after status (BadParams COUNT)) ⊎ ((n : ℕ) × IsCount word n × ((new ≡ old) × (is ≡ was)) × DrillDone n before after status))
+  pub drill_over : OverStore disk flow beat tape words text old new before after was is status → (word : List ℕ) → asked_by words ≡ Some (drill_asked word)
+      → Tell disk flow beat tape words text old new was is before after status Memory ⊎ ((IsBadCount word × Tell disk flow beat tape words text old new was is before after status (BadParams COUNT)) ⊎ ((n : ℕ) × IsCount word n × ((new ≡ old) × (is ≡ was)) × DrillDone n before after status))
   drill_over (inl (kept, inl (asked, done))) word asks = absurd (not_audit words word asks asked)
   drill_over (inl (kept, inr (other, n, asked, count, done))) word asks = inr (inr (n, subst (λ (w : List ℕ). IsCount w n) (same_word words other word asked asks) count, kept, done))
-  drill_over (inr (mid, err, does, input, done)) word asks = ⊎_elim (λ memory. inl memory) (λ bad. inr (inl bad)) (drill_told before mid after status input disk flow beat drawn words text old new was is err does done word asks)
+  drill_over (inr (mid, err, does, input, done)) word asks = ⊎_elim (λ memory. inl memory) (λ bad. inr (inl bad)) (drill_told before mid after status input disk flow beat tape words text old new was is err does done word asks)
 
-  pub format_over : OverStore disk flow beat drawn words text old new before after was is status → (store keys : List ℕ) (numbers : List (List ℕ)) (trace : Option (List ℕ)) → asked_by words ≡ Some (format_asked store keys numbers trace)
-      → FormatTells disk flow beat drawn words text old new was is before after status numbers trace
+  pub format_over : OverStore disk flow beat tape words text old new before after was is status → (store keys : List ℕ) (numbers : List (List ℕ)) (trace : Option (List ℕ)) → asked_by words ≡ Some (format_asked store keys numbers trace)
+      → FormatTells disk flow beat tape words text old new was is before after status numbers trace
   format_over (inl (kept, inl (asked, done))) store keys numbers trace asks = absurd (not_format words store keys numbers trace asked asks)
   format_over (inl (kept, inr (word, n, asked, count, done))) store keys numbers trace asks = absurd (drill_not_format words word store keys numbers trace asked asks)
-  format_over (inr (mid, err, does, input, done)) store keys numbers trace asks = format_does before mid after status input disk flow beat drawn words text old new was is err does done store keys numbers trace asks
+  format_over (inr (mid, err, does, input, done)) store keys numbers trace asks = format_does before mid after status input disk flow beat tape words text old new was is err does done store keys numbers trace asks
 
-  pub run_over : OverStore disk flow beat drawn words text old new before after was is status → (store keys : List ℕ) (lanes : Option (List ℕ)) (turns : Bool) (trace : Option (List ℕ)) → asked_by words ≡ Some (run_asked store keys lanes turns trace)
-      → RunTells disk flow beat drawn words text old new was is before after status lanes turns trace
+  pub run_over : OverStore disk flow beat tape words text old new before after was is status → (store keys : List ℕ) (lanes : Option (List ℕ)) (turns : Bool) (trace : Option (List ℕ)) → asked_by words ≡ Some (run_asked store keys lanes turns trace)
+      → RunTells disk flow beat tape words text old new was is before after status lanes turns trace
   run_over (inl (kept, inl (asked, done))) store keys lanes turns trace asks = absurd (not_run words store keys lanes turns trace asked asks)
   run_over (inl (kept, inr (word, n, asked, count, done))) store keys lanes turns trace asks = absurd (drill_not_run words word store keys lanes turns trace asked asks)
-  run_over (inr (mid, err, does, input, done)) store keys lanes turns trace asks = run_does before mid after status input disk flow beat drawn words text old new was is err does done store keys lanes turns trace asks
+  run_over (inr (mid, err, does, input, done)) store keys lanes turns trace asks = run_does before mid after status input disk flow beat tape words text old new was is err does done store keys lanes turns trace asks
 
 -- ---- without one
 

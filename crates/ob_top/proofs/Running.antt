@@ -29,7 +29,7 @@ use Rattle.ob_store.proofs.Showing.{shows_then}
 use Rattle.ob_store.specs.declared.watch.Note.TheVariants as note
 use Rattle.ob_serial.specs.Serial.{EpochRecord}
 use Rattle.ob_script.specs.Script.{Scripts}
-use Rattle.ob_top.specs.Outside.{Outside, outside}
+use Rattle.ob_top.specs.Outside.{Given, Outside, outside}
 use Rattle.ob_top.specs.Runs.{Manner, EndsEarly, IsOpened, EndsFor, beginning_notes, IsLeftOnDisk, LeftByWholeRun, IsReadAndOpened, ServedOver, Ran, Went, RunOn, ShownBehindHead, begin_phases}
 use Rattle.ob_top.proofs.Lines.{Stand, stand_all, stand_unless}
 use Rattle.ob_top.proofs.Living.{whole_lives}
@@ -54,11 +54,11 @@ module _ (store : StoreKind) (quiet : IsQuiet store) (life : LifeWords store) wh
   early_stand disk keys most old new t u before after output failed.Unwatched early = stand_all [] output output (record { bytes = appended-none output.bytes; later = omega arith })
 
   pub ended_early : (laws : AreStandingLaws store) {S : Type 0} (disk : S → Disk)
-      (counts_now : (x : S) (t : Clock) (c : Image) → NotAfter t (disk x).moment → (disk x).may_leave c → (disk x).left_since t c) (by : Manner) (words : List ℕ) (keys : Keys) (old new : S) (t u : Trace) (before after output : Flow) (err : RunErr)
+      (counts_now : (x : S) (t : Clock) (c : Image) → NotAfter t (disk x).moment → (disk x).may_leave c → (disk x).left_since t c) (by : Manner) (tape : Given) (keys : Keys) (old new : S) (t u : Trace) (before after output : Flow) (err : RunErr)
       → EndsEarly store life keys by.lanes (disk old) (disk new) t u disk before after err → ((disk new).tells → LivesOn disk keys old new [])
-      → RunOn store life disk by words keys old new
+      → RunOn store life disk by tape keys old new
       (outside before output) (outside after output) t u (Some err)
-  ended_early laws disk counts_now by words keys old new t u before after output err early lives = record {
+  ended_early laws disk counts_now by tape keys old new t u before after output err early lives = record {
     records = [];
     whole = (early_stand disk keys by.lanes (disk old) (disk new) t u before after output err early).0;
     lines = (early_stand disk keys by.lanes (disk old) (disk new) t u before after output err early).1;
@@ -83,10 +83,10 @@ module _ (store : StoreKind) (quiet : IsQuiet store) (life : LifeWords store) wh
     cause_since (Some (failed.Fault (StashFull rows))) cause = cause
     cause_since (Some (failed.Fault SourceFault)) cause = cause
 
-  pub went_of : {S : Type 0} (disk : S → Disk) (by : Manner) (words : List ℕ) (keys : Keys) (old new : S) (before after : Outside) (t u : Trace) (records : List (EpochRecord ℕ)) (err : Option RunErr) → Ran store life disk by words keys old new before after t u records err → Went store life
-      disk by words keys old new before after t u records err
-  went_of disk by words keys old new before after t u records None ran = ran
-  went_of disk by words keys old new before after t u records (Some err) ran = inr ran
+  pub went_of : {S : Type 0} (disk : S → Disk) (by : Manner) (tape : Given) (keys : Keys) (old new : S) (before after : Outside) (t u : Trace) (records : List (EpochRecord ℕ)) (err : Option RunErr) → Ran store life disk by tape keys old new before after t u records err → Went store life
+      disk by tape keys old new before after t u records err
+  went_of disk by tape keys old new before after t u records None ran = ran
+  went_of disk by tape keys old new before after t u records (Some err) ran = inr ran
 
   -- What a crash leaves of the opening and of the serving.
   left_both : {S : Type 0} (disk : S → Disk) (keys : Keys) (old mid new : Disk) (p : Params) (found : store.Found) (at : Standing) (script : Scripts) (records : List (EpochRecord ℕ)) (err : Option RunErr) (acts : List Act)
@@ -106,7 +106,7 @@ module _ (store : StoreKind) (quiet : IsQuiet store) (life : LifeWords store) wh
 
   -- The script was run over the store that was opened.
   pub ran : (laws : AreStandingLaws store) {S : Type 0} (disk : S → Disk)
-      (counts_now : (x : S) (t : Clock) (c : Image) → NotAfter t (disk x).moment → (disk x).may_leave c → (disk x).left_since t c) (by : Manner) (words : List ℕ) (keys : Keys) (old between new : S) (input input_new output output_new : Flow) (p : Params)
+      (counts_now : (x : S) (t : Clock) (c : Image) → NotAfter t (disk x).moment → (disk x).may_leave c → (disk x).left_since t c) (by : Manner) (tape : Given) (keys : Keys) (old between new : S) (input input_new output output_new : Flow) (p : Params)
       (script : Scripts) (found : store.Found) (start : store.Start) (sealing : Sealing) (t midway u : Trace) (err : Option RunErr)
       → ShownBehindHead (store.open_notes p found start) t midway → midway.broken ≡ false
       → (disk old).faults ≤ (disk between).faults
@@ -116,11 +116,11 @@ module _ (store : StoreKind) (quiet : IsQuiet store) (life : LifeWords store) wh
       → ((at : Standing) → (disk old).tells → Stands store keys p (disk old).cells at → AllStand store keys p (disk old) → LeavesOnly (disk old) (disk between) (StandsAsBefore store keys p (disk old)))
       → OpensStanding store disk keys p (disk old) (disk between)
       → IsReadAndOpened disk keys old between sealing → ((disk old).tells → life.begins keys p (disk old).cells found)
-      → ServedOver store life disk by keys p found sealing script words between new output output_new midway u err
-      → RunOn store life disk by words keys old new (outside input output) (outside input_new output_new) t u err
-  ran laws disk counts_now by words keys old between new input input_new output output_new p script found start sealing t midway u err shown whole later opened seen durable stood before opens begun found_so s =
+      → ServedOver store life disk by keys p found sealing script tape between new output output_new midway u err
+      → RunOn store life disk by tape keys old new (outside input output) (outside input_new output_new) t u err
+  ran laws disk counts_now by tape keys old between new input input_new output output_new p script found start sealing t midway u err shown whole later opened seen durable stood before opens begun found_so s =
       let begins : Shows (beginning_notes store p found start) t midway = shows_then (note.Read 0 ∷ []) (store.open_notes p found start) t shown.between midway shown.head shown.behind in
-      let its : Ran store life disk by words keys old new (outside input output) (outside input_new output_new) t u s.records err = record {
+      let its : Ran store life disk by tape keys old new (outside input output) (outside input_new output_new) t u s.records err = record {
         p = p;
         script = script;
         found = found;
@@ -128,9 +128,10 @@ module _ (store : StoreKind) (quiet : IsQuiet store) (life : LifeWords store) wh
         opened = opened;
         between = between;
         is_served = s.is_served;
-        cause = cause_since keys p found s.traced.behind (shapes (calls s.is_served.served.acts)) (length s.records) (refused (calls s.is_served.served.acts)) words (disk old) (disk between) (disk new) output output_new t midway u later begins.faults err s.cause;
+        cause = cause_since keys p found s.traced.behind (shapes (calls s.is_served.served.acts)) (length s.records) (refused (calls s.is_served.served.acts)) tape.words (disk old) (disk between) (disk new) output output_new t midway u later begins.faults err s.cause;
         events = s.events;
         traced = s.traced;
+        in_generation = s.in_generation;
         opening_seen = seen;
         serving_seen = s.seen;
         seen = joined seen.events s.events (disk old).seen (disk between).seen (disk new).seen seen.noted s.seen;
@@ -152,6 +153,6 @@ module _ (store : StoreKind) (quiet : IsQuiet store) (life : LifeWords store) wh
         records = s.records;
         whole = s.whole;
         lines = s.lines;
-        went = went_of disk by words keys old new (outside input output) (outside input_new output_new) t u s.records err its;
-        sound = ran_sound store laws life disk counts_now keys old new by words (outside input output) (outside input_new output_new) t u s.records err its;
+        went = went_of disk by tape keys old new (outside input output) (outside input_new output_new) t u s.records err its;
+        sound = ran_sound store laws life disk counts_now keys old new by tape (outside input output) (outside input_new output_new) t u s.records err its;
       }

@@ -57,6 +57,7 @@ use Rattle.ob_outcomes.specs.Served.{IsServed, ClientsServedAll}
 use Rattle.ob_outcomes.proofs.Whole.{RunsScripts, is_served, its_acts, its_desk, all_served, next_served}
 use Rattle.ob_desk.specs.Beats.{BeatKind}
 use Rattle.ob_top.specs.Endings.{err_of, told_fault}
+use Rattle.ob_top.specs.Outside.{Given}
 use Rattle.ob_top.proofs.Lines.{lines_stand, next_by_acts}
 use Rattle.ob_top.specs.Runs.{Manner, manner, EndsWith, EachShown, EndsFor, IsShownToWatch, IsTraced, refused_row, steps_rows, IsLeftOnDisk, StagedFrom, IsNextEpoch, ComesNext, ServedOver, LivesBehind}
 
@@ -97,14 +98,15 @@ all_answered ((End writes, Values values) ∷ steps) are = absurd are
 all_answered ((End writes, RefusedBy fault) ∷ steps) are = absurd are
 all_answered ((End writes, DoubtBy fault) ∷ steps) are = absurd are
 
-module _ {V S : Type 0} (k : Kind V) (store : StoreKind) (disk : S → Disk) (store_of : V → S) (under : Keys) (most : ℕ) (p : Params) (found : store.Found) (start : V) (At : store.Public → store.Hidden → List Shape → ℕ → V → Type 0) (tape_of : V → List ℕ)
+module _ {V S : Type 0} (k : Kind V) (store : StoreKind) (disk : S → Disk) (store_of : V → S) (under : Keys) (most : ℕ) (p : Params) (found : store.Found) (start : V) (At : store.Public → store.Hidden → List Shape → ℕ → V → Type 0) (tape_of : V → Given)
     (does : (q : store.Public) (h : store.Hidden) (so_far : List Shape) (n : ℕ) (v : V) (call : VaultCall) (answer : VaultAnswer) (w : V) → At q h so_far n v → (one : Called k v call answer w)
-    → IsCallOfKind store under most p found (disk (store_of start)) At (disk (store_of v)) (disk (store_of w)) (tape_of w) w one.notes q h so_far n call answer)
-    (tells : (q : store.Public) (h : store.Hidden) (so_far : List Shape) (n : ℕ) (v : V) → At q h so_far n v → (fault : Option Fault) → store.is_of_tape p h None (tape_of v) fault) (life : LifeWords store)
+    → IsCallOfKind store under most p found (disk (store_of start)) At (disk (store_of v)) (disk (store_of w)) (tape_of w).words w one.notes q h so_far n call answer)
+    (tells : (q : store.Public) (h : store.Hidden) (so_far : List Shape) (n : ℕ) (v : V) → At q h so_far n v → (fault : Option Fault) → store.is_of_tape p h None (tape_of v).words fault) (life : LifeWords store)
     (at_rest : (calls : List VaultCall) (taken : List (Shape × store.Drawn)) (q : store.Public) (h : store.Hidden) (so_far : List Shape) (n : ℕ) (v : V) → AreDrawn store p (store.hidden p found) calls taken h → At q h so_far n v
-    → life.goes_on under p found (disk (store_of start)) calls taken h None (tape_of v) (disk (store_of v)))
+    → (seen : List Event) → life.goes_on under most p found (disk (store_of start)) calls taken h None (tape_of v).words seen (disk (store_of v)))
     (at_stop : (calls : List VaultCall) (taken : List (Shape × store.Drawn)) (q : store.Public) (h : store.Hidden) (so_far : List Shape) (n : ℕ) (v : V) → AreDrawn store p (store.hidden p found) calls taken h → At q h so_far n v
-    → (call : VaultCall) (answer : VaultAnswer) (w : V) → Called k v call answer w → life.goes_on under p found (disk (store_of start)) calls taken h (Some call) (tape_of w) (disk (store_of w))) where
+    → (call : VaultCall) (answer : VaultAnswer) (w : V) (one : Called k v call answer w) (fault : Fault) (seen : List Event) (cut : IsSeenCut store most p q h (Some call) (tape_of w).words (Some fault) seen) → store.cut_shown most p q call cut.0 fault seen one.notes
+    → life.goes_on under most p found (disk (store_of start)) calls taken h (Some call) (tape_of w).words seen (disk (store_of w))) where
   -- Behind calls that were all answered: what they drew, what was seen, and where the vault is.
   pub record Behind (q : store.Public) (h : store.Hidden) (so_far : List Shape) (n : ℕ) (first : V) (t : Trace) (steps : List (VaultCall × VaultAnswer)) (notes : List Note) (last : V) (u : Trace) : Type 0 where
     pub taken : List (Shape × store.Drawn)
@@ -213,22 +215,22 @@ module _ {V S : Type 0} (k : Kind V) (store : StoreKind) (disk : S → Disk) (st
     -- How it ended, after these calls: why, what was written, what was seen, and what was shown.
     pub record Ending (asked : List (VaultCall × VaultAnswer)) (err : Option RunErr) : Type 0 where
       pub events : List Event
-      pub traced : IsTraced store most p (store.public p found) (store.hidden p found) (tape_of last) asked (told_fault err) events
-      pub shown : IsShownToWatch store most p (store.public p found) (store.hidden p found) (tape_of last) asked (told_fault err) events traced t u
-      pub cause : EndsFor store under p found (disk (store_of start)) traced.behind (shapes asked) (length records) (refused asked) (tape_of last) (disk (store_of first)) (disk (store_of last)) before after t u err
+      pub traced : IsTraced store most p (store.public p found) (store.hidden p found) (tape_of last).words asked (told_fault err) events
+      pub shown : IsShownToWatch store most p (store.public p found) (store.hidden p found) (tape_of last).words asked (told_fault err) events traced t u
+      pub cause : EndsFor store under p found (disk (store_of start)) traced.behind (shapes asked) (length records) (refused asked) (tape_of last).words (disk (store_of first)) (disk (store_of last)) before after t u err
       pub seen : Notes events (disk (store_of first)).seen (disk (store_of last)).seen
-      pub goes_on : life.goes_on under p found (disk (store_of start)) (answered asked) traced.steps traced.behind (refused asked) (tape_of last) (disk (store_of last))
+      pub goes_on : life.goes_on under most p found (disk (store_of start)) (answered asked) traced.steps traced.behind (refused asked) (tape_of last).words traced.more (disk (store_of last))
 
     -- what was seen of a last call, and what was shown
     abbrev Cut : (q : store.Public) (h : store.Hidden) (one : Option VaultCall) (fault : Option Fault) → List Event → List Note → Type 0
-    Cut q h one fault more own = (cut : IsSeenCut store most p q h one (tape_of last) fault more) × IsCutShown store most p q h one (tape_of last) fault more cut own
+    Cut q h one fault more own = (cut : IsSeenCut store most p q h one (tape_of last).words fault more) × IsCutShown store most p q h one (tape_of last).words fault more cut own
 
     none_cut : (q : store.Public) (h : store.Hidden) (one : Option VaultCall) (fault : Option Fault) → one ≡ None → Cut q h one fault [] []
     none_cut q h one fault is = subst (λ (o : Option VaultCall). Cut q h o fault [] []) (sym is) (refl, refl)
 
     -- no call was refused
     ends_alone : (asked : List (VaultCall × VaultAnswer)) (notes : List Note) → AllNoted k first t asked notes last u → AreAnswered asked → (err : Option RunErr) →
-        ((h : store.Hidden) → EndsFor store under p found (disk (store_of start)) h (shapes asked) (length records) (refused asked) (tape_of last) (disk (store_of first)) (disk (store_of last)) before after t u err)
+        ((h : store.Hidden) → EndsFor store under p found (disk (store_of start)) h (shapes asked) (length records) (refused asked) (tape_of last).words (disk (store_of first)) (disk (store_of last)) before after t u err)
         → Ending asked err
     ends_alone asked notes chain all err cause =
         let b = behind (store.public p found) (store.hidden p found) [] 0 first t asked notes last u begun chain all in
@@ -242,7 +244,7 @@ module _ {V S : Type 0} (k : Kind V) (store : StoreKind) (disk : S → Disk) (st
             shapes_are = b.shapes_are;
             behind = b.kept;
             drawn = b.drawn;
-            of_tape = subst (λ (o : Option VaultCall). store.is_of_tape p b.kept o (tape_of last) (told_fault err)) (sym none)
+            of_tape = subst (λ (o : Option VaultCall). store.is_of_tape p b.kept o (tape_of last).words (told_fault err)) (sym none)
                 (tells (public_behind store p (store.public p found) b.taken) b.kept (shapes asked) (0 + length (ended_of asked)) last b.at (told_fault err));
             first = b.seen.events;
             dealt = b.seen.dealt;
@@ -256,8 +258,8 @@ module _ {V S : Type 0} (k : Kind V) (store : StoreKind) (disk : S → Disk) (st
             shows = subst (λ (l : List Note). Shows l t u) (b.shown ∙ sym (append-nil (steps_notes store p (store.public p found) b.taken))) (all_shown k first t asked notes last u chain);
             each = each_then (steps_rows store p (store.public p found) b.taken) (refused_row (refused asked) []) t u u b.each (subst (λ (o : Option VaultCall). EachShown (refused_row o []) u u) (sym none) refl);
           };
-          goes_on = subst (λ (o : Option VaultCall). life.goes_on under p found (disk (store_of start)) (answered asked) b.taken b.kept o (tape_of last) (disk (store_of last))) (sym none)
-              (at_rest (answered asked) b.taken (public_behind store p (store.public p found) b.taken) b.kept (shapes asked) (0 + length (ended_of asked)) last b.drawn b.at);
+          goes_on = subst (λ (o : Option VaultCall). life.goes_on under most p found (disk (store_of start)) (answered asked) b.taken b.kept o (tape_of last).words [] (disk (store_of last))) (sym none)
+              (at_rest (answered asked) b.taken (public_behind store p (store.public p found) b.taken) b.kept (shapes asked) (0 + length (ended_of asked)) last b.drawn b.at []);
           seen = subst (λ (l : List Event). Notes l (disk (store_of first)).seen (disk (store_of last)).seen) (sym (append-nil b.seen.events)) b.seen.noted;
         }
 
@@ -266,25 +268,26 @@ module _ {V S : Type 0} (k : Kind V) (store : StoreKind) (disk : S → Disk) (st
       rises rose = subst (λ n. Rose (disk (store_of first)).faults n) (faults last) (subst (λ n. Rose n (k.disk last).faults) (faults first) rose)
 
       -- the vault refused a call
-      cause_of : (so_far : List Shape) (n : ℕ) (call : VaultCall) (fault : Fault) (mid : V) (q : store.Public) (h : store.Hidden) (own : List Note) → Stops store under most p found (disk (store_of start)) (disk (store_of mid)) (disk (store_of last)) (tape_of last) q h so_far n call
+      cause_of : (so_far : List Shape) (n : ℕ) (call : VaultCall) (fault : Fault) (mid : V) (q : store.Public) (h : store.Hidden) (own : List Note) → Stops store under most p found (disk (store_of start)) (disk (store_of mid)) (disk (store_of last)) (tape_of last).words q h so_far n call
           fault own → so_far ≡ so_far → n ≡ length records
-          → (IsStoreFault fault → Rose (k.disk first).faults (k.disk last).faults) → EndsFor store under p found (disk (store_of start)) h so_far (length records) (Some call) (tape_of last) (disk (store_of first)) (disk (store_of last)) before after t u (Some (failed.Fault fault))
+          → (IsStoreFault fault → Rose (k.disk first).faults (k.disk last).faults) → EndsFor store under p found (disk (store_of start)) h so_far (length records) (Some call) (tape_of last).words (disk (store_of first)) (disk (store_of last)) before after t u (Some (failed.Fault fault))
       cause_of so_far n call (StoreFault unsure) mid q h own s same is rose = (rises (rose tt), subst (λ m. (unsure ≡ None) ⊎ (unsure ≡ Some (suc (store.epoch found + m)))) is s.why)
       cause_of so_far n call Memory mid q h own s same is rose = tt
       cause_of so_far n call SinkFault mid q h own s same is rose = absurd s.why
-      cause_of so_far n call (Worn number) mid q h own s same is rose = subst (λ m. store.causes under p found (disk (store_of start)) (disk (store_of last)) h so_far m (Some call) (tape_of last) (Worn number)) is s.why
-      cause_of so_far n call Usage mid q h own s same is rose = subst (λ m. store.causes under p found (disk (store_of start)) (disk (store_of last)) h so_far m (Some call) (tape_of last) Usage) is s.why
-      cause_of so_far n call (BadScript line) mid q h own s same is rose = subst (λ m. store.causes under p found (disk (store_of start)) (disk (store_of last)) h so_far m (Some call) (tape_of last) (BadScript line)) is s.why
-      cause_of so_far n call (BadParams field) mid q h own s same is rose = subst (λ m. store.causes under p found (disk (store_of start)) (disk (store_of last)) h so_far m (Some call) (tape_of last) (BadParams field)) is s.why
-      cause_of so_far n call NotStore mid q h own s same is rose = subst (λ m. store.causes under p found (disk (store_of start)) (disk (store_of last)) h so_far m (Some call) (tape_of last) NotStore) is s.why
-      cause_of so_far n call (Damaged cell check kept computed) mid q h own s same is rose = subst (λ m. store.causes under p found (disk (store_of start)) (disk (store_of last)) h so_far m (Some call) (tape_of last) (Damaged cell check kept computed)) is s.why
-      cause_of so_far n call (StashFull rows) mid q h own s same is rose = subst (λ m. store.causes under p found (disk (store_of start)) (disk (store_of last)) h so_far m (Some call) (tape_of last) (StashFull rows)) is s.why
-      cause_of so_far n call SourceFault mid q h own s same is rose = subst (λ m. store.causes under p found (disk (store_of start)) (disk (store_of last)) h so_far m (Some call) (tape_of last) SourceFault) is s.why
+      cause_of so_far n call (Worn number) mid q h own s same is rose = subst (λ m. store.causes under p found (disk (store_of start)) (disk (store_of last)) h so_far m (Some call) (tape_of last).words (Worn number)) is s.why
+      cause_of so_far n call Usage mid q h own s same is rose = subst (λ m. store.causes under p found (disk (store_of start)) (disk (store_of last)) h so_far m (Some call) (tape_of last).words Usage) is s.why
+      cause_of so_far n call (BadScript line) mid q h own s same is rose = subst (λ m. store.causes under p found (disk (store_of start)) (disk (store_of last)) h so_far m (Some call) (tape_of last).words (BadScript line)) is s.why
+      cause_of so_far n call (BadParams field) mid q h own s same is rose = subst (λ m. store.causes under p found (disk (store_of start)) (disk (store_of last)) h so_far m (Some call) (tape_of last).words (BadParams field)) is s.why
+      cause_of so_far n call NotStore mid q h own s same is rose = subst (λ m. store.causes under p found (disk (store_of start)) (disk (store_of last)) h so_far m (Some call) (tape_of last).words NotStore) is s.why
+      cause_of so_far n call (Damaged cell check kept computed) mid q h own s same is rose = subst (λ m. store.causes under p found (disk (store_of start)) (disk (store_of last)) h so_far m (Some call) (tape_of last).words (Damaged cell check kept computed)) is s.why
+      cause_of so_far n call (StashFull rows) mid q h own s same is rose = subst (λ m. store.causes under p found (disk (store_of start)) (disk (store_of last)) h so_far m (Some call) (tape_of last).words (StashFull rows)) is s.why
+      cause_of so_far n call SourceFault mid q h own s same is rose = subst (λ m. store.causes under p found (disk (store_of start)) (disk (store_of last)) h so_far m (Some call) (tape_of last).words SourceFault) is s.why
 
       -- a last call was refused with this fault, behind others that were answered
       cut_short : (front : List (VaultCall × VaultAnswer)) (call : VaultCall) (answer : VaultAnswer) (fault : Fault) (notes : List Note) → AllNoted k first t (front ++ (call, answer) ∷ []) notes last u → AreAnswered front → AreWritten (ended_of front) records
           → refused ((call, answer) ∷ []) ≡ Some call → shapes ((call, answer) ∷ []) ≡ [] → answered ((call, answer) ∷ []) ≡ []
-          → ((q : store.Public) (h : store.Hidden) (so_far : List Shape) (n : ℕ) (v : V) (w : V) → At q h so_far n v → (one : Called k v call answer w) → Stops store under most p found (disk (store_of start)) (disk (store_of v)) (disk (store_of w)) (tape_of w) q h so_far n call fault one.notes)
+          → ((q : store.Public) (h : store.Hidden) (so_far : List Shape) (n : ℕ) (v : V) (w : V) → At q h so_far n v → (one : Called k v call answer w)
+          → Stops store under most p found (disk (store_of start)) (disk (store_of v)) (disk (store_of w)) (tape_of w).words q h so_far n call fault one.notes)
           → (IsStoreFault fault → Rose (k.disk first).faults (k.disk last).faults) → Ending (front ++ (call, answer) ∷ []) (Some (failed.Fault fault))
       cut_short front call answer fault notes chain all wrote is none none_answered stops cause =
           let (mid, between, front_notes, own, before_last, (one, own_is, whole, own_shown), joined) = split first t front call answer notes last u chain in
@@ -296,8 +299,8 @@ module _ {V S : Type 0} (k : Kind V) (store : StoreKind) (disk : S → Disk) (st
           let calls_front : answered (front ++ (call, answer) ∷ []) ≡ answered front = answers_join front ((call, answer) ∷ []) ∙ ap (λ (l : List VaultCall). answered front ++ l) none_answered ∙ append-nil (answered front) in
           let cut : Cut q b.kept (refused (front ++ (call, answer) ∷ [])) (Some fault) s.more one.notes = subst (λ (o : Option VaultCall). Cut q b.kept o (Some fault) s.more one.notes) (sym was_cut) (s.cut, s.shown) in
           record {
-            cause = subst (λ (l : List Shape). EndsFor store under p found (disk (store_of start)) b.kept l (length records) (refused (front ++ (call, answer) ∷ [])) (tape_of last) (disk (store_of first)) (disk (store_of last)) before after t u (Some (failed.Fault fault))) (sym as_front)
-                (subst (λ (o : Option VaultCall). EndsFor store under p found (disk (store_of start)) b.kept (shapes front) (length records) o (tape_of last) (disk (store_of first)) (disk (store_of last)) before after t u (Some (failed.Fault fault))) (sym was_cut)
+            cause = subst (λ (l : List Shape). EndsFor store under p found (disk (store_of start)) b.kept l (length records) (refused (front ++ (call, answer) ∷ [])) (tape_of last).words (disk (store_of first)) (disk (store_of last)) before after t u (Some (failed.Fault fault))) (sym as_front)
+                (subst (λ (o : Option VaultCall). EndsFor store under p found (disk (store_of start)) b.kept (shapes front) (length records) o (tape_of last).words (disk (store_of first)) (disk (store_of last)) before after t u (Some (failed.Fault fault))) (sym was_cut)
                 (cause_of (shapes front) (0 + length (ended_of front)) call fault mid q b.kept one.notes s refl (none_before (length (ended_of front)) ∙ counted_ends (ended_of front) records wrote) cause));
             events = b.seen.events ++ s.more;
             traced = record {
@@ -305,7 +308,7 @@ module _ {V S : Type 0} (k : Kind V) (store : StoreKind) (disk : S → Disk) (st
               shapes_are = b.shapes_are ∙ sym as_front;
               behind = b.kept;
               drawn = subst (λ (l : List VaultCall). AreDrawn store p (store.hidden p found) l b.taken b.kept) (sym calls_front) b.drawn;
-              of_tape = subst (λ (o : Option VaultCall). store.is_of_tape p b.kept o (tape_of last) (Some fault)) (sym was_cut) s.of_tape;
+              of_tape = subst (λ (o : Option VaultCall). store.is_of_tape p b.kept o (tape_of last).words (Some fault)) (sym was_cut) s.of_tape;
               first = b.seen.events;
               dealt = b.seen.dealt;
               more = s.more;
@@ -321,9 +324,9 @@ module _ {V S : Type 0} (k : Kind V) (store : StoreKind) (disk : S → Disk) (st
               each = each_then (steps_rows store p (store.public p found) b.taken) (refused_row (refused (front ++ (call, answer) ∷ [])) one.notes) t between u b.each
                   (subst (λ (o : Option VaultCall). EachShown (refused_row o one.notes) between u) (sym was_cut) (whole, (u, subst (λ (l : List Note). Shows l between u) (sym own_is) own_shown, refl)));
             };
-            goes_on = subst (λ (l : List VaultCall). life.goes_on under p found (disk (store_of start)) l b.taken b.kept (refused (front ++ (call, answer) ∷ [])) (tape_of last) (disk (store_of last))) (sym calls_front)
-                (subst (λ (o : Option VaultCall). life.goes_on under p found (disk (store_of start)) (answered front) b.taken b.kept o (tape_of last) (disk (store_of last))) (sym was_cut)
-                (at_stop (answered front) b.taken q b.kept (shapes front) (0 + length (ended_of front)) mid b.drawn b.at call answer last one));
+            goes_on = subst (λ (l : List VaultCall). life.goes_on under most p found (disk (store_of start)) l b.taken b.kept (refused (front ++ (call, answer) ∷ [])) (tape_of last).words s.more (disk (store_of last))) (sym calls_front)
+                (subst (λ (o : Option VaultCall). life.goes_on under most p found (disk (store_of start)) (answered front) b.taken b.kept o (tape_of last).words s.more (disk (store_of last))) (sym was_cut)
+                (at_stop (answered front) b.taken q b.kept (shapes front) (0 + length (ended_of front)) mid b.drawn b.at call answer last one fault s.more s.cut s.shown));
             seen = joined_seen b.seen.events s.more _ _ _ b.seen.noted s.seen;
           }
         where
@@ -403,6 +406,7 @@ module _ {V S : Type 0} (k : Kind V) (store : StoreKind) (disk : S → Disk) (st
     pub rests : Rests k
     pub holds : (m : Map nat_cmp) → store.is_map under p (disk (store_of start)) found m → HoldsMap k start m
     pub sound : (at : Standing) → (disk (store_of start)).tells → IsSynced (disk (store_of start)) → IsOpenedAt store under p at found (disk (store_of start)) → k.sound start (opened_with p (store.left p found) at)
+    pub stays : (w : V) (steps : List (VaultCall × VaultAnswer)) → AllCalled k start steps w → (tape_of w).generation ≡ store.generation found
     pub told : (w : V) (steps : List (VaultCall × VaultAnswer)) → AllCalled k start steps w → AreAnswered steps → (disk (store_of start)).tells → (disk (store_of w)).tells
     pub lives : (w : V) (steps : List (VaultCall × VaultAnswer)) → AllCalled k start steps w → LivesBehind disk under sealing (store_of start) (store_of w) (map (λ s. s.1) steps)
 
@@ -518,10 +522,10 @@ module _ {V S : Type 0} (k : Kind V) (store : StoreKind) (disk : S → Disk) (st
 
       -- the trace, what goes on in the life with its steps, and why it ended there
       abbrev TracesLife : List Act → List Event → Type 0
-      TracesLife xs events = (t : IsTraced store most p (store.public p found) (store.hidden p found) (tape_of last) (calls xs) (told_fault (err_of result)) events)
-          × IsShownToWatch store most p (store.public p found) (store.hidden p found) (tape_of last) (calls xs) (told_fault (err_of result)) events t trace end.scene.trace
-          × life.goes_on under p found (disk (store_of start)) (answered (calls xs)) t.steps t.behind (refused (calls xs)) (tape_of last) (disk (store_of last))
-          × EndsFor store under p found (disk (store_of start)) t.behind (shapes (calls xs)) (length records) (refused (calls xs)) (tape_of last) (disk (store_of start)) (disk (store_of last)) before after trace end.scene.trace (err_of result)
+      TracesLife xs events = (t : IsTraced store most p (store.public p found) (store.hidden p found) (tape_of last).words (calls xs) (told_fault (err_of result)) events)
+          × IsShownToWatch store most p (store.public p found) (store.hidden p found) (tape_of last).words (calls xs) (told_fault (err_of result)) events t trace end.scene.trace
+          × life.goes_on under most p found (disk (store_of start)) (answered (calls xs)) t.steps t.behind (refused (calls xs)) (tape_of last).words t.more (disk (store_of last))
+          × EndsFor store under p found (disk (store_of start)) t.behind (shapes (calls xs)) (length records) (refused (calls xs)) (tape_of last).words (disk (store_of start)) (disk (store_of last)) before after trace end.scene.trace (err_of result)
 
       -- the vault's calls, beside what serving does
       calls_behind : CallsBehind k start (calls is_run.acts) last (err_of result)
@@ -552,6 +556,7 @@ module _ {V S : Type 0} (k : Kind V) (store : StoreKind) (disk : S → Disk) (st
               lines = stand.1;
               events = e.events;
               traced = told.0;
+              in_generation = l.stays last (calls acts) chain;
               seen = e.seen;
               goes = l.goes start last (goes_all k start trace (calls acts) d.notes last end.scene.trace d.chain);
               tells = still_told result d.ends;
@@ -579,6 +584,6 @@ module _ {V S : Type 0} (k : Kind V) (store : StoreKind) (disk : S → Disk) (st
       serves beat threads kind means sealing script sound may trace runners before end result unbroken named planned acts d (subst (λ numbers. AreShaped threads numbers acts) named shaped) l begun
 
 -- the same by other names
-pub renamed : (store : StoreKind) (life : LifeWords store) {S : Type 0} (disk : S → Disk) (by : Manner) (keys : Keys) (p : Params) (found : store.Found) (was sealing : Sealing) (script : Scripts) (given words : List ℕ) (a old b new : S) (before after : Flow) (t u : Trace) (err : Option RunErr)
-    → was ≡ sealing → given ≡ words → a ≡ old → new ≡ b → ServedOver store life disk by keys p found was script given a b before after t u err → ServedOver store life disk by keys p found sealing script words old new before after t u err
-renamed store life disk by keys p found was sealing script given words a old b new before after t u err sealing_is words_are old_is new_is s = rw (← sealing_is, ← words_are, ← old_is, new_is) s
+pub renamed : (store : StoreKind) (life : LifeWords store) {S : Type 0} (disk : S → Disk) (by : Manner) (keys : Keys) (p : Params) (found : store.Found) (was sealing : Sealing) (script : Scripts) (first_told tape : Given) (a old b new : S) (before after : Flow) (t u : Trace) (err : Option RunErr)
+    → was ≡ sealing → first_told ≡ tape → a ≡ old → new ≡ b → ServedOver store life disk by keys p found was script first_told a b before after t u err → ServedOver store life disk by keys p found sealing script tape old new before after t u err
+renamed store life disk by keys p found was sealing script first_told tape a old b new before after t u err sealing_is tape_is old_is new_is s = rw (← sealing_is, ← tape_is, ← old_is, new_is) s

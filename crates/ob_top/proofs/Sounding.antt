@@ -19,7 +19,7 @@ use Rattle.ob_vault.specs.Keeping.{AreStandingLaws}
 use Rattle.ob_vault.specs.KindLives.{LifeWords}
 use Rattle.ob_vault.specs.Kinds.{AllStand, StoreKind, Stands, StandsAsBefore}
 use Rattle.ob_top.specs.Formats.{IsFormatted}
-use Rattle.ob_top.specs.Outside.{Outside}
+use Rattle.ob_top.specs.Outside.{Given, Outside}
 use Rattle.ob_top.specs.Runs.{EndsEarly, Manner, Ran}
 use Rattle.ob_top.specs.Sound.{IsSound, StandsOn}
 
@@ -48,8 +48,8 @@ none_told_at_0 (Some failed.Unwatched) is = absurd (omega (arith, is))
 
 module _ (store : StoreKind) where
   -- a new store stands
-  pub formatted_sound : (life : LifeWords store) {S : Type 0} (disk : S → Disk) (keys : Keys) (p : Params) (old new : S) → IsFormatted store life disk keys p old new → (disk old).tells → IsSound store keys p (disk new)
-  formatted_sound life disk keys p old new is tells = record {
+  pub formatted_sound : (life : LifeWords store) {S : Type 0} (disk : S → Disk) (tape : Given) (keys : Keys) (p : Params) (old new : S) → IsFormatted store life disk tape keys p old new → (disk old).tells → IsSound store keys p (disk new)
+  formatted_sound life disk tape keys p old new is tells = record {
     cells = λ told. (beginning, (1, is.made.stands tells));
     images = λ c left. (beginning, (1, is.made.images tells c left));
   }
@@ -104,8 +104,8 @@ module _ (store : StoreKind) where
     early_sound most t u before after failed.Unwatched (inl head) p tells sound = read_sound keys p (disk old) (disk new) head.passes sound
     early_sound most t u before after failed.Unwatched (inr opening) p tells sound = opened_sound opening.p opening.opened.head opening.left p tells sound
 
-    pub ran_sound : (by : Manner) (words : List ℕ) (before after : Outside) (t u : Trace) (records : List (EpochRecord ℕ)) (err : Option RunErr) → Ran store life disk by words keys old new before after t u records err → StandsOn store disk keys old new
-    ran_sound by words before after t u records err r p tells sound =
+    pub ran_sound : (by : Manner) (tape : Given) (before after : Outside) (t u : Trace) (records : List (EpochRecord ℕ)) (err : Option RunErr) → Ran store life disk by tape keys old new before after t u records err → StandsOn store disk keys old new
+    ran_sound by tape before after t u records err r p tells sound =
         let same : p ≡ r.p = one_p laws keys p r.p (disk old) tells sound r.opened.head in
         let is = subst (λ (q : Params). IsSound store keys q (disk old)) same sound in
         let (at, stands) = is.cells tells in

@@ -13,7 +13,7 @@ use Rattle.ob_script.specs.Script.{Scripts, IsScript, limit}
 use Rattle.ob_vault.specs.Kinds.{StoreKind}
 use Rattle.ob_words.specs.Reading.{asked_by, format_asked, run_asked, audit_asked, drill_asked}
 use Rattle.ob_words.specs.Work.{AreParams, AreLanes, IsCount, HasKeys}
-use Rattle.ob_top.specs.Outside.{Outside, Left, OfStore}
+use Rattle.ob_top.specs.Outside.{Given, Outside, Left, OfStore}
 use Rattle.ob_top.specs.Runs.{Manner, Ran, manner}
 use Rattle.ob_store.specs.Lines.{Trace}
 use Rattle.ob_io.specs.Streams.{Flow}
@@ -73,8 +73,8 @@ module _ {W : Type 0} (flow : W → Flow) (words : List (List ℕ)) (text : Opti
     -- even if each transaction ends an epoch
     pub lasts : store.lasts p generation at.epoch (length script.txns)
 
--- behind the run the tape has given the words `drawn` of its generation
-module _ {S W : Type 0} (disk : S → Disk) (flow : W → Flow) (beat : BeatKind) (drawn : List ℕ) (words : List (List ℕ)) (text : Option (Bor (List ℕ))) (was is : Option W) (before after : Outside) (status : ℕ) where
+-- behind the run the tape has given this
+module _ {S W : Type 0} (disk : S → Disk) (flow : W → Flow) (beat : BeatKind) (tape : Given) (words : List (List ℕ)) (text : Option (Bor (List ℕ))) (was is : Option W) (before after : Outside) (status : ℕ) where
   -- The script was run up to an end that would leave more rows in the stash than that may keep, as the run's cause tells. That comes only
   -- where the store may hold more keys than that.
   pub record StopsFull (by : Manner) (keys : Keys) (p : Params) (old new : S) : Type 0 where
@@ -85,7 +85,7 @@ module _ {S W : Type 0} (disk : S → Disk) (flow : W → Flow) (beat : BeatKind
     -- what its watch told before it, and tells behind it
     pub first : Trace
     pub last : Trace
-    pub ran : Ran ring_kind ring_lives disk by drawn keys old new before after first last records (Some (failed.Fault (StashFull rows)))
+    pub ran : Ran ring_kind ring_lives disk by tape keys old new before after first last records (Some (failed.Fault (StashFull rows)))
 
   -- What can be done is done, but for want of memory, or of room in the stash: `FormatDoes` and `RunDoes` say what that comes to.
   abbrev pub DoesWhatItCan : S → S → Type 0

@@ -1,6 +1,7 @@
 -- What `format` does.
-use Rattle.std.specs.Prelude.{ℕ, ◌≡◌, true, false, Bool, Option, Some, None}
+use Rattle.std.specs.Prelude.{ℕ, ◌≡◌, ◌*◌, true, false, Bool, Option, Some, None, length}
 use Rattle.ob_base.specs.declared.params.Params.{Params}
+use Rattle.ob_base.specs.Tree.{buckets, width}
 use Rattle.ob_seal.specs.declared.keys.Keys.{Keys}
 use Rattle.ob_base.specs.declared.fault.Fault.TheVariants.{StoreFault, SinkFault}
 use Rattle.ob_base.specs.Causes.{Rose}
@@ -21,27 +22,34 @@ use Rattle.ob_pads.specs.Lives.{IsFormattedStore}
 use Rattle.ob_vault.specs.Kinds.{StoreKind}
 use Rattle.ob_vault.specs.Formats.{MakesEmpty}
 use Rattle.ob_vault.specs.KindLives.{LifeWords}
-use Rattle.ob_top.specs.Outside.{Outside}
+use Rattle.ob_top.specs.Outside.{Given, Outside}
 use Rattle.ob_top.specs.Sound.{IsSound}
 
+-- So many words were drawn as the buckets have slots, of the first generation, and no other.
+pub record DrawsSlots (p : Params) (tape : Given) : Type 0 where
+  pub first : tape.generation ≡ 1
+  pub many : length tape.words ≡ buckets p * width p
+
 -- An empty store was made, and a life of it begins. Its cells are told where they were.
-pub record IsFormatted (store : StoreKind) (life : LifeWords store) {S : Type 0} (disk : S → Disk) (keys : Keys) (p : Params) (old new : S) : Type 0 where
+pub record IsFormatted (store : StoreKind) (life : LifeWords store) {S : Type 0} (disk : S → Disk) (tape : Given) (keys : Keys) (p : Params) (old new : S) : Type 0 where
   pub made : MakesEmpty store keys p (disk old) (disk new)
   pub tells : (disk old).tells → (disk new).tells
+  pub draws : DrawsSlots p tape
   pub begins : (disk old).tells → (disk old).leaves → IsFormattedStore disk keys new
-  -- each image that a crash leaves stands for a life that begins
-  pub begins_life : (disk old).tells → life.formatted keys p (disk new)
+  -- each image that a crash leaves stands for a life that begins with these words
+  pub begins_life : (disk old).tells → life.formatted keys p tape.words (disk new)
 
-module _ (store : StoreKind) (life : LifeWords store) {S : Type 0} (disk : S → Disk) where
-  -- Its notes were all shown to the watch, which is whole behind them, or broke with them.
-  abbrev pub ShowsFormat : Params → Trace → Trace → Bool → Type 0
-  ShowsFormat p t u is_broken = Shows (store.format_notes p) t u × (u.broken ≡ is_broken)
+-- Its notes were all shown to the watch, which is whole behind them, or broke with them.
+abbrev pub ShowsFormat : StoreKind → Params → Trace → Trace → Bool → Type 0
+ShowsFormat store p t u is_broken = Shows (store.format_notes p) t u × (u.broken ≡ is_broken)
 
+-- behind the format the tape has given this
+module _ (store : StoreKind) (life : LifeWords store) {S : Type 0} (disk : S → Disk) (tape : Given) where
   -- How it ends. Its line tells how many cells the store has; none is written where the watch broke.
   abbrev pub FormatEnds : Keys → Params → S → S → Flow → Flow → Trace → Trace → Option RunErr → Type 0
-  FormatEnds keys p old new before after t u None = IsFormatted store life disk keys p old new × (after.bytes ≡ appended before.bytes (size_line (store.cells p))) × ShowsFormat p t u false
-  FormatEnds keys p old new before after t u (Some failed.Unwatched) = IsFormatted store life disk keys p old new × (after ≡ before) × ShowsFormat p t u true
-  FormatEnds keys p old new before after t u (Some (failed.Fault SinkFault)) = IsFormatted store life disk keys p old new × Rose before.faults after.faults × IsPrinted before after (size_line (store.cells p)) × ShowsFormat p t u false
+  FormatEnds keys p old new before after t u None = IsFormatted store life disk tape keys p old new × (after.bytes ≡ appended before.bytes (size_line (store.cells p))) × ShowsFormat store p t u false
+  FormatEnds keys p old new before after t u (Some failed.Unwatched) = IsFormatted store life disk tape keys p old new × (after ≡ before) × ShowsFormat store p t u true
+  FormatEnds keys p old new before after t u (Some (failed.Fault SinkFault)) = IsFormatted store life disk tape keys p old new × Rose before.faults after.faults × IsPrinted before after (size_line (store.cells p)) × ShowsFormat store p t u false
   FormatEnds keys p old new before after t u (Some (failed.Fault (StoreFault unsure))) =
       (unsure ≡ None) × Rose (disk old).faults (disk new).faults × NotesFirst (store.format_order p) (disk old).seen (disk new).seen × (after ≡ before) × TellsFirst (store.format_notes p) (disk old).seen (disk new).seen t u
   FormatEnds keys p old new before after t u (Some (failed.Fault fault)) = store.format_fault fault × (new ≡ old) × (after ≡ before) × (u ≡ t)
@@ -49,9 +57,9 @@ module _ (store : StoreKind) (life : LifeWords store) {S : Type 0} (disk : S →
   -- What stands in the output, and the store: behind the whole line; where the watch broke; where the line failed; where the store did; and
   -- where nothing was done.
   abbrev pub FormatTold : Keys → Params → S → S → Flow → Flow → Trace → Trace → Option RunErr → Type 0
-  FormatTold keys p old new before after t u None = IsFormatted store life disk keys p old new × (after.bytes ≡ appended before.bytes (size_line (store.cells p))) × ShowsFormat p t u false
-  FormatTold keys p old new before after t u (Some failed.Unwatched) = IsFormatted store life disk keys p old new × IsPrinted before after (fault_line (Some SinkFault)) × ShowsFormat p t u true
-  FormatTold keys p old new before after t u (Some (failed.Fault SinkFault)) = IsFormatted store life disk keys p old new × Rose before.faults after.faults × IsPrinted before after (size_line (store.cells p)) × ShowsFormat p t u false
+  FormatTold keys p old new before after t u None = IsFormatted store life disk tape keys p old new × (after.bytes ≡ appended before.bytes (size_line (store.cells p))) × ShowsFormat store p t u false
+  FormatTold keys p old new before after t u (Some failed.Unwatched) = IsFormatted store life disk tape keys p old new × IsPrinted before after (fault_line (Some SinkFault)) × ShowsFormat store p t u true
+  FormatTold keys p old new before after t u (Some (failed.Fault SinkFault)) = IsFormatted store life disk tape keys p old new × Rose before.faults after.faults × IsPrinted before after (size_line (store.cells p)) × ShowsFormat store p t u false
   FormatTold keys p old new before after t u (Some (failed.Fault (StoreFault unsure))) =
       (unsure ≡ None) × Rose (disk old).faults (disk new).faults × NotesFirst (store.format_order p) (disk old).seen (disk new).seen × IsPrinted before after (fault_line (Some (StoreFault None))) × TellsFirst (store.format_notes p) (disk old).seen (disk new).seen t u
   FormatTold keys p old new before after t u (Some (failed.Fault fault)) = store.format_fault fault × (new ≡ old) × IsPrinted before after (fault_line (Some fault)) × (u ≡ t)
@@ -63,6 +71,6 @@ module _ (store : StoreKind) (life : LifeWords store) {S : Type 0} (disk : S →
     pub untouched : after.input ≡ before.input
     pub told : FormatTold keys p old new before.output after.output t u err
     -- A crash at any moment leaves what is no store, or a torn head; or, behind the last sync, the empty store.
-    pub left : (disk old).tells → LeavesOnly (disk old) (disk new) (store.format_leaves keys p (disk old))
+    pub left : (disk old).tells → LeavesOnly (disk old) (disk new) (store.format_leaves keys p tape.words (disk old))
     -- At status 0 the next call finds a store that stands.
     pub sound : status ≡ 0 → (disk old).tells → IsSound store keys p (disk new)

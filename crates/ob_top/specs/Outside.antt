@@ -22,6 +22,14 @@ pub record Outside : Type 0 where
 abbrev pub outside : Flow → Flow → Outside
 outside input output = record { input = input; output = output }
 
+-- The words that a tape has given, and the generation that it was started at to give them.
+pub record Given : Type 0 where
+  pub generation : ℕ
+  pub words : List ℕ
+
+abbrev pub words_given : (generation : ℕ) → List ℕ → Given
+words_given generation words = record { generation = generation; words = words }
+
 -- what was left behind a reference that may have been handed in
 abbrev pub Left : Type 0 → Type 0
 Left S = Unit {0} ⊎ ((MutBor S × Unit {0}) ⊎ ⊥)

@@ -43,7 +43,7 @@ use Rattle.ob_conduct.specs.Left.{IsLeftStanding, IsLeftNow, IsThisOrNext, next_
 use Rattle.ob_run.specs.Threaded.{AreShaped}
 use Rattle.ob_outcomes.specs.Served.{IsServed, ClientsServed, ClientsServedAll}
 use Rattle.ob_top.specs.Endings.{IsNextBy, LinesStand, told_fault}
-use Rattle.ob_top.specs.Outside.{Outside, ErrTold}
+use Rattle.ob_top.specs.Outside.{Outside, ErrTold, Given}
 use Rattle.ob_top.specs.Sound.{StandsOn}
 
 -- The phases of the opening: the head's read, and the order that the kind of store gives.
@@ -316,7 +316,7 @@ abbrev pub LivesBehind : {S : Type 0} → (S → Disk) → Keys → Sealing → 
 LivesBehind {S} disk keys sealing opened new answers = (old : S) → ((disk opened).tells → Opens keys (disk old) (disk opened) sealing) → (disk new).tells → LivesOn disk keys old new answers
 
 -- What serving does to the store and the output, and what the watch is shown of it; behind it the tape has given these words.
-pub record ServedOver (store : StoreKind) (life : LifeWords store) {S : Type 0} (disk : S → Disk) (by : Manner) (keys : Keys) (p : Params) (found : store.Found) (sealing : Sealing) (script : Scripts) (words : List ℕ) (old new : S) (before after : Flow)
+pub record ServedOver (store : StoreKind) (life : LifeWords store) {S : Type 0} (disk : S → Disk) (by : Manner) (keys : Keys) (p : Params) (found : store.Found) (sealing : Sealing) (script : Scripts) (tape : Given) (old new : S) (before after : Flow)
     (t u : Trace) (err : Option RunErr) : Type 0 where
   pub records : List (EpochRecord ℕ)
   pub is_served : ScriptServed store by keys p (disk old) found script records err
@@ -324,21 +324,23 @@ pub record ServedOver (store : StoreKind) (life : LifeWords store) {S : Type 0} 
   pub whole : ℕ
   pub lines : LinesStand err records whole before after
   pub events : List Event
-  pub traced : IsTraced store by.lanes p (store.public p found) (store.hidden p found) words (calls is_served.served.acts) (told_fault err) events
-  pub shown : IsShownToWatch store by.lanes p (store.public p found) (store.hidden p found) words (calls is_served.served.acts) (told_fault err) events traced t u
+  pub traced : IsTraced store by.lanes p (store.public p found) (store.hidden p found) tape.words (calls is_served.served.acts) (told_fault err) events
+  -- the tape is in the generation that was found
+  pub in_generation : tape.generation ≡ store.generation found
+  pub shown : IsShownToWatch store by.lanes p (store.public p found) (store.hidden p found) tape.words (calls is_served.served.acts) (told_fault err) events traced t u
   -- one that is over has a whole watch
   pub watched : err ≡ None → u.broken ≡ false
-  pub cause : EndsFor store keys p found (disk old) traced.behind (shapes (calls is_served.served.acts)) (length records) (refused (calls is_served.served.acts)) words (disk old) (disk new) before after t u err
+  pub cause : EndsFor store keys p found (disk old) traced.behind (shapes (calls is_served.served.acts)) (length records) (refused (calls is_served.served.acts)) tape.words (disk old) (disk new) before after t u err
   pub seen : Notes events (disk old).seen (disk new).seen
   pub goes : GoesOn (disk old) (disk new)
   -- unless there was a fault, cells are told where they were
   pub tells : err ≡ None → (disk old).tells → (disk new).tells
   pub left : (at : Standing) → (disk old).tells → IsSynced (disk old) → IsOpenedAt store keys p at found (disk old) → IsLeftOnDisk store keys p found at script records err is_served.served.acts disk (disk old) (disk new)
   pub lives : LivesBehind disk keys sealing old new (map (λ s. s.1) (calls is_served.served.acts))
-  pub goes_on : life.goes_on keys p found (disk old) (answered (calls is_served.served.acts)) traced.steps traced.behind (refused (calls is_served.served.acts)) words (disk new)
+  pub goes_on : life.goes_on keys by.lanes p found (disk old) (answered (calls is_served.served.acts)) traced.steps traced.behind (refused (calls is_served.served.acts)) tape.words traced.more (disk new)
 
--- behind the run the tape has given these words of its generation
-module _ (store : StoreKind) (life : LifeWords store) {S : Type 0} (disk : S → Disk) (by : Manner) (words : List ℕ) where
+-- behind the run the tape has given this
+module _ (store : StoreKind) (life : LifeWords store) {S : Type 0} (disk : S → Disk) (by : Manner) (tape : Given) where
   -- The script was run, whole or up to a fault.
   pub record Ran (keys : Keys) (old new : S) (before after : Outside) (t u : Trace) (records : List (EpochRecord ℕ)) (err : Option RunErr) : Type 0 where
     pub p : Params
@@ -351,8 +353,10 @@ module _ (store : StoreKind) (life : LifeWords store) {S : Type 0} (disk : S →
     pub is_served : ScriptServed store by keys p (disk between) found script records err
     -- the trace is that of the opening, and then that of the vault's calls
     pub events : List Event
-    pub traced : IsTraced store by.lanes p (store.public p found) (store.hidden p found) words (calls is_served.served.acts) (told_fault err) events
-    pub cause : EndsFor store keys p found (disk between) traced.behind (shapes (calls is_served.served.acts)) (length records) (refused (calls is_served.served.acts)) words (disk old) (disk new) before.output after.output t u err
+    pub traced : IsTraced store by.lanes p (store.public p found) (store.hidden p found) tape.words (calls is_served.served.acts) (told_fault err) events
+    -- its words are of the generation that was found
+    pub in_generation : tape.generation ≡ store.generation found
+    pub cause : EndsFor store keys p found (disk between) traced.behind (shapes (calls is_served.served.acts)) (length records) (refused (calls is_served.served.acts)) tape.words (disk old) (disk new) before.output after.output t u err
     pub opening_seen : ArePhasesMade by.lanes (begin_phases store p found start) (disk old).seen (disk between).seen
     pub serving_seen : Notes events (disk between).seen (disk new).seen
     pub seen : Notes (opening_seen.events ++ events) (disk old).seen (disk new).seen
@@ -361,7 +365,7 @@ module _ (store : StoreKind) (life : LifeWords store) {S : Type 0} (disk : S →
     pub midway : Trace
     pub opening_shown : Shows (beginning_notes store p found start) t midway
     pub whole_midway : midway.broken ≡ false
-    pub shown : IsShownToWatch store by.lanes p (store.public p found) (store.hidden p found) words (calls is_served.served.acts) (told_fault err) events traced midway u
+    pub shown : IsShownToWatch store by.lanes p (store.public p found) (store.hidden p found) tape.words (calls is_served.served.acts) (told_fault err) events traced midway u
     pub watched : err ≡ None → u.broken ≡ false
     pub opens : OpensStanding store disk keys p (disk old) (disk between)
     -- unless there was a fault, cells are told where they were
@@ -374,9 +378,10 @@ module _ (store : StoreKind) (life : LifeWords store) {S : Type 0} (disk : S →
     -- The head's read, the opening and the vault's calls, with their answers, are a run in the life of the store.
     pub lives : (disk new).tells → LivesOn disk keys old new (map (λ s. s.1) (calls is_served.served.acts))
     -- What is shown is a part of one life of the store: each life that the cells stood for goes on with the opening's acts to where this was
-    -- found, and from there with those of the vault's calls, which show what fills the trace's holes, to where the store is left.
+    -- found, and from there with those of the vault's calls, which show what fills the trace's holes, and what was seen of one that was
+    -- refused, to where the store is left.
     pub opens_life : (disk old).tells → life.begins keys p (disk old).cells found
-    pub goes_on : life.goes_on keys p found (disk between) (answered (calls is_served.served.acts)) traced.steps traced.behind (refused (calls is_served.served.acts)) words (disk new)
+    pub goes_on : life.goes_on keys by.lanes p found (disk between) (answered (calls is_served.served.acts)) traced.steps traced.behind (refused (calls is_served.served.acts)) tape.words traced.more (disk new)
 
   -- The run ended early, and nothing was run: no vault's call is in the store's life. Or the script was run.
   abbrev pub Went : Keys → S → S → Outside → Outside → Trace → Trace → List (EpochRecord ℕ) → Option RunErr → Type 0

@@ -24,7 +24,7 @@ use Rattle.ob_outcomes.specs.Served.{IsPatient}
 use Rattle.ob_top.specs.Drilling.{no_output}
 use Rattle.ob_top.specs.Drills.{drill_numbers}
 use Rattle.ob_top.specs.Formats.{IsFormatted}
-use Rattle.ob_top.specs.Outside.{blind}
+use Rattle.ob_top.specs.Outside.{Given, blind}
 use Rattle.ob_top.specs.Runs.{ServedOver, manner}
 
 -- Each of so many transactions is committed, in an epoch of its own.
@@ -49,9 +49,9 @@ module _ {S : Type 0} (disk : S → Disk) (beat : BeatKind) (keys : Keys) (p : P
   -- The script was served by threads over the store that was opened, to no output and no watch; and then its map was read.
   pub record IsServedAndRead (found : RingFound) (old new : S) : Type 0 where
     pub between : S
-    -- the words that the tape has given until then
-    pub words : List ℕ
-    pub served : ServedOver ring_kind ring_lives disk (manner beat true 4) keys p found (found.run).sealer (drill_script n) words old between no_output no_output blind blind None
+    -- what the tape has given until then
+    pub tape : Given
+    pub served : ServedOver ring_kind ring_lives disk (manner beat true 4) keys p found (found.run).sealer (drill_script n) tape old between no_output no_output blind blind None
     pub committed : IsPatient beat → AllCommitted n served.records
     pub read : IsReadBehind found (calls served.is_served.served.acts) old new
 
@@ -61,7 +61,9 @@ pub record IsDrilled {S : Type 0} (disk : S → Disk) (beat : BeatKind) (n : ℕ
   pub p : Params
   pub numbers : numbers_of p ≡ drill_numbers
   pub made : S
-  pub formatted : IsFormatted ring_kind ring_lives disk keys p old made
+  -- what the tape of the format has given
+  pub tape : Given
+  pub formatted : IsFormatted ring_kind ring_lives disk tape keys p old made
   pub opened : S
   pub found : RingFound
   pub start : Gates

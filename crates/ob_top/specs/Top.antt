@@ -21,7 +21,7 @@ use Rattle.ob_words.specs.Reading.{asked_by, format_asked, run_asked, audit_aske
 use Rattle.ob_words.specs.declared.work.Command.{Command}
 use Rattle.ob_words.specs.declared.work.Command.TheVariants.{Format, Run}
 use Rattle.ob_words.specs.Work.{AreParams, IsBadNumber, AreLanes, AreBadLanes, IsCount, IsBadCount, Asks, IsRefusedFor, HasKeys, IsKeysRefused}
-use Rattle.ob_top.specs.Outside.{HasTrace, Outside, Left, OfStore, IsOnlyTold, blind}
+use Rattle.ob_top.specs.Outside.{Given, HasTrace, Outside, Left, OfStore, IsOnlyTold, blind}
 use Rattle.ob_top.specs.Audits.{AuditDone}
 use Rattle.ob_top.specs.Drills.{DrillDone}
 use Rattle.ob_top.specs.Formats.{FormatEnds, FormatDone}
@@ -50,13 +50,13 @@ abbrev pub start_for : Command → Start
 start_for (Format p traced) = start.Format p
 start_for (Run k turns traced) = start.Run
 
--- What a command did under a watch that told this before it and tells that behind it; these are the words that the tape has then given.
-abbrev pub WatchedDoes : {S : Type 0} → (S → Disk) → BeatKind → (drawn : List ℕ) → Command → Keys → S → S → Outside → Outside → Trace → Trace → Option RunErr → Type 0
-WatchedDoes disk beat drawn (Format p traced) keys old new before after t u err = FormatEnds ring_kind ring_lives disk keys p old new before.output after.output t u err
-    × ((disk old).tells → LeavesOnly (disk old) (disk new) (ring_kind.format_leaves keys p (disk old))) × (after.input ≡ before.input)
-WatchedDoes disk beat drawn (Run k turns traced) keys old new before after t u err = RunOn ring_kind ring_lives disk (manner beat (not turns) k) drawn keys old new before after t u err
+-- What a command did under a watch that told this before it and tells that behind it; the tape has then given this.
+abbrev pub WatchedDoes : {S : Type 0} → (S → Disk) → BeatKind → (tape : Given) → Command → Keys → S → S → Outside → Outside → Trace → Trace → Option RunErr → Type 0
+WatchedDoes disk beat tape (Format p traced) keys old new before after t u err = FormatEnds ring_kind ring_lives disk tape keys p old new before.output after.output t u err
+    × ((disk old).tells → LeavesOnly (disk old) (disk new) (ring_kind.format_leaves keys p tape.words (disk old))) × (after.input ≡ before.input)
+WatchedDoes disk beat tape (Run k turns traced) keys old new before after t u err = RunOn ring_kind ring_lives disk (manner beat (not turns) k) tape keys old new before after t u err
 
-module _ {S W : Type 0} (disk : S → Disk) (flow : W → Flow) (beat : BeatKind) (drawn : List ℕ) (command : Command) (keys : Keys) (old new : S) (before after : Outside) (was is : Option W) (err : Option RunErr) where
+module _ {S W : Type 0} (disk : S → Disk) (flow : W → Flow) (beat : BeatKind) (tape : Given) (command : Command) (keys : Keys) (old new : S) (before after : Outside) (was is : Option W) (err : Option RunErr) where
   -- nothing was done, for want of a trace
   abbrev pub IsUntraced : Type 0
   IsUntraced = (new ≡ old) × (after ≡ before) × (err ≡ Some failed.Unwatched)
@@ -64,15 +64,15 @@ module _ {S W : Type 0} (disk : S → Disk) (flow : W → Flow) (beat : BeatKind
   -- With a trace: none was handed in; or its first line broke it, and nothing was done; or the command was done under it. Without one what was
   -- handed in is as it was.
   abbrev pub TracedDoes : Bool → Type 0
-  TracedDoes false = (is ≡ was) × WatchedDoes disk beat drawn command keys old new before after blind blind err
+  TracedDoes false = (is ≡ was) × WatchedDoes disk beat tape command keys old new before after blind blind err
   TracedDoes true = ((was ≡ None) × (is ≡ was) × IsUntraced) ⊎ ((t : Trace) × (u : Trace) × HasTrace flow (first_line (start_for command)) was is t u
-      × (((t.broken ≡ true) × (u ≡ t) × IsUntraced) ⊎ ((t.broken ≡ false) × WatchedDoes disk beat drawn command keys old new before after t u err)))
+      × (((t.broken ≡ true) × (u ≡ t) × IsUntraced) ⊎ ((t.broken ≡ false) × WatchedDoes disk beat tape command keys old new before after t u err)))
 
 -- What came of the words over a store, before the fault's line is written.
-abbrev pub CommandDoes : {S W : Type 0} → (S → Disk) → (W → Flow) → BeatKind → (drawn : List ℕ) → List (List ℕ) → Option (Bor (List ℕ)) → S → S → Outside → Outside → Option W → Option W → Option RunErr → Type 0
-CommandDoes disk flow beat drawn words text old new before after was is err =
+abbrev pub CommandDoes : {S W : Type 0} → (S → Disk) → (W → Flow) → BeatKind → (tape : Given) → List (List ℕ) → Option (Bor (List ℕ)) → S → S → Outside → Outside → Option W → Option W → Option RunErr → Type 0
+CommandDoes disk flow beat tape words text old new before after was is err =
     ((f : Fault) × (err ≡ Some (failed.Fault f)) × IsRefusedBefore words text f × ((new ≡ old) × (is ≡ was)) × (after ≡ before))
-    ⊎ ((keys : Keys) × HasKeys text keys × ((command : Command) × Asks words command × TracedDoes disk flow beat drawn command keys old new before after was is err (traced_of command)))
+    ⊎ ((keys : Keys) × HasKeys text keys × ((command : Command) × Asks words command × TracedDoes disk flow beat tape command keys old new before after was is err (traced_of command)))
 
 module _ {S W : Type 0} (flow : W → Flow) (was is : Option W) (before after : Outside) (status : ℕ) where
   -- What was done over a store, under a watch of the trace. With `--trace` there must be one, and its first line be written: else the output's
@@ -119,20 +119,20 @@ module _ {S W : Type 0} (disk : S → Disk) (flow : W → Flow) (beat : BeatKind
   KeysDo = (fault : Fault) × IsKeysRefused text fault × Refuses fault
 
   -- `format`: want of memory for the words is told, then the first number out of its range, then what is wrong with the keys, then that
-  -- there is no store, before anything is touched.
-  abbrev pub FormatDoes : Type 0
-  FormatDoes = (store_path keys_path : List ℕ) (numbers : List (List ℕ)) (trace : Option (List ℕ)) → asked_by words ≡ Some (format_asked store_path keys_path numbers trace) →
+  -- there is no store, before anything is touched. Behind it the tape has given this.
+  abbrev pub FormatDoes : (tape : Given) → Type 0
+  FormatDoes tape = (store_path keys_path : List ℕ) (numbers : List (List ℕ)) (trace : Option (List ℕ)) → asked_by words ≡ Some (format_asked store_path keys_path numbers trace) →
       Refuses Memory
       ⊎ (((field : Field) × IsBadNumber numbers field × Refuses (BadParams field))
       ⊎ ((p : Params) × AreParams numbers p × (KeysDo
-      ⊎ ((keys : Keys) × HasKeys text keys × OfStore entry exit HasNoStore (λ old new. ByTrace flow was is before after status trace (start_line p) (λ t u. FormatDone ring_kind ring_lives disk keys p old new before after t u status) old new)))))
+      ⊎ ((keys : Keys) × HasKeys text keys × OfStore entry exit HasNoStore (λ old new. ByTrace flow was is before after status trace (start_line p) (λ t u. FormatDone ring_kind ring_lives disk tape keys p old new before after t u status) old new)))))
 
   -- `run`: want of memory for the words is told, then lanes out of their range, then what is wrong with the keys, then that there is no
   -- store, before anything is touched. With `--turns` all clients are made by hand; so many lanes share a phase's reads. Behind it the tape
-  -- has given these words.
-  abbrev pub RunDoes : (drawn : List ℕ) → Type 0
-  RunDoes drawn = (store_path keys_path : List ℕ) (lanes : Option (List ℕ)) (turns : Bool) (trace : Option (List ℕ)) → asked_by words ≡ Some (run_asked store_path keys_path lanes turns trace) →
+  -- has given this.
+  abbrev pub RunDoes : (tape : Given) → Type 0
+  RunDoes tape = (store_path keys_path : List ℕ) (lanes : Option (List ℕ)) (turns : Bool) (trace : Option (List ℕ)) → asked_by words ≡ Some (run_asked store_path keys_path lanes turns trace) →
       Refuses Memory
       ⊎ ((AreBadLanes lanes × Refuses (BadParams LANES))
       ⊎ ((k : ℕ) × AreLanes lanes k × (KeysDo
-      ⊎ ((keys : Keys) × HasKeys text keys × OfStore entry exit HasNoStore (λ old new. ByTrace flow was is before after status trace open_line (λ t u. RunDone ring_kind ring_lives disk (manner beat (not turns) k) drawn keys old new before after t u status) old new)))))
+      ⊎ ((keys : Keys) × HasKeys text keys × OfStore entry exit HasNoStore (λ old new. ByTrace flow was is before after status trace open_line (λ t u. RunDone ring_kind ring_lives disk (manner beat (not turns) k) tape keys old new before after t u status) old new)))))

@@ -8,6 +8,7 @@ ghost use Rattle.ob_vault.specs.RingKind.{ring_kind};
 ghost use Rattle.ob_vault.specs.Lives.{ring_lives};
 ghost use Rattle.ob_top.specs.Formats.{FormatEnds};
 ghost use Rattle.ob_top.specs.Endings.{err_of};
+ghost use Rattle.ob_top.specs.Outside.{words_given};
 
 use crate::endings::still_watched;
 use ob_base::{Failed, Fault, Params, ring_cells};
@@ -43,12 +44,14 @@ pub fn format_on<R: Threads + Sync, S: Store, T: Tape, O: Sink, W: Watch>(
     requires whole { (W.trace watch.old).broken ≡ false }
     ensures goes { GoesOn (S.disk store.old) (S.disk store.new) }
     ensures none_out { (S.disk store.new).out ≡ 0 }
-    ensures ends { FormatEnds ring_kind ring_lives S.disk keys.now params.now store.old store.new
-        (outflow O.Sink output.old) (outflow O.Sink output.new) (W.trace watch.old)
+    ensures ends { FormatEnds ring_kind ring_lives S.disk
+        (words_given (T.present tape.new) (T.drawn tape.new)) keys.now params.now store.old
+        store.new (outflow O.Sink output.old) (outflow O.Sink output.new) (W.trace watch.old)
         (W.trace watch.new) (err_of result) }
     ensures left { (S.disk store.old).tells
         → LeavesOnly (S.disk store.old) (S.disk store.new)
-        (ring_kind.format_leaves keys.now params.now (S.disk store.old)) }
+        (ring_kind.format_leaves keys.now params.now (T.drawn tape.new)
+        (S.disk store.old)) }
 {
     match format(rt, alloc, store, tape, keys, params, watch) {
         Ok(()) => {}

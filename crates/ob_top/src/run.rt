@@ -25,7 +25,7 @@ ghost use Rattle.ob_run.specs.Threaded.{RunsBy};
 ghost use Rattle.ob_serial.specs.VaultKinds.{kind_of};
 ghost use Rattle.ob_top.specs.Runs.{manner, CameIn, IsInputRefused, EndsEarly, IsReadAndOpened, ServedOver, RunOn};
 ghost use Rattle.ob_top.specs.Endings.{err_of};
-ghost use Rattle.ob_top.specs.Outside.{outside};
+ghost use Rattle.ob_top.specs.Outside.{words_given, outside};
 
 use crate::endings::still_watched;
 use ob_base::{Fault, Memory, Params};
@@ -246,8 +246,8 @@ fn serve_on<R: Threads + Wait + Sync, S: Lanes, T: Tape, O: Sink, B: Beat, W: Wa
         → GoesOnFrom keys.now begun.params found f → HasPlanned f.run f.content f.records
         → ServedOver ring_kind ring_lives S.disk
         (manner (beat_kind B.passes B.exact) means.threads means.lanes)
-        keys.now begun.params f begun.opening.sealer begun.scripts (T.drawn tape.new)
-        store.old store.new
+        keys.now begun.params f begun.opening.sealer begun.scripts
+        (words_given (T.present tape.new) (T.drawn tape.new)) store.old store.new
         (outflow O.Sink output.old) (outflow O.Sink output.new) (W.trace watch.old)
         (W.trace watch.new) (err_of result) }
 {
@@ -302,7 +302,7 @@ pub fn run_on<R: Threads + Wait + Sync, S: Lanes, T: Tape, I: Source, O: Sink, B
     ensures none_out { (S.disk store.new).out ≡ 0 }
     ensures done { RunOn ring_kind ring_lives S.disk
         (manner (beat_kind B.passes B.exact) means.threads means.lanes)
-        (T.drawn tape.new) keys.now store.old store.new
+        (words_given (T.present tape.new) (T.drawn tape.new)) keys.now store.old store.new
         (outside (inflow I.Source input.old) (outflow O.Sink output.old))
         (outside (inflow I.Source input.new) (outflow O.Sink output.new))
         (W.trace watch.old) (W.trace watch.new) (err_of result) }

@@ -3,7 +3,7 @@
 ghost use Rattle.std.specs.Prelude.{◌≡◌, map, ℕ, List, true, false};
 ghost use Rattle.ob_io.specs.Streams.{inflow, outflow};
 ghost use Rattle.ob_store.specs.Calls.{GoesOn};
-ghost use Rattle.ob_top.specs.Outside.{outside, NoneOut, StoreGoesOn};
+ghost use Rattle.ob_top.specs.Outside.{words_given, outside, NoneOut, StoreGoesOn};
 ghost use Rattle.ob_top.specs.Endings.{err_of};
 ghost use Rattle.ob_words.specs.Work.{Asks};
 ghost use Rattle.ob_top.specs.Top.{AskForSomething, traced_of, start_for, TracedDoes, WatchedDoes, CommandDoes, IsRefusedWithout, UsageDoes, AuditDoes, DrillDoes, FormatDoes, RunDoes};
@@ -67,8 +67,8 @@ fn do_watched<R: Threads + Wait + Sync, S: Lanes, T: Tape, I: Source, O: Sink, B
     requires whole { (W.trace watch.old).broken ≡ false }
     ensures goes { GoesOn (S.disk store.old) (S.disk store.new) }
     ensures none_out { (S.disk store.new).out ≡ 0 }
-    ensures does { WatchedDoes S.disk (beat_kind B.passes B.exact) (T.drawn tape.new) command
-        keys.now store.old store.new
+    ensures does { WatchedDoes S.disk (beat_kind B.passes B.exact)
+        (words_given (T.present tape.new) (T.drawn tape.new)) command keys.now store.old store.new
         (outside (inflow I.Source input.old) (outflow O.Sink output.old))
         (outside (inflow I.Source input.new) (outflow O.Sink output.new)) (W.trace watch.old)
         (W.trace watch.new) (err_of result) }
@@ -108,7 +108,7 @@ fn do_traced<R: Threads + Wait + Sync, S: Lanes, T: Tape, I: Source, O: Sink, B:
     ensures goes { GoesOn (S.disk store.old) (S.disk store.new) }
     ensures none_out { (S.disk store.new).out ≡ 0 }
     ensures does { TracedDoes S.disk (λ w. outflow W.Sink w) (beat_kind B.passes B.exact)
-        (T.drawn tape.new) command keys.now store.old store.new
+        (words_given (T.present tape.new) (T.drawn tape.new)) command keys.now store.old store.new
         (outside (inflow I.Source input.old) (outflow O.Sink output.old))
         (outside (inflow I.Source input.new) (outflow O.Sink output.new)) trace.old trace.new
         (err_of result) true }
@@ -146,7 +146,7 @@ fn do_on<R: Threads + Wait + Sync, S: Lanes, T: Tape, I: Source, O: Sink, B: Bea
     ensures none_out { (S.disk store.new).out ≡ 0 }
     ensures does { (words : List (List ℕ)) → Asks words command
         → CommandDoes S.disk (λ w. outflow W.Sink w) (beat_kind B.passes B.exact)
-        (T.drawn tape.new) words keys.entry store.old store.new
+        (words_given (T.present tape.new) (T.drawn tape.new)) words keys.entry store.old store.new
         (outside (inflow I.Source input.old) (outflow O.Sink output.old))
         (outside (inflow I.Source input.new) (outflow O.Sink output.new)) trace.old trace.new
         (err_of result) }
@@ -190,8 +190,8 @@ fn do_with<
     ensures goes { GoesOn (S.disk store.old) (S.disk store.new) }
     ensures none_out { (S.disk store.new).out ≡ 0 }
     ensures does { OverStore S.disk (λ w. outflow W.Sink w) (beat_kind B.passes B.exact)
-        (T.drawn tape.new) (map (λ w. w.now) words.entry.now) keys.entry
-        store.old store.new
+        (words_given (T.present tape.new) (T.drawn tape.new)) (map (λ w. w.now) words.entry.now)
+        keys.entry store.old store.new
         (outside (inflow I.Source input.old) (outflow O.Sink output.old))
         (outside (inflow I.Source input.new) (outflow O.Sink output.new)) trace.old trace.new
         result }
@@ -327,16 +327,17 @@ pub fn obladi<
         (map (λ w. w.now) words.entry.now) keys.entry
         store.entry store.exit trace.old trace.new
         (outside (inflow I.Source input.old) (outflow O.Sink output.old))
-        (outside (inflow I.Source input.new) (outflow O.Sink output.new)) result }
+        (outside (inflow I.Source input.new) (outflow O.Sink output.new)) result
+        (words_given (T.present tape.new) (T.drawn tape.new)) }
     ensures run { RunDoes S.disk (λ w. outflow W.Sink w) (beat_kind B.passes B.exact)
         (map (λ w. w.now) words.entry.now) keys.entry store.entry
         store.exit trace.old trace.new
         (outside (inflow I.Source input.old) (outflow O.Sink output.old))
         (outside (inflow I.Source input.new) (outflow O.Sink output.new)) result
-        (T.drawn tape.new) }
+        (words_given (T.present tape.new) (T.drawn tape.new)) }
     // What is asked for is done, where nothing stands against it but want of memory.
     ensures complete { Completes S.disk (λ w. outflow W.Sink w) (beat_kind B.passes B.exact)
-        (T.drawn tape.new)
+        (words_given (T.present tape.new) (T.drawn tape.new))
         (map (λ w. w.now) words.entry.now) keys.entry trace.old trace.new
         (outside (inflow I.Source input.old) (outflow O.Sink output.old))
         (outside (inflow I.Source input.new) (outflow O.Sink output.new)) result store.entry

@@ -37,11 +37,13 @@ returns-clause-drilled g c = λ keys f n r is few.
     (λ d has.
     subst (λ x. IsServedAndRead g.S.Store.disk (beat_kind g.B.Beat.passes g.B.Beat.exact) keys c.args.begun.params n f x c.store-1.given.0) c.over-vault.ensures.store
     (subst (λ x. IsServedAndRead g.S.Store.disk (beat_kind g.B.Beat.passes g.B.Beat.exact) keys c.args.begun.params n f first.lent.store.now x) (sym (c.store-1.given.1 names ∙ c.hand_back.ensures.store ∙ c.into_lent-store.ensures.store))
-    (served_and_read _ (λ v. counts_of_run v.run) (λ v u holds. holds.counts_are) g.S.Store.disk (λ x t image at left. g.met.S.Store.counts_now x t image at left) (λ x image left. g.met.S.Store.only_now x image left) (λ v. running v.lent.store.now (g.T.Tape.drawn v.lent.tape.now) v.crew.lanes v.run)
+    (served_and_read _ (λ v. counts_of_run v.run) (λ v u holds. holds.counts_are) g.S.Store.disk (λ x t image at left. g.met.S.Store.counts_now x t image at left) (λ x image left. g.met.S.Store.only_now x image left)
+    (λ v. running v.lent.store.now (g.T.Tape.present v.lent.tape.now) (g.T.Tape.drawn v.lent.tape.now) v.crew.lanes v.run)
     (record { called = λ v call answer notes w one. one; holds = λ v u is. is })
     (record { disk_is = λ v. (v.lent.store.ghost_name, v.lent.tape.ghost_name, refl); holds = λ v u is. is; sound = λ v u is. is; stands = λ v i at is. is; rests = λ w v i sound left. sound.images i left })
     keys c.args.begun.params c.requires.numbers r.found f first r.goes_on run_is (ap (λ (w : Manned). w.lanes) c.over-vault.ensures.crew ∙ c.requires.serves.lanes) r.planned
-    (ap (λ x. g.T.Tape.drawn x) c.over-vault.ensures.tape ∙ none_in _ c.requires.serves.none_drawn) r.epoch r.left map_is refl refl
+    (ap (λ x. g.T.Tape.drawn x) c.over-vault.ensures.tape ∙ none_in _ c.requires.serves.none_drawn)
+    (ap (λ x. g.T.Tape.present x) c.over-vault.ensures.tape ∙ c.requires.serves.present_is ∙ ap (λ (x : Run). x.sealer.generation) (sym r.run_is)) r.epoch r.left map_is refl refl
     _ n few c.args.begun.scripts is c.args.begun.runners.items c.requires.runners _ d has)))
     c.drill_vault-drilled.ensures.drilled
 
@@ -59,11 +61,13 @@ returns-clause-refused g c =
     subst (λ x. IsWant (g.S.Store.disk x) (g.S.Store.disk c.store-1.given.0) refused) c.over-vault.ensures.store
     (subst (λ x. IsWant (g.S.Store.disk first.lent.store.now) (g.S.Store.disk x) refused) (sym (c.store-1.given.1 names ∙ c.hand_back.ensures.store ∙ c.into_lent-store.ensures.store))
     (want_is (g.S.Store.disk first.lent.store.now) (g.S.Store.disk c.drill_vault-drilled.new.vault.lent.store.now) refused
-    (drill_wants _ (λ v. counts_of_run v.run) (λ v u holds. holds.counts_are) g.S.Store.disk (λ x t image at left. g.met.S.Store.counts_now x t image at left) (λ x image left. g.met.S.Store.only_now x image left) (λ v. running v.lent.store.now (g.T.Tape.drawn v.lent.tape.now) v.crew.lanes v.run)
+    (drill_wants _ (λ v. counts_of_run v.run) (λ v u holds. holds.counts_are) g.S.Store.disk (λ x t image at left. g.met.S.Store.counts_now x t image at left) (λ x image left. g.met.S.Store.only_now x image left)
+    (λ v. running v.lent.store.now (g.T.Tape.present v.lent.tape.now) (g.T.Tape.drawn v.lent.tape.now) v.crew.lanes v.run)
     (record { called = λ v call answer notes w one. one; holds = λ v u is. is })
     (record { disk_is = λ v. (v.lent.store.ghost_name, v.lent.tape.ghost_name, refl); holds = λ v u is. is; sound = λ v u is. is; stands = λ v i at is. is; rests = λ w v i sound left. sound.images i left })
     keys c.args.begun.params c.requires.numbers r.found f first r.goes_on run_is (ap (λ (w : Manned). w.lanes) c.over-vault.ensures.crew ∙ c.requires.serves.lanes) r.planned
-    (ap (λ x. g.T.Tape.drawn x) c.over-vault.ensures.tape ∙ none_in _ c.requires.serves.none_drawn) r.epoch r.left map_is refl refl
+    (ap (λ x. g.T.Tape.drawn x) c.over-vault.ensures.tape ∙ none_in _ c.requires.serves.none_drawn)
+    (ap (λ x. g.T.Tape.present x) c.over-vault.ensures.tape ∙ c.requires.serves.present_is ∙ ap (λ (x : Run). x.sealer.generation) (sym r.run_is)) r.epoch r.left map_is refl refl
     _ n few c.args.begun.scripts is c.args.begun.runners.items c.requires.runners _ refused fails)
     cause)))
     (both_refused _ _ c.drill_vault-drilled.result c.drill_vault-drilled.ensures.refused c.drill_vault-drilled.ensures.cause)

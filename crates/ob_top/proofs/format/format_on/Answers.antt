@@ -6,15 +6,15 @@ use Rattle.ob_io.specs.Flows.{appended}
 use Rattle.ob_io.specs.Streams.{outflow}
 use Rattle.ob_report.specs.Printed.{IsPrinted}
 use Rattle.ob_report.specs.Sizes.{size_line}
-use Rattle.ob_vault.proofs.Formatting.{ring_formats}
 use Rattle.ob_vault.proofs.Formatted.{formats}
+use Rattle.ob_top.specs.Outside.{words_given}
 use Rattle.ob_top.proofs.Beginnings.{format_broke, format_refused, formatted}
 use Rattle.ob_top.proofs.format.format_on.Goals as goal
 
 pub returns-in-Err-clause-ends : goal.returns-in-Err-clause-ends
 returns-in-Err-clause-ends g c =
     let e = c.in-Err.ensures in
-    format_refused (λ s. g.S.Store.disk s) c.args.keys.now c.args.params.now c.args.store.now c.format.new.store _ _ _ c.in-Err.fault e.faults e.serves.cause
+    format_refused (λ s. g.S.Store.disk s) (words_given (g.T.Tape.present c.format.new.tape) (g.T.Tape.drawn c.format.new.tape)) c.args.keys.now c.args.params.now c.args.store.now c.format.new.store _ _ _ c.in-Err.fault e.faults e.serves.cause
     (λ is. let (store, tape, watch) = e.memory (ap (λ (x : Fault). Err x) is) in (store, ap (λ w. g.W.Watch.trace w) watch))
     (first_noted (format_notes c.args.params.now) _ _ _ _ e.does.first) e.does.first
 
@@ -23,7 +23,7 @@ returns-in-Ok-size_text-clause-ends g c =
     let e = c.in-Ok.ensures in
     let before = outflow g.O.Sink c.args.output.now in
     let after = outflow g.O.Sink c.size_text.new.sink in (
-      formatted (λ s. g.S.Store.disk s) c.args.keys.now c.args.params.now (g.T.Tape.drawn c.format.new.tape) c.args.store.now c.format.new.store e.does.all.seen e.stands e.images e.durable e.closed e.act
+      formatted (λ s. g.S.Store.disk s) c.args.keys.now c.args.params.now (g.T.Tape.present c.format.new.tape) (g.T.Tape.drawn c.format.new.tape) c.args.store.now c.format.new.store e.does.all.seen e.stands e.images e.durable e.closed e.act e.drawn
           (λ tells. formats c.args.params.now (g.T.Tape.drawn c.format.new.tape) e.drawn.1 c.args.keys.now (g.S.Store.disk c.format.new.store) (e.life tells)) e.serves.tells,
       subst (λ n. after.bytes ≡ appended before.bytes (size_line n)) c.ring_cells.ensures.cells c.in-Ok-size_text.ensures.all,
       (e.does.all.shows, c.in-Ok-still_watched.ensures),
@@ -34,7 +34,7 @@ returns-in-Err-size_text-clause-ends g c =
     let e = c.in-Ok.ensures in
     let before = outflow g.O.Sink c.args.output.now in
     let after = outflow g.O.Sink c.size_text.new.sink in (
-      formatted (λ s. g.S.Store.disk s) c.args.keys.now c.args.params.now (g.T.Tape.drawn c.format.new.tape) c.args.store.now c.format.new.store e.does.all.seen e.stands e.images e.durable e.closed e.act
+      formatted (λ s. g.S.Store.disk s) c.args.keys.now c.args.params.now (g.T.Tape.present c.format.new.tape) (g.T.Tape.drawn c.format.new.tape) c.args.store.now c.format.new.store e.does.all.seen e.stands e.images e.durable e.closed e.act e.drawn
           (λ tells. formats c.args.params.now (g.T.Tape.drawn c.format.new.tape) e.drawn.1 c.args.keys.now (g.S.Store.disk c.format.new.store) (e.life tells)) e.serves.tells,
       c.in-Err-size_text.ensures.cause.failed,
       subst (λ n. IsPrinted before after (size_line n)) c.ring_cells.ensures.cells c.size_text.ensures.printed,
@@ -44,8 +44,8 @@ returns-in-Err-size_text-clause-ends g c =
 pub returns-in-Err-still_watched-clause-ends : goal.returns-in-Err-still_watched-clause-ends
 returns-in-Err-still_watched-clause-ends g c =
     let e = c.in-Ok.ensures in
-    format_broke (λ s. g.S.Store.disk s) c.args.keys.now c.args.params.now c.args.store.now c.format.new.store _ _ _ c.in-Err-still_watched.err c.in-Err-still_watched.ensures
-    (formatted (λ s. g.S.Store.disk s) c.args.keys.now c.args.params.now (g.T.Tape.drawn c.format.new.tape) c.args.store.now c.format.new.store e.does.all.seen e.stands e.images e.durable e.closed e.act
+    format_broke (λ s. g.S.Store.disk s) (words_given (g.T.Tape.present c.format.new.tape) (g.T.Tape.drawn c.format.new.tape)) c.args.keys.now c.args.params.now c.args.store.now c.format.new.store _ _ _ c.in-Err-still_watched.err c.in-Err-still_watched.ensures
+    (formatted (λ s. g.S.Store.disk s) c.args.keys.now c.args.params.now (g.T.Tape.present c.format.new.tape) (g.T.Tape.drawn c.format.new.tape) c.args.store.now c.format.new.store e.does.all.seen e.stands e.images e.durable e.closed e.act e.drawn
     (λ tells. formats c.args.params.now (g.T.Tape.drawn c.format.new.tape) e.drawn.1 c.args.keys.now (g.S.Store.disk c.format.new.store) (e.life tells)) e.serves.tells)
     e.does.all.shows
 
@@ -56,7 +56,7 @@ pub returns-in-Err-still_watched-clause-none_out : goal.returns-in-Err-still_wat
 returns-in-Err-still_watched-clause-none_out g c = omega (arith, c.in-Ok.ensures.serves.out, c.requires.none_out)
 
 pub returns-in-Err-still_watched-clause-left : goal.returns-in-Err-still_watched-clause-left
-returns-in-Err-still_watched-clause-left g c = λ tells. (ring_formats (λ s. g.S.Store.disk s)).leaves c.args.keys.now c.args.params.now (g.T.Tape.drawn c.format.new.tape) c.args.store.now c.format.new.store (c.in-Ok.ensures.crash tells)
+returns-in-Err-still_watched-clause-left g c = c.in-Ok.ensures.crash
 
 -- ---- at each return: the store goes on, no lane is out, and what a crash leaves
 
@@ -67,7 +67,7 @@ pub returns-in-Err-clause-none_out : goal.returns-in-Err-clause-none_out
 returns-in-Err-clause-none_out g c = omega (arith, c.in-Err.ensures.serves.out, c.requires.none_out)
 
 pub returns-in-Err-clause-left : goal.returns-in-Err-clause-left
-returns-in-Err-clause-left g c = λ tells. (ring_formats (λ s. g.S.Store.disk s)).leaves c.args.keys.now c.args.params.now (g.T.Tape.drawn c.format.new.tape) c.args.store.now c.format.new.store (c.in-Err.ensures.crash tells)
+returns-in-Err-clause-left g c = c.in-Err.ensures.crash
 
 pub returns-in-Ok-size_text-clause-goes : goal.returns-in-Ok-size_text-clause-goes
 returns-in-Ok-size_text-clause-goes g c = c.in-Ok.ensures.serves.goes
@@ -76,7 +76,7 @@ pub returns-in-Ok-size_text-clause-none_out : goal.returns-in-Ok-size_text-claus
 returns-in-Ok-size_text-clause-none_out g c = omega (arith, c.in-Ok.ensures.serves.out, c.requires.none_out)
 
 pub returns-in-Ok-size_text-clause-left : goal.returns-in-Ok-size_text-clause-left
-returns-in-Ok-size_text-clause-left g c = λ tells. (ring_formats (λ s. g.S.Store.disk s)).leaves c.args.keys.now c.args.params.now (g.T.Tape.drawn c.format.new.tape) c.args.store.now c.format.new.store (c.in-Ok.ensures.crash tells)
+returns-in-Ok-size_text-clause-left g c = c.in-Ok.ensures.crash
 
 pub returns-in-Err-size_text-clause-goes : goal.returns-in-Err-size_text-clause-goes
 returns-in-Err-size_text-clause-goes g c = c.in-Ok.ensures.serves.goes
@@ -85,4 +85,4 @@ pub returns-in-Err-size_text-clause-none_out : goal.returns-in-Err-size_text-cla
 returns-in-Err-size_text-clause-none_out g c = omega (arith, c.in-Ok.ensures.serves.out, c.requires.none_out)
 
 pub returns-in-Err-size_text-clause-left : goal.returns-in-Err-size_text-clause-left
-returns-in-Err-size_text-clause-left g c = λ tells. (ring_formats (λ s. g.S.Store.disk s)).leaves c.args.keys.now c.args.params.now (g.T.Tape.drawn c.format.new.tape) c.args.store.now c.format.new.store (c.in-Ok.ensures.crash tells)
+returns-in-Err-size_text-clause-left g c = c.in-Ok.ensures.crash
