@@ -1,5 +1,5 @@
 -- Two whole runs behind a format, with a crash between them, are one life.
-use Rattle.std.proofs.Common.{◌≡◌, ◌∙◌, ℕ, suc, List, [], ◌∷◌, Some, refl, sym, ap, subst, inl, arith}
+use Rattle.std.proofs.Common.{◌≡◌, ◌∙◌, ◌<◌, ℕ, suc, List, [], ◌∷◌, Some, refl, sym, ap, subst, inl, arith}
 use mathlib.Core.Path.{fun_ext}
 use Rattle.ob_base.specs.declared.params.Params.{Params}
 use Rattle.ob_conduct.specs.Acts.{calls}
@@ -11,7 +11,7 @@ use Rattle.ob_stand.specs.Stands.{StandsRing}
 use Rattle.ob_store.specs.Disk.{Clock, Disk, Image, NotAfter}
 use Rattle.ob_store.specs.Images.{IsSynced}
 use Rattle.ob_top.specs.Formats as format
-use Rattle.ob_top.specs.Outside.{blind}
+use Rattle.ob_top.specs.Outside.{Given, blind}
 use Rattle.ob_top.specs.Runs.{RunDone}
 use Rattle.ob_top.specs.Sound.{IsSound}
 use Rattle.ob_twin.proofs.Judging.{number_read}
@@ -19,7 +19,9 @@ use Rattle.ob_twin.specs.Keyed.{tagging}
 use Rattle.ob_twin.specs.Reading.{AllWhole, Counts}
 use Rattle.ob_twin.specs.Register.{StandsAt}
 use Rattle.ob_vault.proofs.Standing.{ring_keeps}
-use Rattle.ob_vault.specs.Joined.{AreGiven, AreRunsFrom, IsRunTold, RunPart, RunsAreOneLife}
+use Rattle.ob_vault.specs.Joined.{AreGiven, AreRunsFrom, IsOneLife, IsRunTold, RunPart, RunsAreOneLife}
+use Rattle.ob_vault.specs.Acts.{AreTapeWords}
+use Rattle.ob_vault.specs.Formats.{beginning}
 use Rattle.ob_vault.specs.Kinds.{Stands}
 use Rattle.ob_vault.specs.Lives.{RingBegins, RingGoesOn, ring_lives}
 use Rattle.ob_vault.specs.RingKind.{IsRingFound, IsRingMap, RingFound, ring_kind}
@@ -29,7 +31,7 @@ use Rattle.std.specs.Borrow.{Bor}
 use Rattle.ob_life_tests.specs.Lived.{AreOneLife, HasRun, HasFormatted, IsWholeRun, answers, part_of}
 use Rattle.ob_life_tests.proofs.Ends.{formatted, whole}
 use Rattle.ob_life_tests.proofs.Lives.{joined}
-use Rattle.ob_life_tests.proofs.Words.{first_given, second_given, word_in}
+use Rattle.ob_life_tests.proofs.Words.{first_given, made_given, second_given, word_in}
 
 -- what stands at a generation is opened at the next one
 number_found : (keys : Keys) (image : Image) (g n : ℕ) → StandsAt (tagging keys) 1 image g → AllWhole (tagging keys) 1 image → Counts 1 image n → n ≡ g
@@ -50,7 +52,7 @@ crashed_sound keys p ran left sound may sure = record {
 }
 
 module _ {S : Type 0} (disk : S → Disk) (keys : Keys) (p : Params) where
-  module _ (words : List ℕ) (old new : S) (r : IsWholeRun disk keys words old new) (tells : (disk old).tells) (sound : IsSound ring_kind keys p (disk old)) where
+  module _ (tape : Given) (old new : S) (r : IsWholeRun disk keys tape old new) (tells : (disk old).tells) (sound : IsSound ring_kind keys p (disk old)) where
     -- a run is one of the store that stands
     its_p : p ≡ (r.ran).p
     its_p =
@@ -63,7 +65,7 @@ module _ {S : Type 0} (disk : S → Disk) (keys : Keys) (p : Params) where
         let (at, stands) = sound.cells tells in
         let found = (r.ran).stood at tells (subst (λ (q : Params). Stands ring_kind keys q (disk old).cells at) its_p stands) in (
           subst (λ (q : Params). RingBegins keys q (disk old).cells (r.ran).found) (sym its_p) ((r.ran).opens_life tells),
-          subst (λ (q : Params). RingGoesOn keys q (r.ran).found (disk (r.ran).between) (answered (calls (r.ran).is_served.served.acts)) (r.ran).traced.steps (r.ran).traced.behind (refused (calls (r.ran).is_served.served.acts)) words (disk new)) (sym its_p)
+          subst (λ (q : Params). RingGoesOn keys (r.by).lanes q (r.ran).found (disk (r.ran).between) (answered (calls (r.ran).is_served.served.acts)) (r.ran).traced.steps (r.ran).traced.behind (refused (calls (r.ran).is_served.served.acts)) tape.words (r.ran).traced.more (disk new)) (sym its_p)
               (r.ran).goes_on,
           (at.content, subst (λ (q : Params). IsRingMap keys q (disk (r.ran).between) (r.ran).found at.content) (sym its_p) found.content),
         )
@@ -78,10 +80,10 @@ module _ {S : Type 0} (disk : S → Disk) (keys : Keys) (p : Params) where
         (found.0, subst (λ (q : Params). StandsRing keys q (((r.ran).found.run).sealer).generation c found.0) (sym its_p) found.1)
 
   module _ (counts_now : (x : S) (t : Clock) (c : Image) → NotAfter t (disk x).moment → (disk x).may_leave c → (disk x).left_since t c) (includes_reads : (x : S) → (disk x).tells → (disk x).leaves → (disk x).may_leave (disk x).cells)
-      (one_life : RunsAreOneLife disk) (pads : PadsAreFresh disk) (first_words second_words : List ℕ) (blank made ran left new : S) (format_is : format.IsFormatted ring_kind ring_lives disk keys p blank made)
+      (one_life : RunsAreOneLife disk) (pads : PadsAreFresh disk) (made_by first_by second_by : Given) (blank made ran left new : S) (dummies : 0 < p.dummies) (format_is : format.IsFormatted ring_kind ring_lives disk made_by keys p blank made)
       (sound : IsSound ring_kind keys p (disk made)) (told_blank : (disk blank).tells) (leaves_blank : (disk blank).leaves) (leaves_made : (disk made).leaves)
-      (first : IsWholeRun disk keys first_words made ran) (sound_on : IsSound ring_kind keys p (disk ran)) (may : (disk ran).may_leave (disk left).cells) (sure : IsSynced (disk left)) (told_left : (disk left).tells) (leaves_left : (disk left).leaves)
-      (second : IsWholeRun disk keys second_words left new) where
+      (first : IsWholeRun disk keys first_by made ran) (sound_on : IsSound ring_kind keys p (disk ran)) (may : (disk ran).may_leave (disk left).cells) (sure : IsSynced (disk left)) (told_left : (disk left).tells) (leaves_left : (disk left).leaves)
+      (second : IsWholeRun disk keys second_by left new) where
     told_made : (disk made).tells
     told_made = format_is.tells told_blank
 
@@ -94,20 +96,27 @@ module _ {S : Type 0} (disk : S → Disk) (keys : Keys) (p : Params) where
     abbrev next : ℕ
     next = (((second.ran).found.run).sealer).generation
 
-    -- the second run found the first one's generation, so its own is another one
-    apart : next ≡ generation → ⊥
-    apart same =
-        let (at, stands) = left_at first_words made ran first told_made sound (disk left).cells may in
-        let p_is = its_p second_words left new second told_left sound_left in
-        let more : next ≡ suc generation = next_generation keys (second.ran).p (disk left).cells generation at (second.ran).found (subst (λ (q : Params). StandsRing keys q generation (disk left).cells at) p_is stands) ((second.ran).opened.finds told_left) in
-        omega (arith, same, more)
+    -- the first run found the format's generation, so its own is the next one;
+    behind_first : generation ≡ 2
+    behind_first =
+        let p_is = its_p first_by made ran first told_made sound in
+        next_generation keys (first.ran).p (disk made).cells 1 beginning (first.ran).found (subst (λ (q : Params). StandsRing keys q 1 (disk made).cells beginning) p_is (format_is.made.stands told_blank)) ((first.ran).opened.finds told_made)
 
-    pub lived : AreOneLife disk keys first_words second_words made new
+    -- and the second one found that
+    next_is : next ≡ suc generation
+    next_is =
+        let (at, stands) = left_at first_by made ran first told_made sound (disk left).cells may in
+        let p_is = its_p second_by left new second told_left sound_left in
+        next_generation keys (second.ran).p (disk left).cells generation at (second.ran).found (subst (λ (q : Params). StandsRing keys q generation (disk left).cells at) p_is stands) ((second.ran).opened.finds told_left)
+
+    pub lived : AreOneLife disk keys made_by first_by second_by made new
     lived =
-        let word_of = word_in generation first_words second_words in
+        let word_of = word_in generation made_by.words first_by.words second_by.words in
         let parts : List (RunPart S) = part_of disk first ∷ part_of disk second ∷ [] in
-        let given : AreGiven word_of parts = (first_given generation first_words second_words, (second_given generation next first_words second_words apart, tt)) in
-        let from : AreRunsFrom disk keys p (disk made).may_leave parts = (includes_reads made told_made leaves_made, told first_words made ran first told_made sound, (may, told second_words left new second told_left sound_left, tt)) in
+        let given : AreGiven word_of parts = (first_given generation made_by.words first_by.words second_by.words, (second_given generation made_by.words first_by.words second_by.words next (λ is. omega (arith, is, next_is)) (λ is. omega (arith, is, next_is, behind_first)), tt)) in
+        let from : AreRunsFrom disk keys p (disk made).may_leave parts = (includes_reads made told_made leaves_made, told first_by made ran first told_made sound, (may, told second_by left new second told_left sound_left, tt)) in
+        let drawn = made_given generation made_by.words first_by.words second_by.words (λ is. omega (arith, is, behind_first)) in
+        let lives_on : IsOneLife disk keys p word_of made_by.words parts = one_life keys p made_by.words made parts (format_is.begins_life told_blank) from word_of given in
         let lives = joined disk keys counts_now pads made ran left new (answers disk first) (answers disk second) ((first.ran).lives ((first.ran).tells refl told_made)) ((second.ran).lives ((second.ran).tells refl told_left))
         (format_is.begins told_blank leaves_blank) may sure told_left leaves_left in
         record {
@@ -119,7 +128,9 @@ module _ {S : Type 0} (disk : S → Disk) (keys : Keys) (p : Params) where
           second = second;
           word_of = word_of;
           given = given;
-          one_life = one_life keys p made parts (format_is.begins_life told_blank) from word_of given;
+          drawn = subst (λ n. AreTapeWords word_of n made_by.words) (sym format_is.draws.first) drawn;
+          one_life = lives_on;
+          apart = lives_on.apart dummies drawn;
           acts = lives.acts;
           is_life = lives.is_life;
           answered = lives.answered;
@@ -128,18 +139,19 @@ module _ {S : Type 0} (disk : S → Disk) (keys : Keys) (p : Params) where
 
 -- the same of calls that answered 0 under the keys of one text
 pub lived_so : {S : Type 0} (disk : S → Disk) (counts_now : (x : S) (t : Clock) (c : Image) → NotAfter t (disk x).moment → (disk x).may_leave c → (disk x).left_since t c) (includes_reads : (x : S) → (disk x).tells → (disk x).leaves → (disk x).may_leave (disk x).cells)
-    → RunsAreOneLife disk → PadsAreFresh disk → ((x : S) → (disk x).tells) → ((x : S) → (disk x).leaves) → (text : Bor (List ℕ)) (first_words second_words : List ℕ) (blank made ran left new : S)
-    → HasFormatted disk text.now blank made → HasRun disk text.now first_words made ran → (disk ran).may_leave (disk left).cells → IsSynced (disk left) → HasRun disk text.now second_words left new
-    → (keys : Keys) × (first_is : List ℕ) × (second_is : List ℕ) × (formatted_is : S) × AreOneLife disk keys first_is second_is formatted_is new
-lived_so {S} disk counts_now includes_reads one_life pads tells leaves text first_words second_words blank made ran left new f one may sure two =
+    → RunsAreOneLife disk → PadsAreFresh disk → ((x : S) → (disk x).tells) → ((x : S) → (disk x).leaves) → (text : Bor (List ℕ)) (made_by first_by second_by : Given) (blank made ran left new : S)
+    → HasFormatted disk text.now made_by blank made → HasRun disk text.now first_by made ran → (disk ran).may_leave (disk left).cells → IsSynced (disk left) → HasRun disk text.now second_by left new
+    → (keys : Keys) × (made_is : Given) × (first_is : Given) × (second_is : Given) × (formatted_is : S) × AreOneLife disk keys made_is first_is second_is formatted_is new
+lived_so {S} disk counts_now includes_reads one_life pads tells leaves text made_by first_by second_by blank made ran left new f one may sure two =
     let keys : Keys = f.keys in
     let one_done = subst (λ (k : Keys). RunDone ring_kind ring_lives disk one.by first_words k made ran one.before one.after blind blind 0) (one_keys (Some text) one.keys keys one.are f.are) one.done in
     let two_done = subst (λ (k : Keys). RunDone ring_kind ring_lives disk two.by second_words k left new two.before two.after blind blind 0) (one_keys (Some text) two.keys keys two.are f.are) two.done in
     let sound = (f.done).sound refl (tells blank) in (
       keys,
-      first_words,
-      second_words,
+      made_by,
+      first_by,
+      second_by,
       made,
-      lived disk keys f.p counts_now includes_reads one_life pads first_words second_words blank made ran left new (formatted disk keys f.p blank made f.before f.after f.done) sound (tells blank) (leaves blank) (leaves made)
-          (whole disk keys one.by first_words made ran one.before one.after one_done) (one_done.sound f.p (tells made) sound) may sure (tells left) (leaves left) (whole disk keys two.by second_words left new two.before two.after two_done),
+      lived disk keys f.p counts_now includes_reads one_life pads made_by first_by second_by blank made ran left new (omega (arith, f.p.in_range.some_dummies)) (formatted disk keys made_by f.p blank made f.before f.after f.done) sound (tells blank) (leaves blank) (leaves made)
+          (whole disk keys one.by first_by made ran one.before one.after one_done) (one_done.sound f.p (tells made) sound) may sure (tells left) (leaves left) (whole disk keys two.by second_by left new two.before two.after two_done),
     )

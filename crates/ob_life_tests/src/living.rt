@@ -1,11 +1,12 @@
 //! Calls of the top over one store in memory, with a crash between two of them: what each answers
 //! is what the next one asks for, and all of them are one life of the store.
 
-ghost use Rattle.std.specs.Prelude.{◌≡◌, ◌≢◌, ℕ, List, IfOk, IfErr};
+ghost use Rattle.std.specs.Prelude.{◌≡◌, ◌≢◌, IfOk, IfErr};
 ghost use Rattle.ob_life_tests.specs.Lived.{AreOneLife, HasRun, HasFormatted};
 ghost use Rattle.ob_mem.specs.Memory.{disk_of_store};
 ghost use Rattle.ob_seal.specs.Draws.{list_drawn};
 ghost use Rattle.ob_seal.specs.declared.keys.Keys.{Keys};
+ghost use Rattle.ob_top.specs.Outside.{Given, words_given};
 
 use ob_desk::Eager;
 use ob_mem::{MemSink, MemSource, MemStore};
@@ -48,7 +49,8 @@ fn format_store<R: AllocGlobal + Threads + Wait + Sync + Abort>(
 ) -> u8
     requires none_out { (disk_of_store store.old).out ≡ 0 }
     ensures none_out { (disk_of_store store.new).out ≡ 0 }
-    ensures made { result ≡ 0 → HasFormatted disk_of_store keys.now store.old store.new }
+    ensures made { result ≡ 0 → (made_by : Given)
+        × HasFormatted disk_of_store keys.now made_by store.old store.new }
 {
     forms_are_read();
     let words = [
@@ -81,8 +83,8 @@ fn run_store<R: AllocGlobal + Threads + Wait + Sync + Abort>(
     requires none_out { (disk_of_store store.old).out ≡ 0 }
     requires unstarted { tape.old.generation ≡ 0 }
     ensures none_out { (disk_of_store store.new).out ≡ 0 }
-    ensures ran { result ≡ 0 → HasRun disk_of_store keys.now (list_drawn tape.new) store.old
-        store.new }
+    ensures ran { result ≡ 0 → HasRun disk_of_store keys.now
+        (words_given tape.new.generation (list_drawn tape.new)) store.old store.new }
 {
     forms_are_read();
     let mut trace: Option<MemSink> = None;
@@ -106,9 +108,9 @@ fn live<R: AllocGlobal + Threads + Wait + Sync + Abort>(
     first: &str,
     second: &str,
 ) -> Result<(MemStore, MemSink), u8>
-    ensures lived { IfOk result (λ end. (keys : Keys) × (first_words : List ℕ)
-        × (second_words : List ℕ) × (formatted : MemStore)
-        × AreOneLife disk_of_store keys first_words second_words formatted end.0) }
+    ensures lived { IfOk result (λ end. (keys : Keys) × (made_by : Given) × (first_by : Given)
+        × (second_by : Given) × (formatted : MemStore)
+        × AreOneLife disk_of_store keys made_by first_by second_by formatted end.0) }
     ensures told { IfErr result (λ status. status ≢ 0) }
 {
     runs_are_one_life::<MemStore>();
