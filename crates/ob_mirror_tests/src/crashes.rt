@@ -27,8 +27,8 @@ const FIRST_BEGAN: usize = 5;
 
 const SECOND_BEGAN: usize = 10;
 
-// Whether the four cells are so filled.
-fn holds(store: &mut MemStore, bytes: [u8; 4]) -> bool {
+/// Whether the four cells are so filled.
+pub fn holds(store: &mut MemStore, bytes: [u8; 4]) -> bool {
     reads_as(store, 0, Some(bytes[0]))
         && reads_as(store, 1, Some(bytes[1]))
         && reads_as(store, 2, Some(bytes[2]))

@@ -8,6 +8,8 @@ mod calls;
 #[cfg(test)]
 mod crashes;
 #[cfg(test)]
+mod refusals;
+#[cfg(test)]
 mod spy;
 #[cfg(test)]
 mod steps;
