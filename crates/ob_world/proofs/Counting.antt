@@ -7,12 +7,11 @@ use Rattle.ob_serial.specs.Serial.{EpochRecord}
 use Rattle.ob_serial.specs.declared.vault.EndErr.TheVariants as refused
 use Rattle.ob_desk.specs.Desk as desk
 use Rattle.ob_desk.specs.Desk.{DeskState, Call, Reply, published, records_told}
-use Rattle.ob_desk.specs.Beats.{BeatKind}
 use Rattle.ob_session.specs.Steps.{Leads, IsOwn}
 use Rattle.ob_conduct.specs.Acts.{Act, Says, Halts, Rests, Takes, Delivers, DeliverFails, FetchFails, RestUnwatched, Closes, Publishes, Refuses, Unprinted, Unwatched, Batch, IsAllowed, desk_calls, history, records, rest_calls, close_calls}
 use Rattle.ob_conduct.proofs.Behind.{leads_split}
 use Rattle.ob_world.specs.Drivers.{AtRest}
-use Rattle.ob_world.specs.Weaves.{Due, due_behind, publishes_in}
+use Rattle.ob_world.specs.Weaves.{Due, publishes_in}
 use Rattle.ob_world.specs.Laws.{PublishesAreRecords}
 use Rattle.ob_world.proofs.Telling.{records_due, told_due}
 use Rattle.ob_world.proofs.Weaving.{own_step}

@@ -1,5 +1,5 @@
 -- What holds of a world at every place of a list of events.
-use Rattle.std.proofs.Common.{◌≡◌, ℕ, suc, ◌+◌, ◌-◌, ◌<◌, ◌≤◌, List, [], ◌∷◌, ◌++◌, Option, None, Some, option_map, unwrap_or, refl, sym, ap, ◌∙◌, subst, inl, inr, ◌⊎◌, ⊎_elim, arith, nat_cmp, append_assoc}
+use Rattle.std.proofs.Common.{◌≡◌, ℕ, suc, ◌<◌, ◌≤◌, List, [], ◌∷◌, ◌++◌, Option, None, Some, option_map, unwrap_or, refl, sym, ap, ◌∙◌, subst, inl, inr, ⊎_elim, arith, nat_cmp, append_assoc}
 use Rattle.std.specs.Option.{is_some}
 use Rattle.std.specs.FinMap as finite
 use Rattle.std.proofs.lemmas.Option.{none-some, same_Some}
