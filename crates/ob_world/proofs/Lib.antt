@@ -9,5 +9,8 @@ pub mod Rows
 pub mod Telling
 pub mod Lasting
 pub mod Refused
+pub mod Wanted
+pub mod WantedActs
+pub mod WantedMoments
 pub mod Running
 pub mod Counting

@@ -1,21 +1,16 @@
 -- Lists of events that are no worlds: each has a step that there is not.
-use Rattle.std.specs.Prelude.{ℕ, ◌≡◌, ◌≤◌, Bool, true, false, List, [], ◌∷◌, ◌⊎◌, Option, None, Some}
+use Rattle.std.specs.Prelude.{ℕ, ◌≡◌, ◌≤◌, Bool, true, false, List, [], ◌∷◌, Option, None, Some}
 use Rattle.std.proofs.Common.{refl, sym, ap, ◌∙◌, ⊎_elim, arith}
 use Rattle.std.proofs.lemmas.Option.{none-some, same_Some}
 use Rattle.std.proofs.lemmas.Bool.{false≢true}
 use Rattle.ob_base.specs.declared.fault.Fault.TheVariants.{SourceFault}
 use Rattle.ob_serial.specs.Vaults.{Fetch, End, Values, Ended, Standing, standing_now}
-use Rattle.ob_order.specs.Order.{after_take, after_deliver}
-use Rattle.ob_desk.specs.declared.clients.Client.{Client}
-use Rattle.ob_session.specs.Steps.{Leads}
-use Rattle.ob_conduct.specs.Acts.{Act, Says, Delivers, history}
-use Rattle.ob_world.specs.Weaves.{woven}
-use Rattle.ob_desk.specs.Desk.{Commit, new_client, with_order, Fault, Memory, Committed, TakeBatch, Deliver, Close, Publish, Settled, Stop, Unsure, Done, Batch, Writes, Published, IsSettled}
+use Rattle.ob_desk.specs.Desk.{Fault, Memory, Committed, TakeBatch, Deliver, Close, Publish, Settled, Stop, Unsure, Done, Batch, Writes, Published, IsSettled}
 use Rattle.ob_world.specs.Courses.{Course}
 use Rattle.ob_world.specs.Drivers.{DriverAt, AtRest, HasTaken, HasFetched, HasClosed, HasEnded, HasDoubt, HasTold, HasFailed}
 use Rattle.ob_world.specs.Worlds.{WorldEvent, Desk, Vault, Report, Crash, Open, World, IsWorld, first_world}
 use Rattle.ob_world.specs.Headlines.{Headline}
-use Rattle.ob_world.proofs.Rows.{bare, small, d0, w0, setup, at_zero, writes, keys, values, told, refusal, image_of, empty, x, v2, w3, w4, w5, w6, w7, w8, w9, w10, w11, doubtful, unsure}
+use Rattle.ob_world.proofs.Rows.{bare, setup, at_zero, writes, keys, values, told, refusal, image_of, empty, x, v2, w3, w4, w5, w6, w7, w8, w9, w10, w11, doubtful, unsure}
 
 -- there is no such step from this world
 abbrev IsRefused : World (Unit {0}) → WorldEvent → Type 0
@@ -130,33 +125,3 @@ began_badly = first_world setup (1 ∷ []) at_zero 1 false
 
 pub soundness_is_wanted : IsWorld unsound began_badly [] began_badly × (Headline unsound began_badly [] began_badly → ⊥)
 soundness_is_wanted = (refl, λ headline. false≢true headline.trace)
-
--- ---- acts of which one thing is missing make no world
-
-abbrev delivers_alone : List Act
-delivers_alone = Delivers (record { keys = keys; values = values }) ∷ []
-
--- allowed calls, but not in the driver's order
-pub order_is_wanted : Leads d0 (history delivers_alone) (record d0 { running = with_order d0.running (after_deliver d0.running.order keys values) })
-    × ((last : World (Unit {0})) → IsWorld bare w0 (woven delivers_alone 0) last → ⊥)
-order_is_wanted = (
-  (record d0 { running = with_order d0.running (after_deliver d0.running.order keys values) }, (refl, refl, refl), record { state = refl }, refl),
-  λ last run. (let e : AtRest ≡ HasFetched keys values = run.1.moves.was in cc),
-)
-
--- allowed calls, but a client makes one of the driver's
-abbrev taken_by_client : List Act
-taken_by_client = Says 1 ((TakeBatch, Batch keys) ∷ []) ∷ []
-
-pub own_calls_are_wanted : Leads d0 (history taken_by_client) (record d0 { running = with_order d0.running (after_take small d0.running.order) })
-    × ((last : World (Unit {0})) → IsWorld bare w0 (woven taken_by_client 0) last → ⊥)
-own_calls_are_wanted = (
-  (record d0 { running = with_order d0.running (after_take small d0.running.order) }, (refl, omega arith, refl), record { taken = refl; state = refl }, refl),
-  λ last run. ⊎_elim (λ driver. (let e : 1 ≡ 0 = driver.0 in cc)) (λ own. own) run.1.own,
-)
-
--- a client's own call, that it may not make
-pub permission_is_wanted : (last : World (Unit {0})) → IsWorld bare w0 (woven (Says 1 ((Commit x, Done) ∷ []) ∷ []) 0) last → ⊥
-permission_is_wanted last run =
-    let is : new_client 1 ≡ run.1.may.0.client = same_Some (new_client 1) run.1.may.0.client run.1.may.0.found in
-    none-some x (ap (λ (c : Client). c.last) is ∙ run.1.may.0.last)

@@ -190,12 +190,12 @@ busy = begin_client x (new_client 1)
 abbrev pub settled : Client
 settled = record busy { outcome = Some Committed }
 
-asked : (i key : ℕ) → slice_get keys i ≡ Some (Some key) → slice_get values i ≡ Some (finite.get empty key)
+pub asked : (i key : ℕ) → slice_get keys i ≡ Some (Some key) → slice_get values i ≡ Some (finite.get empty key)
 asked zero key is = absurd (let e : ◌≡◌ {A = Option ℕ} None (Some key) = same_Some None (Some key) is in none-some key e)
 asked (suc zero) key is = absurd (let e : ◌≡◌ {A = Option ℕ} None (Some key) = same_Some None (Some key) is in none-some key e)
 asked (suc (suc n)) key is = absurd (let e : ◌≡◌ {A = Option (Option ℕ)} None (Some (Some key)) = is in none-some (Some key) e)
 
-pads : (i : ℕ) → slice_get keys i ≡ Some None → slice_get values i ≡ Some None
+pub pads : (i : ℕ) → slice_get keys i ≡ Some None → slice_get values i ≡ Some None
 pads zero is = refl
 pads (suc zero) is = refl
 pads (suc (suc n)) is = absurd (let e : ◌≡◌ {A = Option (Option ℕ)} None (Some None) = is in none-some None e)
