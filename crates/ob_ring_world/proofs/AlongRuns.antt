@@ -1,14 +1,15 @@
 -- Runs over a ring store, one behind the other, are one list of events of its course.
 use Rattle.std.specs.Ordering.{nat_cmp}
-use Rattle.std.proofs.Common.{◌≡◌, ◌⊎◌, inl, inr, ⊎_elim, ℕ, zero, suc, ◌<◌, ◌≤◌, Bool, true, false, List, [], ◌∷◌, ◌++◌, length, Option, Some, None, refl, sym, ap, subst, ◌∙◌, arith}
-use Rattle.std.specs.Prelude.{IsTrue, ◌||◌}
-use Rattle.std.proofs.lemmas.List.{append-nil, length-map}
-use Rattle.std.proofs.lemmas.Bool.{false≢true}
+use Rattle.std.proofs.Common.{◌≡◌, ◌⊎◌, inl, inr, ⊎_elim, ℕ, suc, ◌≤◌, List, [], ◌∷◌, ◌++◌, length, Option, Some, None, refl, sym, ap, subst, ◌∙◌, append_assoc, arith}
+use Rattle.std.specs.Prelude.{drop, take}
+use Rattle.std.proofs.lemmas.List.{append-nil, length-map, take-append-drop}
 use Rattle.std.proofs.lemmas.Option.{none-some}
 use Rattle.ob_base.proofs.Repeats.{has_push}
 use Rattle.ob_base.specs.Repeats.{Has}
 use Rattle.ob_base.specs.declared.params.Params.{Params}
+use Rattle.ob_store.specs.Calls.{Notes}
 use Rattle.ob_store.specs.Disk.{Clock, Disk, Image, NotAfter}
+use Rattle.ob_store.specs.declared.event.Event.{Event}
 use Rattle.ob_store.specs.Images.{IsSynced, Passes, Same}
 use Rattle.ob_opening.specs.OpeningRuns.{OpensFrom}
 use Rattle.ob_seal.specs.Sealing.{Sealing}
@@ -18,11 +19,7 @@ use Rattle.ob_serial.specs.VaultKinds.{Called, Kind}
 use Rattle.ob_serial.specs.Vaults.{MayStand, Standing, VaultAnswer, VaultCall}
 use Rattle.ob_stand.proofs.OnceLaws.{ring_stands_once, stands_once}
 use Rattle.ob_stand.specs.Once.{SameStanding}
-use Rattle.ob_stand.specs.Stands.{StandsRing, ring_standing}
-use Rattle.ob_twin.specs.Opening.{GatesAre, HasOpen}
-use Rattle.ob_twin.specs.Reading.{Counts}
-use Rattle.ob_twin.specs.Register.{IsOpen}
-use Rattle.ob_twin.specs.declared.gates.Open.{Open as OpenGates}
+use Rattle.ob_stand.specs.Stands.{RingStanding, StandsRing, ring_standing}
 use Rattle.ob_desk.specs.Desk.{Setup, new_desk}
 use Rattle.ob_recover.proofs.Pads.{life_goes_on}
 use Rattle.ob_recover.proofs.ShownOpening.{openings_are_scheduled}
@@ -36,6 +33,7 @@ use Rattle.ob_vault.proofs.OpenedLife.{opened_lives}
 use Rattle.ob_vault.proofs.OpenedRun.{IsFurther, further}
 use Rattle.ob_vault.proofs.Whole.{reached_join}
 use Rattle.ob_vault.specs.Acts.{AreBatchesSmall, AreTapeWords, IsBatchSmall}
+use Rattle.ob_vault.specs.Hidden.{AreFirst}
 use Rattle.ob_vault.specs.Lives.{IsOpenedInLife, opening_acts}
 use Rattle.ob_vault.specs.RingKind.{IsRingMap, RingFound, ring_hidden, ring_public}
 use Rattle.ob_vault.specs.RingVaults.{Running}
@@ -48,28 +46,12 @@ use Rattle.ob_world.specs.Worlds.{WorldEvent, Crash, Open, World, IsWorld, OpenE
 use Rattle.ob_ring_world.proofs.AlongEvents.{Mapped, mapped, other, params_stay, serving}
 use Rattle.ob_ring_world.proofs.InCalls.{CanOpen, IsServing, cut_call, goes_opens}
 use Rattle.ob_ring_world.proofs.InOpenings.{IsFound, found_at, openings_moment_by_moment}
-use Rattle.ob_ring_world.specs.Pasts.{OfOpening, RingPast, ShownRow, formatted_past, state_behind}
+use Rattle.ob_ring_world.proofs.OpeningRows.{OpeningFront, fills, has_open, log_many, opening_front, opening_labels, opening_life, opening_slots, phases_at, public_at}
+use Rattle.ob_ring_world.specs.OpeningMoments.{IsLeftInOpening}
+use Rattle.ob_ring_world.specs.Pasts.{IsFrontRow, IsRowFilled, OfOpening, RingPast, ShownRow, events_of_rows, formatted_past, state_behind}
 use Rattle.ob_ring_world.specs.RingCourses.{RingPromises, ring_course}
-use Rattle.ob_ring_world.specs.Runs.{AreRingPartsFrom, AreRowsOf, Crashes, CrashesIn, IsEndOfRun, IsOverRing, IsRingRun, Returns, RingPart, RingRun, RingRunsAreWorlds, RunEnd, Runs, Serves, Stops, end_leaves, events_of_end, events_of_parts}
-use Rattle.ob_ring_world.specs.Steps.{IsOpenedBy}
-
--- ---- a register that counts has an open gate
-
-left_of : (a b : Bool) → IsTrue a → IsTrue (a || b)
-left_of true b is = refl
-left_of false b none = absurd (false≢true none)
-
-right_of : (a b : Bool) → IsTrue b → IsTrue (a || b)
-right_of true b is = refl
-right_of false b is = is
-
-has_open : (first : ℕ) (image : Image) (n : ℕ) (gates : OpenGates) → Counts first image n → GatesAre gates first image → HasOpen gates
-has_open first image n gates counts are = at_place counts.some.0 counts.some.1 counts.some.2
-  where
-    at_place : (place : ℕ) → place < 2 → IsOpen first image place → HasOpen gates
-    at_place zero low up = left_of gates.zero gates.one (are.zero.1 up)
-    at_place (suc zero) low up = right_of gates.zero gates.one (are.one.1 up)
-    at_place (suc (suc more)) low up = absurd (omega (arith, low))
+use Rattle.ob_ring_world.specs.Runs.{AreRingPartsFrom, AreRowsOf, BeginsWorld, Crashes, CrashesIn, IsEndOfRun, IsOverRing, IsRingRun, IsSeenOpening, IsShownAtEnd, OpensOrRefuses, left_by_format, Returns, RingPart, RingRun, RingRunsAreWorlds, RunEnd, Runs, Serves, Stops, end_leaves, events_of_end, events_of_parts}
+use Rattle.ob_ring_world.specs.Steps.{IsCutOpening, IsOpenedBy}
 
 open_append : (g : ℕ) (b : LifeBatch) → ◌≡◌ {A = Option LifeAct} (Some (OpenAct g)) (Some (Append b)) → ⊥
 open_append g b e = cc
@@ -291,7 +273,9 @@ module _ {V S : Type 0} (k : Kind V) (disk : S → Disk) (runs : V → Running S
       pub world : World RingPast
       pub leads : IsWorld ring last (events_of_end end) world
       pub then : Ready world image
-      pub rows_are : world.past.rows ≡ last.past.rows
+      pub cut : List ShownRow
+      pub rows_are : world.past.rows ≡ cut ++ last.past.rows
+      pub shown : IsShownAtEnd disk runs run.last.past end cut
 
     crashed : (image : Image) → (disk (runs run.last.past).store).may_leave image → Behind (Crashes image) image
     crashed image left =
@@ -302,16 +286,18 @@ module _ {V S : Type 0} (k : Kind V) (disk : S → Disk) (runs : V → Running S
           world = world;
           leads = (world, record { was = tt; left = at; may = may; stands = stands; past = gone; cut = inl (record { left = can.left; state = refl }); state = refl }, refl);
           then = record { batches = last_batches; setup_is = last_setup; can = record { is_life = can.is_life; left = can.left; small = can.small }; at = at; stands = stands; may = inl refl };
+          cut = [];
           rows_are = refl;
+          shown = refl;
         }
 
-    crashed_in : (call : VaultCall) (answer : VaultAnswer) (next : World V) (image : Image) → IsEndOfRun k disk runs setup keys word_of run (CrashesIn call answer next image) → Behind (CrashesIn call answer next image) image
-    crashed_in call answer next image (e, since, tape) =
+    crashed_in : (call : VaultCall) (answer : VaultAnswer) (next : World V) (calls : ℕ) (image : Image) → IsEndOfRun k disk runs setup keys word_of run (CrashesIn call answer next calls image) → Behind (CrashesIn call answer next calls image) image
+    crashed_in call answer next calls image (e, since, tape) =
         let called : Called k run.last.past call answer e.past = e.called in
         let s : Serving run.last.past along.past = serving k disk runs over counts_now only_now keys run.lanes p f run.first map is_map word_of slot gen kept run.last.past run.last.vault along.past along.tells e.law.serves in
         let left : (disk (runs e.past).store).left_since (disk (runs run.last.past).store).moment image = subst (λ (m : World V). (disk (runs m.past).store).left_since (disk (runs run.last.past).store).moment image) e.state since in
         let words : AreTapeWords word_of gen (runs e.past).drawn = subst (λ (m : World V). AreTapeWords word_of gen (runs m.past).drawn) e.state tape in
-        let (gone, cut, can, stay) = cut_call k disk runs over counts_now only_now keys run.lanes p f run.first map is_map word_of slot gen run.last.past along.past s call answer e.past called words image left in
+        let (gone, cut, can, (rows, rows_are, (all, noted, events_are))) = cut_call k disk runs over counts_now only_now keys run.lanes p f run.first map is_map word_of slot gen run.last.past along.past s call answer e.past called words calls image left in
         let (at, own, may) = (called.images run.last.vault along.tells.sound).each image (over.since run.last.past e.past image left) in
         let g : ℕ = (((runs run.last.past).run).sealer).generation in
         let stands : (n : ℕ) × StandsRing keys p n image at = (g, subst (λ (q : Params). StandsRing keys q g image at) s.at.params (subst (λ (y : Keys). StandsRing y ((runs run.last.past).run).params g image at) s.at.keys_are (over.stands run.last.past image at own))) in
@@ -320,102 +306,159 @@ module _ {V S : Type 0} (k : Kind V) (disk : S → Disk) (runs : V → Running S
           world = world;
           leads = (world, record { was = e.was; left = at; may = may; stands = stands; past = gone; cut = cut; state = refl }, refl);
           then = record { batches = last_batches; setup_is = last_setup; can = can; at = at; stands = stands; may = inl refl };
-          rows_are = stay;
+          cut = rows;
+          rows_are = rows_are;
+          shown = (all, subst (λ (m : World V). Notes all (disk (runs run.last.past).store).seen (disk (runs m.past).store).seen) (sym e.state) noted, events_are);
         }
 
   -- ---- an opening that was refused, or inside which a crash came
 
-  stopped : (w : World RingPast) (old new : S) (image : Image) → Ready w (disk old).cells → (disk old).tells → IsSynced (disk old) → Passes Same (disk old) (disk new) ⊎ OpensFrom disk keys p old new → (disk new).left_since (disk old).moment image
-      → (world : World RingPast) × IsWorld ring w (Crash None image ∷ []) world × Ready world image × (world.past.rows ≡ w.past.rows)
-  stopped w old new image ready tells synced leaves since =
-      let x : RingPast = w.past in
-      let s : LifeState = state_behind p word_of slot x.acts in
-      let all = openings_moment_by_moment disk only_now keys p word_of s x.in_flight old new tells synced ready.can.left leaves in
-      let (left, also) = all.each image since in
-      let stands : (g : ℕ) × StandsRing keys p g image ready.at = also ready.at ready.stands in
-      ⊎_elim
-      (λ (same : IsLeftAt keys p word_of s x.in_flight image).
-      let gone : RingPast = record x { sealer = None } in
-      let world : World RingPast = record w { vault = cut_vault w.vault ready.at; past = gone; driver = IsDown } in (
-        world,
-        (world, record { was = tt; left = ready.at; may = ready.may; stands = stands; past = gone; cut = inl (record { left = same; state = refl }); state = refl }, refl),
-        record { batches = ready.batches; setup_is = ready.setup_is; can = record { is_life = ready.can.is_life; left = same; small = ready.can.small }; at = ready.at; stands = stands; may = inl refl },
-        refl,
-      ))
-      (λ behind.
-      let found : List LifeAct = behind.0 in
-      let acts : List LifeAct = (x.acts ++ found) ++ [] in
-      let t_is = reached_join p word_of (formatted_life slot) x.acts found in
-      let acts_is : acts ≡ x.acts ++ found = append-nil (x.acts ++ found) in
-      let life : IsLife p word_of (formatted_life slot) acts = subst (λ (l : List LifeAct). IsLife p word_of (formatted_life slot) l) (sym acts_is) (life_goes_on p word_of (formatted_life slot) x.acts found ready.can.is_life behind.2) in
-      let opens : LifeAct = OpenAct (suc (state_behind p word_of slot (x.acts ++ found)).generation) in
-      let here : IsLeftAt keys p word_of (state_behind p word_of slot (x.acts ++ found)) (Some opens) image = subst (λ (u : LifeState). IsLeftAt keys p word_of u (Some (OpenAct (suc u.generation))) image) (sym t_is) behind.3 in
-      let at_acts : IsLeftAt keys p word_of (state_behind p word_of slot acts) (Some opens) image = subst (λ (l : List LifeAct). IsLeftAt keys p word_of (state_behind p word_of slot l) (Some opens) image) (sym acts_is) here in
-      let few : AreBatchesSmall (state_behind p word_of slot acts).log = subst (λ (l : List LifeAct). AreBatchesSmall (state_behind p word_of slot l).log) (sym acts_is)
-      (subst (λ (u : LifeState). AreBatchesSmall u.log) (sym t_is) (small_found p word_of s x.in_flight found behind.1 ready.can.small.0 ready.can.small.1)) in
-      let gone : RingPast = record { acts = acts; in_flight = Some opens; rows = x.rows; pads = x.pads; sealer = None } in
-      let world : World RingPast = record w { vault = cut_vault w.vault ready.at; past = gone; driver = IsDown } in (
-        world,
-        (
-          world,
-          record {
-            was = tt;
-            left = ready.at;
-            may = ready.may;
-            stands = stands;
-            past = gone;
-            cut = inr (record {
-              found = found;
-              finds = behind.1;
-              made = [];
-              rest = opening_acts (state_behind p word_of slot (x.acts ++ found));
-              acts = refl;
-              in_flight = Some opens;
-              next = inr (opens, repeated (length (state_behind p word_of slot (x.acts ++ found)).log), refl, refl);
-              is_life = life;
-              left = at_acts;
-              shown = None;
-              fronts = tt;
-              state = refl;
-            });
-            state = refl;
-          },
-          refl,
-        ),
-        record { batches = ready.batches; setup_is = ready.setup_is; can = record { is_life = life; left = at_acts; small = (few, λ b e. absurd (open_append (suc (state_behind p word_of slot (x.acts ++ found)).generation) b e)) }; at = ready.at; stands = stands; may = inl refl },
-        refl,
-      ))
-      left
+  module _ (w : World RingPast) (old new : S) (image : Image) (ready : Ready w (disk old).cells) (tells : (disk old).tells) (synced : IsSynced (disk old)) (leaves : Passes Same (disk old) (disk new) ⊎ OpensFrom disk keys p old new) (since : (disk new).left_since (disk old).moment image)
+      (lanes : ℕ) (some : 1 ≤ lanes) (did : OpensOrRefuses keys lanes p (disk old) (disk new)) (calls : ℕ) where
+    abbrev was : RingPast
+    was = w.past
+
+    all_left : IsLeftInOpening disk keys p word_of (state_behind p word_of slot was.acts) was.in_flight old new
+    all_left = openings_moment_by_moment disk only_now keys p word_of (state_behind p word_of slot was.acts) was.in_flight old new tells synced ready.can.left leaves
+
+    abbrev settled : List LifeAct
+    settled = was.acts ++ all_left.found
+
+    abbrev u : LifeState
+    u = state_behind p word_of slot settled
+
+    u_is : u ≡ reached p word_of (state_behind p word_of slot was.acts) all_left.found
+    u_is = reached_join p word_of (formatted_life slot) was.acts all_left.found
+
+    abbrev begins : LifeAct
+    begins = OpenAct (suc u.generation)
+
+    settled_life : IsLife p word_of (formatted_life slot) settled
+    settled_life = life_goes_on p word_of (formatted_life slot) was.acts all_left.found ready.can.is_life all_left.is_life
+
+    settled_here : StandsInLife keys p word_of u (disk old).cells
+    settled_here = subst (λ (t : LifeState). StandsInLife keys p word_of t (disk old).cells) (sym u_is) all_left.here
+
+    left_at : IsLeftAt keys p word_of u (Some begins) image
+    left_at = subst (λ (t : LifeState). IsLeftAt keys p word_of t (Some (OpenAct (suc t.generation))) image) (sym u_is) (all_left.images.each image since).0
+
+    stands_at : (g : ℕ) × StandsRing keys p g image ready.at
+    stands_at = (all_left.images.each image since).1 ready.at ready.stands
+
+    -- none of the opening's acts is made, and the first may be in flight
+    abbrev none_made : List LifeAct
+    none_made = settled ++ []
+
+    none_is : none_made ≡ settled
+    none_is = append-nil settled
+
+    front : OpeningFront keys p word_of u (disk old) settled_here tells lanes some (disk new)
+    front = opening_front keys p word_of u (disk old) settled_here tells lanes some (disk new) did
+
+    abbrev standing : RingStanding
+    standing = settled_here.standing
+
+    abbrev cut_row : ShownRow
+    cut_row = record {
+      kind = OfOpening (gates_open front.gates) (suc standing.generation) (length standing.records);
+      public = record { known = public_at keys p word_of u (disk old) settled_here front.gates; shown = 0 };
+      fills = fills keys p word_of u (disk old) settled_here;
+      lanes = lanes;
+      events = take calls front.all;
+      before = settled;
+      acts = opening_acts u;
+    }
+
+    as_many : length standing.records ≡ length u.log
+    as_many = sym (log_many keys p word_of u (disk old) settled_here)
+
+    cut_front : IsFrontRow p cut_row
+    cut_front = (
+      drop calls front.all ++ front.behind,
+      subst (λ (l : List Event). AreFirst lanes (phases_at keys p word_of u (disk old) settled_here front.gates) l)
+          (ap (λ (l : List Event). l ++ front.behind) (sym (take-append-drop calls front.all)) ∙ append_assoc (take calls front.all) (drop calls front.all) front.behind) front.first,
+    )
+
+    cut_filled : IsRowFilled p word_of slot cut_row
+    cut_filled = record {
+      is_life = life_goes_on p word_of (formatted_life slot) settled (opening_acts u) settled_life (opening_life keys p word_of u (disk old) settled_here);
+      labels = opening_labels keys p word_of u (disk old) settled_here;
+      slots = opening_slots keys p word_of u (disk old) settled_here;
+    }
+
+    abbrev gone : RingPast
+    gone = record { acts = none_made; in_flight = Some begins; rows = cut_row ∷ was.rows; pads = was.pads; sealer = None }
+
+    abbrev cut_world : World RingPast
+    cut_world = record w { vault = cut_vault w.vault ready.at; past = gone; driver = IsDown }
+
+    life_none : IsLife p word_of (formatted_life slot) none_made
+    life_none = subst (λ (l : List LifeAct). IsLife p word_of (formatted_life slot) l) (sym none_is) settled_life
+
+    left_none : IsLeftAt keys p word_of (state_behind p word_of slot none_made) (Some begins) image
+    left_none = subst (λ (l : List LifeAct). IsLeftAt keys p word_of (state_behind p word_of slot l) (Some begins) image) (sym none_is) left_at
+
+    few_none : AreBatchesSmall (state_behind p word_of slot none_made).log
+    few_none = subst (λ (l : List LifeAct). AreBatchesSmall (state_behind p word_of slot l).log) (sym none_is)
+        (subst (λ (t : LifeState). AreBatchesSmall t.log) (sym u_is) (small_found p word_of (state_behind p word_of slot was.acts) was.in_flight all_left.found all_left.finds ready.can.small.0 ready.can.small.1))
+
+    cut_opening : IsCutOpening p word_of slot keys was image gone
+    cut_opening = record {
+      found = all_left.found;
+      finds = all_left.finds;
+      made = [];
+      rest = opening_acts u;
+      acts = refl;
+      in_flight = Some begins;
+      next = inr (begins, repeated (length u.log), refl, refl);
+      is_life = life_none;
+      left = left_none;
+      shown = Some cut_row;
+      fronts = (gates_open front.gates, λ i. OfOpening (gates_open front.gates) (suc (settled_here.generation i)) (as_many i), refl, refl, cut_front, cut_filled);
+      state = refl;
+    }
+
+    stopped : (world : World RingPast) × IsWorld ring w (Crash None image ∷ []) world × Ready world image
+        × ((cut : List ShownRow) × (world.past.rows ≡ cut ++ w.past.rows) × ((all : List Event) × IsSeenOpening lanes all (disk old).seen (disk new).seen × (events_of_rows cut ≡ take calls all)))
+    stopped = (
+      cut_world,
+      (cut_world, record { was = tt; left = ready.at; may = ready.may; stands = stands_at; past = gone; cut = inr cut_opening; state = refl }, refl),
+      record { batches = ready.batches; setup_is = ready.setup_is; can = record { is_life = life_none; left = left_none; small = (few_none, λ b e. absurd (open_append (suc u.generation) b e)) }; at = ready.at; stands = stands_at; may = inl refl },
+      (cut_row ∷ [], refl, (front.all, front.seen, refl)),
+    )
 
   -- ---- all of them
 
   abbrev Here : World RingPast → List (RingPart V S) → Type 0
   Here w [] = Unit {0}
   Here w (Runs run end ∷ parts) = Ready w run.image
-  Here w (Stops old new image ∷ parts) = Ready w (disk old).cells
+  Here w (Stops old new lanes calls image ∷ parts) = Ready w (disk old).cells
 
   here_next : (w : World RingPast) (image : Image) (parts : List (RingPart V S)) → Ready w image → AreRingPartsFrom k disk runs setup keys word_of (λ c. c ≡ image) parts → Here w parts
   here_next w image [] ready from = tt
   here_next w image (Runs run end ∷ parts) ready from = subst (λ (c : Image). Ready w c) (sym from.0) ready
-  here_next w image (Stops old new left ∷ parts) ready from = subst (λ (c : Image). Ready w c) (sym from.0) ready
+  here_next w image (Stops old new lanes calls left ∷ parts) ready from = subst (λ (c : Image). Ready w c) (sym from.0) ready
 
   here_none : (w : World RingPast) (parts : List (RingPart V S)) → AreRingPartsFrom k disk runs setup keys word_of (λ c. ⊥) parts → Here w parts
   here_none w [] from = tt
   here_none w (Runs run end ∷ parts) from = absurd from.0
-  here_none w (Stops old new image ∷ parts) from = absurd from.0
+  here_none w (Stops old new lanes calls image ∷ parts) from = absurd from.0
 
-  record Joined (w : World RingPast) (events : List WorldEvent) (Next : World RingPast → Type 0) (rows : List ShownRow) : Type 0 where
+  record Joined (w : World RingPast) (events : List WorldEvent) (Next : World RingPast → Type 0) (rows : List ShownRow) (Shown : List ShownRow → Type 0) : Type 0 where
     pub world : World RingPast
     pub leads : IsWorld ring w events world
     pub next : Next world
-    pub rows_are : world.past.rows ≡ rows
+    pub cut : List ShownRow
+    pub rows_are : world.past.rows ≡ cut ++ rows
+    pub shown : Shown cut
 
-  ended : (run : RingRun V) (r : IsRingRun k disk runs setup keys word_of run) (w : World RingPast) (ready : Ready w run.image) (end : RunEnd V) → IsEndOfRun k disk runs setup keys word_of run end → (parts : List (RingPart V S)) → AreRingPartsFrom k disk runs setup keys word_of (end_leaves end) parts
-      → Joined (last w run r ready) (events_of_end end) (λ m. Here m parts) (last w run r ready).past.rows
-  ended run r w ready Serves is parts from = record { world = last w run r ready; leads = refl; next = here_none (last w run r ready) parts from; rows_are = refl }
-  ended run r w ready (Returns image) is parts from = record { world = last w run r ready; leads = refl; next = here_next (last w run r ready) image parts (ready_last w run r ready image is) from; rows_are = refl }
-  ended run r w ready (Crashes image) is parts from = let b = crashed w run r ready image is in record { world = b.world; leads = b.leads; next = here_next b.world image parts b.then from; rows_are = b.rows_are }
-  ended run r w ready (CrashesIn call answer next image) is parts from = let b = crashed_in w run r ready call answer next image is in record { world = b.world; leads = b.leads; next = here_next b.world image parts b.then from; rows_are = b.rows_are }
+  ended : (run : RingRun V) (r : IsRingRun k disk runs setup keys word_of run) (w : World RingPast) (ready : Ready w run.image) (end : RunEnd V) → IsEndOfRun k disk runs setup keys word_of run end
+      → (parts : List (RingPart V S)) → AreRingPartsFrom k disk runs setup keys word_of (end_leaves end) parts
+      → Joined (last w run r ready) (events_of_end end) (λ m. Here m parts) (last w run r ready).past.rows (IsShownAtEnd disk runs run.last.past end)
+  ended run r w ready Serves is parts from = record { world = last w run r ready; leads = refl; next = here_none (last w run r ready) parts from; cut = []; rows_are = refl; shown = refl }
+  ended run r w ready (Returns image) is parts from = record { world = last w run r ready; leads = refl; next = here_next (last w run r ready) image parts (ready_last w run r ready image is) from; cut = []; rows_are = refl; shown = refl }
+  ended run r w ready (Crashes image) is parts from = let b = crashed w run r ready image is in record { world = b.world; leads = b.leads; next = here_next b.world image parts b.then from; cut = b.cut; rows_are = b.rows_are; shown = b.shown }
+  ended run r w ready (CrashesIn call answer next calls image) is parts from = let b = crashed_in w run r ready call answer next calls image is in record { world = b.world; leads = b.leads; next = here_next b.world image parts b.then from; cut = b.cut; rows_are = b.rows_are; shown = b.shown }
 
   all_of : (parts : List (RingPart V S)) (w : World RingPast) (may_leave : Image → Type 0) → Here w parts → AreRingPartsFrom k disk runs setup keys word_of may_leave parts → (m : World RingPast) × IsWorld ring w (events_of_parts parts) m × AreRowsOf disk runs w.past.rows parts m.past.rows
   all_of [] w may_leave at from = (w, refl, refl)
@@ -429,40 +472,41 @@ module _ {V S : Type 0} (k : Kind V) (disk : S → Disk) (runs : V → Running S
         (
           row w run r at,
           (along w run r at).seen.rows,
+          b.cut,
           refl,
           (along w run r at).seen.seen,
-          subst (λ (l : List ShownRow). AreRowsOf disk runs l parts m.past.rows) (b.rows_are ∙ (along w run r at).seen.rows_are) rows,
+          b.shown,
+          subst (λ (l : List ShownRow). AreRowsOf disk runs l parts m.past.rows) (b.rows_are ∙ ap (λ (l : List ShownRow). b.cut ++ l) (along w run r at).seen.rows_are) rows,
         ),
       )
-  all_of (Stops old new image ∷ parts) w may_leave at (may, tells, synced, leaves, since, more) =
-      let (world, one, ready, stay) = stopped w old new image at tells synced leaves since in
+  all_of (Stops old new lanes calls image ∷ parts) w may_leave at (may, tells, synced, leaves, some, did, since, more) =
+      let (world, one, ready, (cut, rows_are, (all, seen, events_are))) = stopped w old new image at tells synced leaves since lanes some did calls in
       let (m, rest, rows) = all_of parts world (λ c. c ≡ image) (here_next world image parts ready more) more in
-      (m, world_append ring w (Crash None image ∷ []) (events_of_parts parts) world m one rest, subst (λ (l : List ShownRow). AreRowsOf disk runs l parts m.past.rows) stay rows)
+      (m, world_append ring w (Crash None image ∷ []) (events_of_parts parts) world m one rest, (cut, all, seen, events_are, subst (λ (l : List ShownRow). AreRowsOf disk runs l parts m.past.rows) rows_are rows))
 
-  formatted_here : (made : S) (empty : Standing) (parts : List (RingPart V S)) → ((c : Image) → (disk made).may_leave c → StandsInLife keys p word_of (formatted_life slot) c) → AreBatchesSmall (formatted_life slot).log
-      → ((c : Image) → (disk made).may_leave c → (g : ℕ) × StandsRing keys p g c empty) → AreRingPartsFrom k disk runs setup keys word_of (disk made).may_leave parts → Here (first_world setup [] empty 0 formatted_past) parts
-  formatted_here made empty parts lives small stands from = by_parts parts from
+  begun_here : (leaves : Image → Type 0) (empty : Standing) (calls : ℕ) (parts : List (RingPart V S)) → BeginsWorld keys p word_of slot leaves empty → AreRingPartsFrom k disk runs setup keys word_of leaves parts → Here (first_world setup [] empty 0 (formatted_past p calls)) parts
+  begun_here leaves empty calls parts begins from = by_parts parts from
     where
-      ready_at : (c : Image) → (disk made).may_leave c → Ready (first_world setup [] empty 0 formatted_past) c
+      ready_at : (c : Image) → leaves c → Ready (first_world setup [] empty 0 (formatted_past p calls)) c
       ready_at c left = record {
         batches = refl;
         setup_is = refl;
         can = record {
           is_life = tt;
-          left = record { allowed = λ a e. absurd (none-some a e); stands = λ i same. inl (subst (λ (y : Image). StandsInLife keys p word_of (formatted_life slot) y) same (lives c left)) };
-          small = (small, λ b e. absurd (none-some (Append b) e));
+          left = record { allowed = λ a e. absurd (none-some a e); stands = λ i same. inl (subst (λ (y : Image). StandsInLife keys p word_of (formatted_life slot) y) same (begins.begins c left)) };
+          small = (begins.small, λ b e. absurd (none-some (Append b) e));
         };
         at = empty;
-        stands = stands c left;
+        stands = begins.stands c left;
         may = inl refl;
       }
 
-      by_parts : (parts : List (RingPart V S)) → AreRingPartsFrom k disk runs setup keys word_of (disk made).may_leave parts → Here (first_world setup [] empty 0 formatted_past) parts
+      by_parts : (parts : List (RingPart V S)) → AreRingPartsFrom k disk runs setup keys word_of leaves parts → Here (first_world setup [] empty 0 (formatted_past p calls)) parts
       by_parts [] from = tt
       by_parts (Runs run end ∷ parts) from = ready_at run.image from.0
-      by_parts (Stops old new image ∷ parts) from = ready_at (disk old).cells from.0
+      by_parts (Stops old new lanes calls image ∷ parts) from = ready_at (disk old).cells from.0
 
 pub ring_runs_are_worlds : {V S : Type 0} (k : Kind V) (disk : S → Disk) → ((x : S) (t : Clock) (c : Image) → NotAfter t (disk x).moment → (disk x).may_leave c → (disk x).left_since t c) → ((x : S) (c : Image) → (disk x).left_since (disk x).moment c → (disk x).may_leave c) → RingRunsAreWorlds k disk
-ring_runs_are_worlds k disk counts_now only_now runs over setup keys word_of made empty parts (slot, ranked, small, lives) stands from kept =
-    all_of k disk runs over counts_now only_now setup keys word_of slot kept parts (first_world setup [] empty 0 formatted_past) (disk made).may_leave
-    (formatted_here k disk runs over counts_now only_now setup keys word_of slot kept made empty parts (λ c left. lives word_of c left) small stands from) from
+ring_runs_are_worlds k disk counts_now only_now runs over setup keys word_of slot made end empty calls parts begins from kept =
+    all_of k disk runs over counts_now only_now setup keys word_of slot kept parts (first_world setup [] empty 0 (formatted_past setup.params calls)) (left_by_format (disk made) end)
+    (begun_here k disk runs over counts_now only_now setup keys word_of slot kept (left_by_format (disk made) end) empty calls parts begins from) from

@@ -20,7 +20,7 @@ use Rattle.ob_vault.specs.Seen.{RingPublic, ring_phases}
 use Rattle.ob_vault.specs.Shapes.{Ends, Fetches, shape_of}
 use Rattle.ob_vault.specs.Shown.{IsInLife}
 
-all_first : (most : ℕ) (all : List Phase) (more : List Event) → AreDealt most all more → AreFirst most all more
+pub all_first : (most : ℕ) (all : List Phase) (more : List Event) → AreDealt most all more → AreFirst most all more
 all_first most all more dealt = (all, [], sym (append-nil all), dealt)
 
 first_on : (most : ℕ) (front rest all : List Phase) (more : List Event) → all ≡ front ++ rest → AreFirst most front more → AreFirst most all more

@@ -1,9 +1,12 @@
 -- A call of a vault over a ring store, as a step of the store's course.
 use Rattle.std.specs.Ordering.{nat_cmp}
 use Rattle.std.proofs.Common.{◌≡◌, ◌⊎◌, inl, inr, ℕ, suc, ◌<◌, true, List, [], ◌∷◌, ◌++◌, length, length-append, map, Option, Some, None, Err, refl, sym, ap, subst, ◌∙◌, arith}
+use Rattle.std.specs.Prelude.{drop, take}
+use Rattle.std.proofs.lemmas.List.{append-nil, take-append-drop}
 use Rattle.std.proofs.lemmas.Option.{none-some}
 use Rattle.ob_base.specs.declared.params.Params.{Params}
 use Rattle.ob_store.specs.declared.event.Event.{Event}
+use Rattle.ob_store.specs.declared.watch.Note.{Note}
 use Rattle.ob_store.specs.Disk.{Clock, Disk, Image, NotAfter}
 use Rattle.ob_seal.specs.declared.keys.Keys.{Keys}
 use Rattle.ob_serial.specs.Serial.{Map}
@@ -23,18 +26,21 @@ use Rattle.ob_vault.proofs.Leaving as leaving
 use Rattle.ob_vault.proofs.SealCalls.{kept_by}
 use Rattle.ob_vault.proofs.Whole.{reached_join}
 use Rattle.ob_vault.specs.Acts.{AreBatchesSmall, AreTapeWords, IsBatchSmall, IsCallInLife, IsLeftWithin, is_answered}
-use Rattle.ob_vault.specs.Hidden.{RingHidden}
+use Rattle.ob_vault.specs.Hidden.{IsOfTape, RingHidden}
 use Rattle.ob_vault.specs.Lives.{AreActsOf, IsLeftInLife}
 use Rattle.ob_vault.specs.RingKind.{IsRingMap, RingFound, ring_kind}
 use Rattle.ob_vault.specs.RingSteps.{RingAt, RunIsAtHidden}
 use Rattle.ob_vault.specs.RingVaults.{EndCalled, FetchCalled, KeepsRun, Running, write_from}
 use Rattle.ob_vault.specs.Seen.{RingPublic, ring_next, ring_phases}
-use Rattle.ob_vault.specs.Shapes.{Shape, shape_of}
+use Rattle.ob_vault.specs.Shapes.{Ends, Fetches, Shape, shape_of}
 use Rattle.ob_vault.specs.Shown.{AreFilledBy, IsInLife, leaves_filled}
-use Rattle.ob_vault.specs.Steps.{IsAnsweredCall, Stops}
+use Rattle.ob_vault.specs.Steps.{IsAnsweredCall, IsCallOfKind, Stops}
+use Rattle.ob_serial.specs.declared.vault.EndErr.{EndErr}
 use Rattle.ob_serial.specs.declared.vault.EndErr.TheVariants.{Before, Unsure}
+use Rattle.ob_base.specs.declared.fault.Fault.{Fault}
 use Rattle.ob_store.specs.Calls.{Notes}
-use Rattle.ob_ring_world.proofs.Fronts.{IsFirstShown, batch_shown, end_shown}
+use Rattle.ob_vault.proofs.Cutting.{cut_batch, cut_end}
+use Rattle.ob_ring_world.proofs.Fronts.{IsFirstShown, all_first, batch_shown, end_shown}
 use Rattle.ob_ring_world.specs.Pasts.{GoesOnBehind, OfCall, RingPast, ShownRow, events_of_rows, row_leaves, state_behind}
 use Rattle.ob_ring_world.specs.Runs.{IsOverRing}
 use Rattle.ob_ring_world.specs.Steps.{IsAnsweredBy, IsCutCall, IsPartOf, IsRefusedBy, IsRingCall, IsShownOf, SealsOn, part_left, rows_with}
@@ -42,6 +48,11 @@ use Rattle.ob_ring_world.specs.Steps.{IsAnsweredBy, IsCutCall, IsPartOf, IsRefus
 same_leaves : (p : Params) (batch : ℕ) (call : VaultCall) (f : Fills) → leaves_filled p batch call f ≡ row_leaves p batch (OfCall (shape_of call)) f
 same_leaves p batch (Fetch asks) f = refl
 same_leaves p batch (End writes) f = refl
+
+-- a front of nothing is nothing
+front_none : (xs ys : List Event) → xs ++ ys ≡ [] → xs ≡ []
+front_none [] ys none = refl
+front_none (x ∷ xs) ys none = (let e : ◌≡◌ {A = List Event} (x ∷ (xs ++ ys)) [] = none in absurd (cc))
 
 -- ---- where an opening can go on
 
@@ -102,25 +113,26 @@ module _ {V S : Type 0} (k : Kind V) (disk : S → Disk) (runs : V → Running S
           small = (subst (λ (made : List LifeAct). AreBatchesSmall (reached p word_of now made).log) l.first.0 l.small.0, λ b e. absurd (none-some (Append b) e));
         })
 
-    -- what was shown of a call that was refused
-    record FrontShown (call : VaultCall) (more : List Event) : Type 0 where
+    -- what was shown of a call that was refused or cut off
+    record FrontShown (call : VaultCall) (events : List Event) : Type 0 where
       pub shown : Option ShownRow
       pub fronts : IsShownOf p word_of slot x call shown
       pub rows : List ShownRow
       pub rows_are : rows_with shown x.rows ≡ rows ++ x.rows
-      pub events_are : events_of_rows rows ≡ more
+      pub events_are : events_of_rows rows ≡ events
 
-    front_shown : (call : VaultCall) (more : List Event) → IsFirstShown p most word_of now s.public call more → FrontShown call more
-    front_shown call more (inl none) = record { shown = None; fronts = tt; rows = []; rows_are = refl; events_are = sym none }
-    front_shown call more (inr (fills, c, first_made)) =
-        let row : ShownRow = record { kind = OfCall (shape_of call); public = s.public; fills = fills; lanes = most; events = more; before = x.acts; acts = c.acts } in
+    -- these events, where these would have come behind
+    front_shown : (call : VaultCall) (events behind : List Event) → IsFirstShown p most word_of now s.public call (events ++ behind) → FrontShown call events
+    front_shown call events behind (inl none) = record { shown = None; fronts = tt; rows = []; rows_are = refl; events_are = sym (front_none events behind none) }
+    front_shown call events behind (inr (fills, c, first_made)) =
+        let row : ShownRow = record { kind = OfCall (shape_of call); public = s.public; fills = fills; lanes = most; events = events; before = x.acts; acts = c.acts } in
         record {
           shown = Some row;
           fronts = (
             refl,
             refl,
             c.shows,
-            first_made,
+            (behind, first_made),
             record { is_life = life_goes_on p word_of (formatted_life slot) x.acts c.acts s.is_life c.is_life; labels = c.filled.labels ∙ same_leaves p (length now.log) call fills; slots = c.filled.slots },
             s.rows (shape_of call),
           );
@@ -128,6 +140,19 @@ module _ {V S : Type 0} (k : Kind V) (disk : S → Disk) (runs : V → Running S
           rows_are = refl;
           events_are = refl;
         }
+
+    -- all that a call called its store for, whatever it answered, is the first of its row
+    record CallSeen (call : VaultCall) (w : V) : Type 0 where
+      pub all : List Event
+      pub noted : Notes all (disk (runs v).store).seen (disk (runs w).store).seen
+      pub begins : IsFirstShown p most word_of now s.public call all
+
+    whole_shown : (call : VaultCall) (w : V) (c : CallSeen call w) → FrontShown call c.all
+    whole_shown call w c = front_shown call c.all [] (subst (λ (l : List Event). IsFirstShown p most word_of now s.public call l) (sym (append-nil c.all)) c.begins)
+
+    -- and the first so many of it
+    part_shown : (call : VaultCall) (w : V) (n : ℕ) (c : CallSeen call w) → FrontShown call (take n c.all)
+    part_shown call w n c = front_shown call (take n c.all) (drop n c.all) (subst (λ (l : List Event). IsFirstShown p most word_of now s.public call l) (sym (take-append-drop n c.all)) c.begins)
 
     module _ (call : VaultCall) (answer : VaultAnswer) (w : V) (one : Called k v call answer w) (tape : AreTapeWords word_of gen (runs w).drawn) where
       kept : KeepsRun disk (runs v) (runs w) one.notes
@@ -211,7 +236,7 @@ module _ {V S : Type 0} (k : Kind V) (disk : S → Disk) (runs : V → Running S
       in_life : IsCallInLife disk word_of (runs v) (runs w) one.notes now call (is_answered answer)
       in_life = leaving.made k disk runs over.words counts_now only_now keys most p f (disk (runs first).store) s.public h s.epochs v s.at word_of now s.here lies call answer w one own
 
-      module _ (image : Image) (left : IsLeftWithin disk word_of (runs v) (runs w) one.notes now call image) where
+      module _ (events : List Event) (front : FrontShown call events) (image : Image) (left : IsLeftWithin disk word_of (runs v) (runs w) one.notes now call image) where
         life_within : IsLife p word_of now left.made
         life_within = subst (λ (q : Params). IsLife q word_of now left.made) s.at.params left.is_life
 
@@ -228,8 +253,8 @@ module _ {V S : Type 0} (k : Kind V) (disk : S → Disk) (runs : V → Running S
           in_flight = left.pending;
           first = leaving.first_of k disk runs over.words counts_now only_now keys most p f (disk (runs first).store) s.public h s.epochs v s.at word_of now s.here lies call answer w one own left.made left.pending (inr (left.rest, left.acts, left.next));
           is_life = life_goes_on p word_of (formatted_life slot) x.acts left.made s.is_life life_within;
-          shown = None;
-          fronts = tt;
+          shown = front.shown;
+          fronts = front.fronts;
           seals = seals;
         }
 
@@ -243,8 +268,16 @@ module _ {V S : Type 0} (k : Kind V) (disk : S → Disk) (runs : V → Running S
               record { is_life = part_within.is_life; left = at; small = (subst (λ (t : LifeState). AreBatchesSmall t.log) (sym (here_on left.made)) small_within, left.small.1) },
             )
 
-      pub cut_call : (image : Image) → (disk (runs w).store).left_since (disk (runs v).store).moment image → (y : RingPast) × IsCutCall p word_of slot keys x call image y × CanOpen keys p word_of slot y image × (y.rows ≡ x.rows)
-      cut_call image since = let left = in_life.moments.each image since in (cut_past image left, (cut_on image left).0, (cut_on image left).1, refl)
+      abbrev pub IsCutSeen : (n : ℕ) → List ShownRow → Type 0
+      IsCutSeen n rows = (all : List Event) × Notes all (disk (runs v).store).seen (disk (runs w).store).seen × (events_of_rows rows ≡ take n all)
+
+      cut_seen : (n : ℕ) (c : CallSeen call w) (image : Image) → (disk (runs w).store).left_since (disk (runs v).store).moment image
+          → (y : RingPast) × IsCutCall p word_of slot keys x call image y × CanOpen keys p word_of slot y image × ((rows : List ShownRow) × (y.rows ≡ rows ++ x.rows) × IsCutSeen n rows)
+      cut_seen n c image since =
+          let left = in_life.moments.each image since in
+          let front = part_shown call w n c in
+          let cut = cut_on (take n c.all) front image left in
+          (cut_past (take n c.all) front image left, cut.0, cut.1, (front.rows, front.rows_are, (c.all, c.noted, front.events_are)))
 
     -- ---- by the answer
 
@@ -254,10 +287,78 @@ module _ {V S : Type 0} (k : Kind V) (disk : S → Disk) (runs : V → Running S
     tape_behind : (behind : RingHidden) (w : V) (same : behind.generation ≡ h.generation) → (runs w).drawn ≡ behind.words → AreTapeWords word_of gen (runs w).drawn → AreTapeWords word_of behind.generation behind.words
     tape_behind behind w same words tape = subst (λ (l : List ℕ). AreTapeWords word_of behind.generation l) words (subst (λ (g : ℕ). AreTapeWords word_of g (runs w).drawn) (sym (same ∙ s.generation)) tape)
 
+    abbrev pub Does : VaultCall → VaultAnswer → (w : V) → List Note → Type 0
+    Does call answer w notes = IsCallOfKind ring_kind keys most p f (disk (runs first).store) (λ q' h' so_far' n' v'. RingAt k disk runs keys most p f (disk (runs first).store) q' h' n' v') (disk (runs v).store) (disk (runs w).store) (runs w).drawn w notes s.public h [] s.epochs call answer
+
+    does : (call : VaultCall) (answer : VaultAnswer) (w : V) (one : Called k v call answer w) → Does call answer w one.notes
+    does call answer w one = ring_calls_do k disk runs over.words keys most p f first s.public h [] s.epochs v call answer w s.at one
+
+    abbrev Answered : VaultCall → (w : V) → (n : ℕ) → List Note → Type 0
+    Answered call w n notes = IsAnsweredCall ring_kind most p (λ q' h' so_far' n' v'. RingAt k disk runs keys most p f (disk (runs first).store) q' h' n' v') (disk (runs v).store) (disk (runs w).store) w s.public h [] call n notes
+
+    abbrev Stopped : VaultCall → (w : V) → Fault → List Note → Type 0
+    Stopped call w fault notes = Stops ring_kind keys most p f (disk (runs first).store) (disk (runs v).store) (disk (runs w).store) (runs w).drawn s.public h [] s.epochs call fault notes
+
+    words_of : (behind : RingHidden) (w : V) → (runs w).drawn ≡ behind.words → IsOfTape behind (runs w).drawn
+    words_of behind w same = ([], same ∙ sym (append-nil behind.words))
+
+    -- ---- what was seen of it
+
+    seen_batch : (asks : List (Option ℕ)) (w : V) (n : ℕ) (notes : List Note) → AreTapeWords word_of h.generation (runs w).drawn → Answered (Fetch asks) w n notes → CallSeen (Fetch asks) w
+    seen_batch asks w n notes tape a =
+        let (d, fit) = a.draws in
+        let some : length h.records < p.batches = (let few = fit.few in let is = ap (λ (y : RingHidden). length y.records) d.behind_is in omega (arith, few, is, length-append h.records (d.next ∷ []))) in
+        record {
+          all = a.seen.events;
+          noted = a.seen.noted;
+          begins = inr (a.drawn, cut_batch p word_of now h s.here asks a.drawn a.behind d (runs w).drawn (words_of a.behind w a.at.tape) some tape, all_first most (ring_phases p s.public Fetches a.drawn) a.seen.events a.seen.dealt);
+        }
+
+    seen_end : (writes : List (ℕ × Option (List ℕ))) (w : V) (n : ℕ) (notes : List Note) → Answered (End writes) w n notes → CallSeen (End writes) w
+    seen_end writes w n notes a = record {
+      all = a.seen.events;
+      noted = a.seen.noted;
+      begins = inr (a.drawn, cut_end p word_of now h s.here writes a.drawn (a.draws).fills (a.draws).all, all_first most (ring_phases p s.public Ends a.drawn) a.seen.events a.seen.dealt);
+    }
+
+    refused_batch : (asks : List (Option ℕ)) (w : V) (refused : Fault) (notes : List Note) → AreTapeWords word_of h.generation (runs w).drawn → FetchCalled disk (runs v) (runs w) notes asks (Err refused) → Stopped (Fetch asks) w refused notes → CallSeen (Fetch asks) w
+    refused_batch asks w refused notes tape called stops =
+        let some : length h.records < p.batches = (let left = s.at.left in let one_more = called.some_left in omega (arith, left, one_more)) in
+        record { all = stops.more; noted = stops.seen; begins = batch_shown p most word_of now s.public h s.here (runs w).drawn tape stops.more asks stops.cut.0 refused some stops.cut.1 }
+
+    refused_end : (writes : List (ℕ × Option (List ℕ))) (w : V) (err : EndErr) (refused : Fault) (notes : List Note) → AreTapeWords word_of h.generation (runs w).drawn
+        → EndCalled disk (runs v) (runs w) notes (map write_from writes) (Err err) → Stopped (End writes) w refused notes → CallSeen (End writes) w
+    refused_end writes w err refused notes tape called stops =
+        let all : length h.records ≡ p.batches = (let left = s.at.left in let none = called.none_left in omega (arith, left, none)) in
+        record { all = stops.more; noted = stops.seen; begins = end_shown p most word_of now s.public h s.here (runs w).drawn tape stops.more writes stops.cut.0 refused all stops.cut.1 }
+
+    seen_of : (call : VaultCall) (answer : VaultAnswer) (w : V) (one : Called k v call answer w) → AreTapeWords word_of gen (runs w).drawn → CallSeen call w
+    seen_of (Fetch asks) (Values out) w one tape = seen_batch asks w s.epochs one.notes (own (Fetch asks) (Values out) w one tape) (does (Fetch asks) (Values out) w one)
+    seen_of (End writes) Ended w one tape = seen_end writes w (suc s.epochs) one.notes (does (End writes) Ended w one)
+    seen_of (Fetch asks) (RefusedBy fault) w one tape = refused_batch asks w fault one.notes (own (Fetch asks) (RefusedBy fault) w one tape) (over.words.called v (Fetch asks) (RefusedBy fault) one.notes w one.called) (does (Fetch asks) (RefusedBy fault) w one)
+    seen_of (End writes) (RefusedBy fault) w one tape = refused_end writes w (Before fault) fault one.notes (own (End writes) (RefusedBy fault) w one tape) (over.words.called v (End writes) (RefusedBy fault) one.notes w one.called) (does (End writes) (RefusedBy fault) w one)
+    seen_of (End writes) (DoubtBy fault) w one tape = refused_end writes w (Unsure fault) fault one.notes (own (End writes) (DoubtBy fault) w one tape) (over.words.called v (End writes) (DoubtBy fault) one.notes w one.called) (does (End writes) (DoubtBy fault) w one)
+    seen_of (Fetch asks) Ended w one tape = absurd (over.words.called v (Fetch asks) Ended one.notes w one.called)
+    seen_of (Fetch asks) (DoubtBy fault) w one tape = absurd (over.words.called v (Fetch asks) (DoubtBy fault) one.notes w one.called)
+    seen_of (End writes) (Values out) w one tape = absurd (over.words.called v (End writes) (Values out) one.notes w one.called)
+
+    -- a crash inside it, behind so many of the calls that it would have made of its store
+    pub cut_call : (call : VaultCall) (answer : VaultAnswer) (w : V) (one : Called k v call answer w) (tape : AreTapeWords word_of gen (runs w).drawn) (n : ℕ) (image : Image) → (disk (runs w).store).left_since (disk (runs v).store).moment image
+        → (y : RingPast) × IsCutCall p word_of slot keys x call image y × CanOpen keys p word_of slot y image × ((rows : List ShownRow) × (y.rows ≡ rows ++ x.rows) × IsCutSeen call answer w one tape n rows)
+    cut_call call answer w one tape n image since = cut_seen call answer w one tape n (seen_of call answer w one tape) image since
+
+    -- ---- what comes of it
+
+    refused_next : (call : VaultCall) (answer : VaultAnswer) (w : V) → Called k v call answer w → AreTapeWords word_of gen (runs w).drawn → (y : RingPast) × IsRefusedBy p word_of slot x call y × IsSpent w y × AreRowsSeen v w x y
+    refused_next call answer w one tape =
+        let c : CallSeen call w = seen_of call answer w one tape in
+        let r : FrontShown call c.all = whole_shown call w c in
+        let is = refused_on call answer w one tape c.all r in
+        (spent_past call answer w one tape c.all r, is.0, is.1, record { rows = r.rows; rows_are = r.rows_are; seen = subst (λ (l : List Event). Notes l (disk (runs v).store).seen (disk (runs w).store).seen) (sym r.events_are) c.noted })
+
     pub call_on : (call : VaultCall) (answer : VaultAnswer) (w : V) → Called k v call answer w → AreTapeWords word_of gen (runs w).drawn → IsNext call answer w
     call_on (Fetch asks) (Values out) w one tape =
-        let a : IsAnsweredCall ring_kind most p (λ q' h' so_far' n' v'. RingAt k disk runs keys most p f (disk (runs first).store) q' h' n' v') (disk (runs v).store) (disk (runs w).store) w s.public h [] (Fetch asks) s.epochs =
-        ring_calls_do k disk runs over.words keys most p f first s.public h [] s.epochs v (Fetch asks) (Values out) w s.at one in
+        let a : Answered (Fetch asks) w s.epochs one.notes = does (Fetch asks) (Values out) w one in
         let (d, fit) = a.draws in
         let same : a.behind.generation ≡ h.generation = ap (λ (y : RingHidden). y.generation) d.behind_is in
         let words = subst (λ (y : RingHidden). AreTapeWords word_of y.generation y.words) d.behind_is (tape_behind a.behind w same a.at.tape tape) in
@@ -266,37 +367,15 @@ module _ {V S : Type 0} (k : Kind V) (disk : S → Disk) (runs : V → Running S
         (batches.batch_life p word_of now h s.here asks a.drawn a.behind d some words) (batches.batch_then p word_of now h s.here asks a.drawn a.behind d some words fit) (batches.batch_filled p word_of now h s.here asks a.drawn a.behind d some words) same a.seen.noted in
         (is.0, is.1, inl is.2, is.3)
     call_on (End writes) Ended w one tape =
-        let a : IsAnsweredCall ring_kind most p (λ q' h' so_far' n' v'. RingAt k disk runs keys most p f (disk (runs first).store) q' h' n' v') (disk (runs v).store) (disk (runs w).store) w s.public h [] (End writes) (suc s.epochs) =
-        ring_calls_do k disk runs over.words keys most p f first s.public h [] s.epochs v (End writes) Ended w s.at one in
+        let a : Answered (End writes) w (suc s.epochs) one.notes = does (End writes) Ended w one in
         let d = a.draws in
         let words = subst (λ (l : List ℕ). AreTapeWords word_of h.generation l) d.grows (subst (λ (g : ℕ). AreTapeWords word_of g a.behind.words) d.generation (tape_behind a.behind w d.generation a.at.tape tape)) in
         let is = answered_on (End writes) Ended w one tape a.drawn a.behind a.seen.events (suc s.epochs) (ends.acts p word_of now h s.here writes a.drawn a.behind d words) a.seen.dealt a.at (_, _, _, refl)
         (ends.end_life p word_of now h s.here writes a.drawn a.behind d words) (ends.end_then p word_of now h s.here writes a.drawn a.behind d words) (ends.end_filled p word_of now h s.here writes a.drawn a.behind d words) d.generation a.seen.noted in
         (is.0, is.1, inl is.2, is.3)
-    call_on (Fetch asks) (RefusedBy fault) w one tape =
-        let stops : Stops ring_kind keys most p f (disk (runs first).store) (disk (runs v).store) (disk (runs w).store) (runs w).drawn s.public h [] s.epochs (Fetch asks) fault =
-        ring_calls_do k disk runs over.words keys most p f first s.public h [] s.epochs v (Fetch asks) (RefusedBy fault) w s.at one in
-        let called : FetchCalled disk (runs v) (runs w) one.notes asks (Err fault) = over.words.called v (Fetch asks) (RefusedBy fault) one.notes w one.called in
-        let some : length h.records < p.batches = (let left = s.at.left in let one_more = called.some_left in omega (arith, left, one_more)) in
-        let r = front_shown (Fetch asks) stops.more (batch_shown p most word_of now s.public h s.here (runs w).drawn (own (Fetch asks) (RefusedBy fault) w one tape) stops.more asks stops.cut.0 fault some stops.cut.1) in
-        let is = refused_on (Fetch asks) (RefusedBy fault) w one tape stops.more r in
-        (_, is.0, inr (λ u. refl, is.1), record { rows = r.rows; rows_are = r.rows_are; seen = subst (λ (l : List Event). Notes l (disk (runs v).store).seen (disk (runs w).store).seen) (sym r.events_are) stops.seen })
-    call_on (End writes) (RefusedBy fault) w one tape =
-        let stops : Stops ring_kind keys most p f (disk (runs first).store) (disk (runs v).store) (disk (runs w).store) (runs w).drawn s.public h [] s.epochs (End writes) fault =
-        ring_calls_do k disk runs over.words keys most p f first s.public h [] s.epochs v (End writes) (RefusedBy fault) w s.at one in
-        let called : EndCalled disk (runs v) (runs w) one.notes (map write_from writes) (Err (Before fault)) = over.words.called v (End writes) (RefusedBy fault) one.notes w one.called in
-        let all : length h.records ≡ p.batches = (let left = s.at.left in let none = called.none_left in omega (arith, left, none)) in
-        let r = front_shown (End writes) stops.more (end_shown p most word_of now s.public h s.here (runs w).drawn (own (End writes) (RefusedBy fault) w one tape) stops.more writes stops.cut.0 fault all stops.cut.1) in
-        let is = refused_on (End writes) (RefusedBy fault) w one tape stops.more r in
-        (_, is.0, inr (λ u. refl, is.1), record { rows = r.rows; rows_are = r.rows_are; seen = subst (λ (l : List Event). Notes l (disk (runs v).store).seen (disk (runs w).store).seen) (sym r.events_are) stops.seen })
-    call_on (End writes) (DoubtBy fault) w one tape =
-        let stops : Stops ring_kind keys most p f (disk (runs first).store) (disk (runs v).store) (disk (runs w).store) (runs w).drawn s.public h [] s.epochs (End writes) fault =
-        ring_calls_do k disk runs over.words keys most p f first s.public h [] s.epochs v (End writes) (DoubtBy fault) w s.at one in
-        let called : EndCalled disk (runs v) (runs w) one.notes (map write_from writes) (Err (Unsure fault)) = over.words.called v (End writes) (DoubtBy fault) one.notes w one.called in
-        let all : length h.records ≡ p.batches = (let left = s.at.left in let none = called.none_left in omega (arith, left, none)) in
-        let r = front_shown (End writes) stops.more (end_shown p most word_of now s.public h s.here (runs w).drawn (own (End writes) (DoubtBy fault) w one tape) stops.more writes stops.cut.0 fault all stops.cut.1) in
-        let is = refused_on (End writes) (DoubtBy fault) w one tape stops.more r in
-        (_, is.0, inr (λ u. refl, is.1), record { rows = r.rows; rows_are = r.rows_are; seen = subst (λ (l : List Event). Notes l (disk (runs v).store).seen (disk (runs w).store).seen) (sym r.events_are) stops.seen })
+    call_on (Fetch asks) (RefusedBy fault) w one tape = let (y, by, spent, rows) = refused_next (Fetch asks) (RefusedBy fault) w one tape in (y, by, inr (λ u. refl, spent), rows)
+    call_on (End writes) (RefusedBy fault) w one tape = let (y, by, spent, rows) = refused_next (End writes) (RefusedBy fault) w one tape in (y, by, inr (λ u. refl, spent), rows)
+    call_on (End writes) (DoubtBy fault) w one tape = let (y, by, spent, rows) = refused_next (End writes) (DoubtBy fault) w one tape in (y, by, inr (λ u. refl, spent), rows)
     call_on (Fetch asks) Ended w one tape = absurd (over.words.called v (Fetch asks) Ended one.notes w one.called)
     call_on (Fetch asks) (DoubtBy fault) w one tape = absurd (over.words.called v (Fetch asks) (DoubtBy fault) one.notes w one.called)
     call_on (End writes) (Values out) w one tape = absurd (over.words.called v (End writes) (Values out) one.notes w one.called)

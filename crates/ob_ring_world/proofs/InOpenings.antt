@@ -71,14 +71,26 @@ module _ (keys : Keys) (p : Params) (word_of : WordId → ℕ) where
 
 module _ {S : Type 0} (disk : S → Disk) (only : (x : S) (c : Image) → (disk x).left_since (disk x).moment c → (disk x).may_leave c) (keys : Keys) (p : Params) (word_of : WordId → ℕ) (s : LifeState) (pending : Option LifeAct) (old : S)
     (tells : (disk old).tells) (synced : IsSynced (disk old)) (left : IsLeftAt keys p word_of s pending (disk old).cells) where
+  at : IsFound keys p word_of s pending (disk old).cells
+  at = found_at keys p word_of s pending (disk old).cells left
+
+  abbrev t : LifeState
+  t = reached p word_of s at.found
+
+  abbrev stood : RingStanding
+  stood = at.here.standing
+
   abbrev P : Image → Type 0
-  P image = IsLeftInOpening keys p word_of s pending image × StandsAlso keys p (disk old).cells image
+  P image = IsLeftAt keys p word_of t (Some (Open (suc t.generation))) image × StandsAlso keys p (disk old).cells image
+
+  by_one_of : (c : Image) → OneOf keys p stood (with_generation stood (suc stood.generation)) c → P c
+  by_one_of c one = (left_behind keys p word_of t (disk old).cells at.here c one, also keys p word_of t (disk old).cells at.here c one)
 
   same_cells : (c : Image) → (disk old).may_leave c → c ≡ (disk old).cells
   same_cells c may = λ i k. synced c may k i
 
   at_first : P (disk old).cells
-  at_first = (inl left, λ at is. is)
+  at_first = by_one_of (disk old).cells (inl at.here.stands)
 
   reading : (mid : S) → Passes Same (disk old) (disk mid) → LeavesOnly (disk old) (disk mid) P
   reading mid passes = leaves_of Same P P (disk old) (disk mid) passes (λ c. only old c) (λ c may. subst P (sym (same_cells c may)) at_first) (λ is. at_first) (λ c d is same. subst P (sym same) is) (λ c is. is)
@@ -86,11 +98,11 @@ module _ {S : Type 0} (disk : S → Disk) (only : (x : S) (c : Image) → (disk 
   by_leaves : (new : S) → Passes Same (disk old) (disk new) ⊎ OpensFrom disk keys p old new → LeavesOnly (disk old) (disk new) P
   by_leaves new (inl passes) = reading new passes
   by_leaves new (inr f) =
-      let at : IsFound keys p word_of s pending (disk old).cells = found_at keys p word_of s pending (disk old).cells left in
       then_on (disk old) (disk f.synced) (disk new) P (reading f.synced f.until)
-      (weakened (disk f.synced) (disk new) (OneOf keys p at.here.standing (with_generation at.here.standing (suc at.here.standing.generation))) P
-      (λ c one. (inr (at.found, at.finds, at.is_life, left_behind keys p word_of (reached p word_of s at.found) (disk old).cells at.here c one), also keys p word_of (reached p word_of s at.found) (disk old).cells at.here c one))
-      (f.since at.here.standing tells at.here.stands))
+      (weakened (disk f.synced) (disk new) (OneOf keys p stood (with_generation stood (suc stood.generation))) P by_one_of (f.since stood tells at.here.stands))
+
+  pub left_in_opening : (new : S) → Passes Same (disk old) (disk new) ⊎ OpensFrom disk keys p old new → IsLeftInOpening disk keys p word_of s pending old new
+  left_in_opening new leaves = record { found = at.found; finds = at.finds; is_life = at.is_life; here = at.here; images = by_leaves new leaves }
 
 pub openings_moment_by_moment : {S : Type 0} (disk : S → Disk) → ((x : S) (c : Image) → (disk x).left_since (disk x).moment c → (disk x).may_leave c) → OpeningsMomentByMoment disk
-openings_moment_by_moment disk only keys p word_of s pending old new tells synced left leaves = by_leaves disk only keys p word_of s pending old tells synced left new leaves
+openings_moment_by_moment disk only keys p word_of s pending old new tells synced left leaves = left_in_opening disk only keys p word_of s pending old tells synced left new leaves

@@ -1,7 +1,9 @@
 pub mod Sounding
 pub mod InOpenings
 pub mod Fronts
+pub mod OpeningRows
 pub mod InCalls
 pub mod AlongEvents
 pub mod AlongRuns
 pub mod RingRows
+pub mod Formatted

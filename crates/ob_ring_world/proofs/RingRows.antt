@@ -61,7 +61,7 @@ slots u j = j
 abbrev leaf : LabelFill → ℕ
 leaf l = leaf_of_word two_batches words l.word
 
-slots_ranked : (u : ℕ) → IsRanking (two_batches.real + two_batches.dummies) (slots u)
+pub slots_ranked : (u : ℕ) → IsRanking (two_batches.real + two_batches.dummies) (slots u)
 slots_ranked u = record { within = λ j lt. lt; apart = λ i j a b same. same; onto = λ s lt. (s, lt, refl) }
 
 -- ---- a batch, a crash inside the next one behind its record's gate, and an opening that shows both again
@@ -153,7 +153,7 @@ end_of_old_words drawn slot life =
 
 -- a past that began with a pad twice
 abbrev pub began_badly : RingPast
-began_badly = record formatted_past { pads = (1, 0) ∷ (1, 0) ∷ [] }
+began_badly = record (formatted_past two_batches 0) { pads = (1, 0) ∷ (1, 0) ∷ [] }
 
 pub soundness_is_wanted : (keys : Keys) (kept : RingPromises keys two_batches words slots) (at : Standing)
     → Headline (ring_course keys two_batches words slots kept) (first_world (record { params = two_batches }) [] at 0 began_badly) [] (first_world (record { params = two_batches }) [] at 0 began_badly) → ⊥

@@ -1,12 +1,22 @@
 -- The past of a ring store that began well goes on so, and keeps what is promised of it.
 use Rattle.std.proofs.Common.{◌≡◌, ◌⊎◌, inl, inr, ⊎_elim, ℕ, zero, suc, ◌+◌, ◌-◌, ◌<◌, ◌≤◌, Bool, true, false, List, [], ◌∷◌, ◌++◌, length, Option, Some, None, refl, sym, ap, subst, ◌∙◌, arith}
-use Rattle.std.proofs.lemmas.List.{append-nil}
+use Rattle.std.specs.Prelude.{drop}
+use Rattle.std.proofs.lemmas.List.{append-nil, take-append-drop}
 use Rattle.std.proofs.lemmas.Option.{none-some, same_Some}
 use Rattle.ob_base.specs.Repeats.{Has, NoRepeats}
 use Rattle.ob_base.proofs.Repeats.{has_cases}
 use Rattle.ob_base.specs.declared.params.Params.{Params}
 use Rattle.ob_tables.specs.Rank.{IsRanking}
 use Rattle.ob_store.specs.Disk.{Image}
+use Rattle.ob_store.specs.Told.{events_of}
+use Rattle.ob_store.specs.declared.event.Event.{Event}
+use Rattle.ob_store.specs.declared.event.Event.TheVariants as event
+use Rattle.ob_store.specs.declared.watch.Note.{Note}
+use Rattle.ob_store.specs.declared.watch.Note.TheVariants as note
+use Rattle.ob_schedule.specs.Phases.{phases_of}
+use Rattle.ob_schedule.specs.Schedule.{format_notes}
+use Rattle.ob_recover.specs.Telling.{AreDealt}
+use Rattle.ob_vault.specs.Hidden.{AreFirst}
 use Rattle.ob_seal.specs.Sealing.{Sealing}
 use Rattle.ob_seal.specs.declared.keys.Keys.{Keys}
 use Rattle.ob_serial.specs.Vaults.{Standing, VaultCall}
@@ -18,7 +28,7 @@ use Rattle.ob_vault.proofs.Whole.{reached_join}
 use Rattle.ob_vault.specs.Acts.{is_answered}
 use Rattle.ob_vault.specs.Lives.{opening_acts}
 use Rattle.ob_world.proofs.Holding.{headline}
-use Rattle.ob_ring_world.specs.Pasts.{AreHolesFresh, ArePadsApart, AreRowsShown, GoesOnBehind, IsFrontRow, IsRowFilled, IsSoundPast, IsWholeRow, OfOpening, RingPast, RowKind, ShownRow, formatted_past, row_phases, state_behind}
+use Rattle.ob_ring_world.specs.Pasts.{AreHolesFresh, ArePadsApart, AreRowsShown, GoesOnBehind, IsFrontRow, IsRowFilled, IsSoundPast, IsWholeRow, OfOpening, RingPast, RowKind, ShownRow, format_row, formatted_past, row_phases, state_behind}
 use Rattle.ob_ring_world.specs.RingCourses.{RingHeadlineHolds, RingPromises, ring_course}
 use Rattle.ob_ring_world.specs.Steps.{IsAnsweredBy, IsCallBy, IsOpenedBy, IsPartOf, IsRingCut, IsShownOf, IsShownOfOpening, SealsOn, part_left, rows_with}
 
@@ -44,6 +54,14 @@ both_apart (x ∷ xs) ys one two apart = (
 )
 
 -- ---- lives
+
+-- steps that are made one by one are dealt so
+pub dealt_one_by_one : (most : ℕ) → 1 ≤ most → (notes : List Note) → AreDealt most (phases_of notes) (events_of notes)
+dealt_one_by_one most some [] = refl
+dealt_one_by_one most some (note.Label leaf ∷ notes) = dealt_one_by_one most some notes
+dealt_one_by_one most some (note.Read cell ∷ notes) = (event.Read cell ∷ [], events_of notes, refl, record { lanes = 1; few = some; lane_of = λ i. 0; within = λ i lt. omega arith; seen = refl }, dealt_one_by_one most some notes)
+dealt_one_by_one most some (note.Write cell ∷ notes) = (events_of notes, refl, dealt_one_by_one most some notes)
+dealt_one_by_one most some (note.Sync ∷ notes) = (events_of notes, refl, dealt_one_by_one most some notes)
 
 module _ (p : Params) (word_of : WordId → ℕ) where
   pub life_rest : (s : LifeState) (xs ys : List LifeAct) → IsLife p word_of s (xs ++ ys) → IsLife p word_of (reached p word_of s xs) ys
@@ -109,8 +127,12 @@ module _ (p : Params) (word_of : WordId → ℕ) (slot : ℕ → ℕ → ℕ) wh
 
   -- ---- rows
 
-  front_of_whole : (row : ShownRow) → IsWholeRow p row → IsFrontRow p row
-  front_of_whole row whole = (row_phases p row.kind row.public row.fills, [], sym (append-nil (row_phases p row.kind row.public row.fills)), whole)
+  -- the first of its phases, and nothing behind
+  pub front_of_first : (row : ShownRow) → AreFirst row.lanes (row_phases p row.kind row.public row.fills) row.events → IsFrontRow p row
+  front_of_first row first = ([], subst (λ (l : List Event). AreFirst row.lanes (row_phases p row.kind row.public row.fills) l) (sym (append-nil row.events)) first)
+
+  pub front_of_whole : (row : ShownRow) → IsWholeRow p row → IsFrontRow p row
+  front_of_whole row whole = front_of_first row (row_phases p row.kind row.public row.fills, [], sym (append-nil (row_phases p row.kind row.public row.fills)), whole)
 
   row_filled : (rows : List ShownRow) (row : ShownRow) → AreRowsShown p word_of slot rows → Has rows row → IsRowFilled p word_of slot row
   row_filled [] row shown has = absurd has
@@ -220,8 +242,20 @@ module _ (keys : Keys) (p : Params) (word_of : WordId → ℕ) (slot : ℕ → �
     pads_once = λ past sound. sound.pads.apart;
   }
 
-  pub begins_sound : IsSoundPast p word_of slot formatted_past
-  begins_sound = record { is_life = tt; rows = tt; pads = record { apart = tt; earlier = λ x has. absurd has; own = λ s is. absurd (none-some s is); taken = λ s is. absurd (none-some s is) } }
+  -- what a format makes of its row
+  format_front : (calls : ℕ) → IsFrontRow p (format_row p calls)
+  format_front calls = (
+    drop calls (events_of (format_notes p)),
+    (
+      phases_of (format_notes p),
+      [],
+      sym (append-nil (phases_of (format_notes p))),
+      subst (λ (l : List Event). AreDealt 1 (phases_of (format_notes p)) l) (sym (take-append-drop calls (events_of (format_notes p)))) (dealt_one_by_one 1 (omega arith) (format_notes p)),
+    ),
+  )
+
+  pub begins_sound : (calls : ℕ) → IsSoundPast p word_of slot (formatted_past p calls)
+  begins_sound calls = record { is_life = tt; rows = (format_front calls, record { is_life = tt; labels = refl; slots = λ x has. absurd has }, tt, tt); pads = record { apart = tt; earlier = λ x has. absurd has; own = λ s is. absurd (none-some s is); taken = λ s is. absurd (none-some s is) } }
 
 pub ring_headline : RingHeadlineHolds
 ring_headline keys p word_of slot some ranked = (begins_sound keys p word_of slot some ranked, promises keys p word_of slot some ranked, λ kept. headline (ring_course keys p word_of slot kept))

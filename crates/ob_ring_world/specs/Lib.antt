@@ -3,3 +3,4 @@ pub mod Steps
 pub mod RingCourses
 pub mod OpeningMoments
 pub mod Runs
+pub mod Formatting

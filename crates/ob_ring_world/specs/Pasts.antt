@@ -1,13 +1,14 @@
 -- The past of a ring store: the acts of its life, the rows of the public schedule that were shown of it, and the pads of its seals.
-use Rattle.std.specs.Prelude.{◌≡◌, ℕ, ◌≤◌, ◌<◌, Bool, List, [], ◌∷◌, ◌++◌, map, length, Option, None, Some}
+use Rattle.std.specs.Prelude.{◌≡◌, ℕ, ◌≤◌, ◌<◌, Bool, List, [], ◌∷◌, ◌++◌, map, length, take, Option, None, Some}
 use Rattle.std.specs.List.{flat_map}
 use Rattle.ob_base.specs.Repeats.{Has, NoRepeats}
 use Rattle.ob_base.specs.Tree.{below}
 use Rattle.ob_base.specs.declared.params.Params.{Params}
+use Rattle.ob_store.specs.Told.{events_of}
 use Rattle.ob_store.specs.declared.event.Event.{Event}
 use Rattle.ob_seal.specs.Sealing.{Sealing}
-use Rattle.ob_schedule.specs.Phases.{Phase, open_phases}
-use Rattle.ob_schedule.specs.Schedule.{Fills, after_open, batch_leaves}
+use Rattle.ob_schedule.specs.Phases.{Phase, open_phases, phases_of}
+use Rattle.ob_schedule.specs.Schedule.{Fills, after_open, batch_leaves, format_notes, public_formatted}
 use Rattle.ob_recover.specs.Life.{HolesAreFresh, IsLife, LifeAct, LifeState, ShowBatch, ShowLifts, SlotFill, WordId, formatted_life, labels_shown, leaf_of_word, life_labels, life_slots, reached, slots_shown}
 use Rattle.ob_recover.specs.Telling.{AreDealt}
 use Rattle.ob_pads.specs.Seals.{Pad}
@@ -17,8 +18,9 @@ use Rattle.ob_vault.specs.Seen.{RingPublic, ring_next, ring_phases}
 
 -- ---- rows of the schedule
 
--- what a row is of: an opening, which found these gates open and repeats so many batches; or a call
+-- what a row is of: the format; an opening, which found these gates open and repeats so many batches; or a call
 pub data RowKind : Type 0 where
+  OfFormat : RowKind
   OfOpening : (gates : ℕ → Bool) (generation repeats : ℕ) → RowKind
   OfCall : (shape : Shape) → RowKind
 
@@ -36,29 +38,34 @@ pub record ShownRow : Type 0 where
   pub acts : List LifeAct
 
 abbrev pub row_phases : Params → RowKind → RingPublic → Fills → List Phase
+row_phases p OfFormat q f = phases_of (format_notes p)
 row_phases p (OfOpening gates generation repeats) q f = open_phases p q.known f gates generation repeats
 row_phases p (OfCall shape) q f = ring_phases p q shape f
 
 -- what is public behind it
 abbrev pub row_next : Params → RowKind → RingPublic → Fills → RingPublic
+row_next p OfFormat q f = record { known = public_formatted p; shown = 0 }
 row_next p (OfOpening gates generation repeats) q f = record { known = after_open p q.known f gates generation repeats; shown = repeats }
 row_next p (OfCall shape) q f = ring_next p q shape f
 
 -- the leaves that it shows, behind so many batches of the epoch
 abbrev pub row_leaves : Params → ℕ → RowKind → Fills → List ℕ
+row_leaves p batch OfFormat f = []
 row_leaves p batch (OfOpening gates generation repeats) f = flat_map (λ b. batch_leaves p f b) (below repeats)
 row_leaves p batch (OfCall Fetches) f = batch_leaves p f batch
 row_leaves p batch (OfCall Ends) f = []
 
--- all its phases were made, or the first of them
+-- All its phases were made; or the first events of the first of them, and these would have come behind.
 abbrev pub IsWholeRow : Params → ShownRow → Type 0
 IsWholeRow p row = AreDealt row.lanes (row_phases p row.kind row.public row.fills) row.events
 
 abbrev pub IsFrontRow : Params → ShownRow → Type 0
-IsFrontRow p row = AreFirst row.lanes (row_phases p row.kind row.public row.fills) row.events
+IsFrontRow p row = (behind : List Event) × AreFirst row.lanes (row_phases p row.kind row.public row.fills) (row.events ++ behind)
 
--- A call's row comes behind a whole one, and goes on from what is public behind that. The newest row is the first.
+-- The format's row is the oldest. A call's comes behind a whole one, and goes on from what is public behind that. The newest row is the first.
 abbrev pub GoesOnBehind : Params → List ShownRow → RowKind → RingPublic → Type 0
+GoesOnBehind p [] OfFormat q = Unit {0}
+GoesOnBehind p (last ∷ rows) OfFormat q = ⊥
 GoesOnBehind p rows (OfOpening gates generation repeats) q = Unit {0}
 GoesOnBehind p [] (OfCall shape) q = ⊥
 GoesOnBehind p (last ∷ rows) (OfCall shape) q = IsWholeRow p last × (q ≡ row_next p last.kind last.public last.fills)
@@ -79,9 +86,21 @@ pub record RingPast : Type 0 where
   pub pads : List Pad
   pub sealer : Option Sealing
 
+-- the format's row: its holes are none, and so many of its store's calls were made
+abbrev pub format_row : Params → (calls : ℕ) → ShownRow
+format_row p calls = record {
+  kind = OfFormat;
+  public = record { known = public_formatted p; shown = 0 };
+  fills = record { label = λ batch place. 0; slot = λ hole. 0 };
+  lanes = 1;
+  events = take calls (events_of (format_notes p));
+  before = [];
+  acts = [];
+}
+
 -- a store that was formatted, and not opened yet
-abbrev pub formatted_past : RingPast
-formatted_past = record { acts = []; in_flight = None; rows = []; pads = []; sealer = None }
+abbrev pub formatted_past : Params → (calls : ℕ) → RingPast
+formatted_past p calls = record { acts = []; in_flight = None; rows = format_row p calls ∷ []; pads = []; sealer = None }
 
 module _ (p : Params) (word_of : WordId → ℕ) (slot : ℕ → ℕ → ℕ) where
   -- where the life is behind these acts

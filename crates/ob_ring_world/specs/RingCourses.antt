@@ -45,7 +45,7 @@ module _ (keys : Keys) (p : Params) (word_of : WordId → ℕ) (slot : ℕ → �
   }
 
 -- Of every list of events over a ring store, where a bucket has dummies and the format ordered each bucket's slots: the headline, and what
--- the course promises. A store that was formatted has a sound past.
+-- the course promises. A store that was formatted has a sound past, also where a crash came inside the format.
 abbrev pub RingHeadlineHolds : Type 0
 RingHeadlineHolds = (keys : Keys) (p : Params) (word_of : WordId → ℕ) (slot : ℕ → ℕ → ℕ) → 0 < p.dummies → ((u : ℕ) → IsRanking (p.real + p.dummies) (slot u))
-    → IsSoundPast p word_of slot formatted_past × RingPromises keys p word_of slot × ((kept : RingPromises keys p word_of slot) → HeadlineHolds (ring_course keys p word_of slot kept))
+    → ((calls : ℕ) → IsSoundPast p word_of slot (formatted_past p calls)) × RingPromises keys p word_of slot × ((kept : RingPromises keys p word_of slot) → HeadlineHolds (ring_course keys p word_of slot kept))

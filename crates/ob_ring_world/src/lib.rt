@@ -7,5 +7,5 @@
 mod lives;
 mod vaults;
 
-pub use lives::{openings_moment_by_moment, ring_headline, runs_are_worlds};
+pub use lives::{formats_begin_worlds, openings_moment_by_moment, ring_headline, runs_are_worlds};
 pub use vaults::ring_vaults_are_over_rings;
