@@ -7,3 +7,4 @@ pub mod AlongEvents
 pub mod AlongRuns
 pub mod RingRows
 pub mod Formatted
+pub mod OneList
