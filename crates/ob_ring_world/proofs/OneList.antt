@@ -228,7 +228,7 @@ module _ (keys : Keys) (calls : ℕ) where
     -- ---- as events
 
     abbrev kept : RingPromises keys two_batches words slots
-    kept = promises keys two_batches words slots (omega arith) slots_ranked
+    kept = promises keys two_batches words slots slots_ranked
 
     abbrev course : Course
     course = ring_course keys two_batches words slots kept
@@ -311,5 +311,5 @@ module _ (keys : Keys) (calls : ℕ) where
 
     pub events_are_fresh : AreTwiceTheSame × HolesAreFresh (life_labels two_batches words (formatted_life slots) w7.past.acts) (life_slots two_batches words (formatted_life slots) w7.past.acts)
     events_are_fresh =
-        let h : Headline course made events w7 = headline course setup [] at_zero 0 p0 events w7 (begins_sound keys two_batches words slots (omega arith) slots_ranked calls) events_are_world in
+        let h : Headline course made events w7 = headline course setup [] at_zero 0 p0 events w7 (begins_sound keys two_batches words slots slots_ranked calls) events_are_world in
         ((refl, labels_again), h.fills.made)

@@ -231,14 +231,14 @@ module _ (p : Params) (word_of : WordId → ℕ) (slot : ℕ → ℕ → ℕ) wh
         (lifts_agree p word_of (state_behind p word_of slot before) more (rest before more past.acts is h.is_life) (ap (λ (t : LifeState). t.epoch) (sym there) ∙ epoch) full (subst (λ (t : LifeState). length t.log ≡ p.batches) there full_now));
   }
 
-module _ (keys : Keys) (p : Params) (word_of : WordId → ℕ) (slot : ℕ → ℕ → ℕ) (some : 0 < p.dummies) (ranked : (u : ℕ) → IsRanking (p.real + p.dummies) (slot u)) where
+module _ (keys : Keys) (p : Params) (word_of : WordId → ℕ) (slot : ℕ → ℕ → ℕ) (ranked : (u : ℕ) → IsRanking (p.real + p.dummies) (slot u)) where
   pub promises : RingPromises keys p word_of slot
   promises = record {
     called = λ old call answer new step sound. called_sound p word_of slot (is_answered answer) old call new step sound;
     cut = cut_sound p word_of slot keys;
     opened = opened_sound p word_of slot;
     public = λ past sound. sound.rows;
-    fresh = fresh_past p word_of slot some ranked;
+    fresh = fresh_past p word_of slot (let some = p.in_range.some_dummies in omega (arith, some)) ranked;
     pads_once = λ past sound. sound.pads.apart;
   }
 
@@ -258,4 +258,4 @@ module _ (keys : Keys) (p : Params) (word_of : WordId → ℕ) (slot : ℕ → �
   begins_sound calls = record { is_life = tt; rows = (format_front calls, record { is_life = tt; labels = refl; slots = λ x has. absurd has }, tt, tt); pads = record { apart = tt; earlier = λ x has. absurd has; own = λ s is. absurd (none-some s is); taken = λ s is. absurd (none-some s is) } }
 
 pub ring_headline : RingHeadlineHolds
-ring_headline keys p word_of slot some ranked = (begins_sound keys p word_of slot some ranked, promises keys p word_of slot some ranked, λ kept. headline (ring_course keys p word_of slot kept))
+ring_headline keys p word_of slot ranked = (begins_sound keys p word_of slot ranked, promises keys p word_of slot ranked, λ kept. headline (ring_course keys p word_of slot kept))

@@ -1,5 +1,5 @@
 -- A ring store's course: what a world's steps add to its past, and what is promised of that.
-use Rattle.std.specs.Prelude.{ℕ, ◌+◌, ◌<◌, Option}
+use Rattle.std.specs.Prelude.{ℕ, ◌+◌, Option}
 use Rattle.ob_base.specs.Repeats.{NoRepeats}
 use Rattle.ob_base.specs.declared.params.Params.{Params}
 use Rattle.ob_tables.specs.Rank.{IsRanking}
@@ -44,8 +44,8 @@ module _ (keys : Keys) (p : Params) (word_of : WordId → ℕ) (slot : ℕ → �
     pads_once = kept.pads_once;
   }
 
--- Of every list of events over a ring store, where a bucket has dummies and the format ordered each bucket's slots: the headline, and what
+-- Of every list of events over a ring store, where the format ordered each bucket's slots: the headline, and what
 -- the course promises. A store that was formatted has a sound past, also where a crash came inside the format.
 abbrev pub RingHeadlineHolds : Type 0
-RingHeadlineHolds = (keys : Keys) (p : Params) (word_of : WordId → ℕ) (slot : ℕ → ℕ → ℕ) → 0 < p.dummies → ((u : ℕ) → IsRanking (p.real + p.dummies) (slot u))
+RingHeadlineHolds = (keys : Keys) (p : Params) (word_of : WordId → ℕ) (slot : ℕ → ℕ → ℕ) → ((u : ℕ) → IsRanking (p.real + p.dummies) (slot u))
     → ((calls : ℕ) → IsSoundPast p word_of slot (formatted_past p calls)) × RingPromises keys p word_of slot × ((kept : RingPromises keys p word_of slot) → HeadlineHolds (ring_course keys p word_of slot kept))
