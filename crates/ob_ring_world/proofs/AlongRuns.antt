@@ -24,6 +24,9 @@ use Rattle.ob_desk.specs.Desk.{Setup, new_desk}
 use Rattle.ob_recover.proofs.Pads.{life_goes_on}
 use Rattle.ob_recover.proofs.ShownOpening.{openings_are_scheduled}
 use Rattle.ob_recover.specs.Calls.{Finds, repeated}
+use Rattle.ob_recover.specs.Telling.{AreDealt}
+use Rattle.ob_schedule.specs.Phases.{Reads}
+use Rattle.ob_vault.specs.Seen.{opening_phases}
 use Rattle.ob_recover.specs.Known.{fills_of, gates_open, public_of_kept}
 use Rattle.ob_recover.specs.Life.{Append, End, IsLife, LifeAct, LifeBatch, LifeState, Open as OpenAct, ShowBatch, ShowLifts, WordId, formatted_life, life_step, reached}
 use Rattle.ob_recover.specs.Lives.{life_batch}
@@ -93,7 +96,7 @@ module _ {V S : Type 0} (k : Kind V) (disk : S → Disk) (runs : V → Running S
 
   -- ---- an opening
 
-  module _ (w : World RingPast) (run : RingRun V) (r : IsRingRun k disk runs setup keys word_of run) (ready : Ready w run.image) where
+  module _ (w : World RingPast) (run : RingRun V S) (r : IsRingRun k disk runs setup keys word_of run) (ready : Ready w run.image) where
     abbrev x : RingPast
     x = w.past
 
@@ -136,13 +139,25 @@ module _ {V S : Type 0} (k : Kind V) (disk : S → Disk) (runs : V → Running S
     whole_life : IsLife p word_of (formatted_life slot) (before ++ opening_acts t)
     whole_life = life_goes_on p word_of (formatted_life slot) before (opening_acts t) life_before o.is_life
 
+    -- what the store was called for behind the head's read
+    record OpeningSeen : Type 0 where
+      pub all : List Event
+      pub seen : IsSeenOpening run.lanes all (disk run.before).seen (disk (runs run.first).store).seen
+      pub dealt : AreDealt run.lanes (opening_phases p f.content f.records f.run.epoch (f.run.sealer).generation r.found_in.found.gates) all
+
+    opening_seen : OpeningSeen
+    opening_seen = by r.shown.dealt
+      where
+        by : AreDealt run.lanes (Reads (0 ∷ []) ∷ opening_phases p f.content f.records f.run.epoch (f.run.sealer).generation r.found_in.found.gates) r.shown.events → OpeningSeen
+        by (head, rest, is, first, more) = record { all = rest; seen = inr (head, first, subst (λ (l : List Event). Notes l (disk run.before).seen (disk (runs run.first).store).seen) is r.shown.noted); dealt = more }
+
     abbrev row : ShownRow
     row = record {
       kind = OfOpening (gates_open r.found_in.found.gates) (f.run.sealer).generation (length f.records);
       public = record { known = public_of_kept p f.content [] f.run.epoch r.found_in.found.gates; shown = 0 };
       fills = fills_of p f.content f.records;
       lanes = run.lanes;
-      events = run.opening;
+      events = opening_seen.all;
       before = before;
       acts = opening_acts t;
     }
@@ -166,7 +181,7 @@ module _ {V S : Type 0} (k : Kind V) (disk : S → Disk) (runs : V → Running S
       kind = λ i. OfOpening (gates_open r.found_in.found.gates) (generation_is i) (many_is i);
       before = refl;
       acts = refl;
-      whole = r.shown;
+      whole = opening_seen.dealt;
       filled = record { is_life = whole_life; labels = o.labels; slots = o.slots };
       sealing = ((runs run.first).run).sealer;
       generation = r.at.generation ∙ generation_is;
@@ -236,7 +251,7 @@ module _ {V S : Type 0} (k : Kind V) (disk : S → Disk) (runs : V → Running S
       is_life = whole_life;
       generation = refl;
       idle = refl;
-      rows = λ shape. (r.shown, λ i. record { known = (sym gates_begun_at) i; shown = length f.records });
+      rows = λ shape. (opening_seen.dealt, λ i. record { known = (sym gates_begun_at) i; shown = length f.records });
       sealer = refl;
     }
 
@@ -452,7 +467,7 @@ module _ {V S : Type 0} (k : Kind V) (disk : S → Disk) (runs : V → Running S
     pub rows_are : world.past.rows ≡ cut ++ rows
     pub shown : Shown cut
 
-  ended : (run : RingRun V) (r : IsRingRun k disk runs setup keys word_of run) (w : World RingPast) (ready : Ready w run.image) (end : RunEnd V) → IsEndOfRun k disk runs setup keys word_of run end
+  ended : (run : RingRun V S) (r : IsRingRun k disk runs setup keys word_of run) (w : World RingPast) (ready : Ready w run.image) (end : RunEnd V) → IsEndOfRun k disk runs setup keys word_of run end
       → (parts : List (RingPart V S)) → AreRingPartsFrom k disk runs setup keys word_of (end_leaves end) parts
       → Joined (last w run r ready) (events_of_end end) (λ m. Here m parts) (last w run r ready).past.rows (IsShownAtEnd disk runs run.last.past end)
   ended run r w ready Serves is parts from = record { world = last w run r ready; leads = refl; next = here_none (last w run r ready) parts from; cut = []; rows_are = refl; shown = refl }
@@ -473,7 +488,7 @@ module _ {V S : Type 0} (k : Kind V) (disk : S → Disk) (runs : V → Running S
           row w run r at,
           (along w run r at).seen.rows,
           b.cut,
-          refl,
+          (opening_seen w run r at).seen,
           (along w run r at).seen.seen,
           b.shown,
           subst (λ (l : List ShownRow). AreRowsOf disk runs l parts m.past.rows) (b.rows_are ∙ ap (λ (l : List ShownRow). b.cut ++ l) (along w run r at).seen.rows_are) rows,

@@ -12,7 +12,7 @@ use Rattle.ob_serial.specs.VaultKinds.{Kind}
 use Rattle.ob_desk.specs.Desk.{Setup}
 use Rattle.ob_stand.specs.Stands.{StandsRing}
 use Rattle.ob_recover.specs.Life.{WordId, formatted_life}
-use Rattle.ob_recover.specs.Telling.{AreDealt, ArePhasesMade, IsDealt}
+use Rattle.ob_recover.specs.Telling.{ArePhasesMade, IsDealt}
 use Rattle.ob_schedule.specs.Phases.{Reads}
 use Rattle.ob_opening.specs.OpeningActs.{StandsInLife}
 use Rattle.ob_opening.specs.OpeningRuns.{OpensFrom}
@@ -37,14 +37,14 @@ pub record IsOverRing {V S : Type 0} (k : Kind V) (disk : S → Disk) (runs : V 
   pub stands : (v : V) (image : Image) (at : Standing) → k.stands v image at → StandsRing ((runs v).run.sealer).keys (runs v).run.params ((runs v).run.sealer).generation image at
   pub since : (v w : V) (image : Image) → (disk (runs w).store).left_since (disk (runs v).store).moment image → (k.disk w).left_since (k.disk v).moment image
 
--- A run: the image that it was opened at, for what that stood, and what was found in it; for whom it was opened, what that called the store
--- for behind the head's read, and how many lanes read; the vault then; and what was done since, as a list of events.
-pub record RingRun (V : Type 0) : Type 0 where
+-- A run: the store as it was handed to the opening, the image that this found, for what that stood, and what was found in it; for whom it was
+-- opened, and how many lanes read; the vault then; and what was done since, as a list of events.
+pub record RingRun (V S : Type 0) : Type 0 where
+  pub before : S
   pub image : Image
   pub standing : Standing
   pub found : RingFound
   pub clients : List ℕ
-  pub opening : List Event
   pub lanes : ℕ
   pub first : V
   pub events : List WorldEvent
@@ -61,7 +61,7 @@ pub data RunEnd (V : Type 0) : Type 0 where
 -- A run; or an opening by so many lanes that was refused, or inside which a crash came, behind so many of its store's calls, and which left
 -- this image.
 pub data RingPart (V S : Type 0) : Type 0 where
-  Runs : (run : RingRun V) (end : RunEnd V) → RingPart V S
+  Runs : (run : RingRun V S) (end : RunEnd V) → RingPart V S
   Stops : (old new : S) (lanes calls : ℕ) (image : Image) → RingPart V S
 
 abbrev pub end_leaves : {V : Type 0} → RunEnd V → Image → Type 0
@@ -100,11 +100,12 @@ events_of_parts (part ∷ parts) = events_of_part part ++ events_of_parts parts
 module _ {V S : Type 0} (k : Kind V) (disk : S → Disk) (runs : V → Running S) (setup : Setup) (keys : Keys) (word_of : WordId → ℕ) where
   -- The opening found what the image tells, and where it stands, and gave a vault that begins there; what was done since is a list of
   -- events of that vault, as each run's is, in which it drew the words of its generation.
-  pub record IsRingRun (run : RingRun V) : Type 0 where
+  pub record IsRingRun (run : RingRun V S) : Type 0 where
     pub found_in : IsRingFound keys setup.params run.image run.found
     pub stands : (generation : ℕ) × StandsRing keys setup.params generation run.image run.standing
     pub opened_at : IsOpenedAt ring_kind keys setup.params run.standing run.found (disk (runs run.first).store)
-    pub shown : AreDealt run.lanes (opening_phases setup.params run.found.content run.found.records run.found.run.epoch (run.found.run.sealer).generation found_in.found.gates) run.opening
+    pub shown : ArePhasesMade run.lanes (Reads (0 ∷ []) ∷ opening_phases setup.params run.found.content run.found.records run.found.run.epoch (run.found.run.sealer).generation found_in.found.gates)
+        (disk run.before).seen (disk (runs run.first).store).seen
     pub at : RingAt k disk runs keys run.lanes setup.params run.found (disk (runs run.first).store) (ring_public setup.params run.found) (ring_hidden run.found) 0 run.first
     pub sound : k.sound run.first (opened_vault setup.params.batches run.standing run.found.run.left)
     pub one : IsOneRun run.events
@@ -112,7 +113,7 @@ module _ {V S : Type 0} (k : Kind V) (disk : S → Disk) (runs : V → Running S
     pub tape : AreTapeWords word_of (ring_hidden run.found).generation (runs run.last.past).drawn
 
   -- the image was left at the end, or at some moment of the call
-  abbrev pub IsEndOfRun : RingRun V → RunEnd V → Type 0
+  abbrev pub IsEndOfRun : RingRun V S → RunEnd V → Type 0
   IsEndOfRun run Serves = Unit {0}
   IsEndOfRun run (Returns image) = (disk (runs run.last.past).store).may_leave image
   IsEndOfRun run (Crashes image) = (disk (runs run.last.past).store).may_leave image
@@ -135,7 +136,8 @@ IsShownAtEnd disk runs last _ cut = cut ≡ []
 -- was called for since, and that of the call inside which a crash came; of an opening that was refused or cut off, what it showed.
 abbrev pub AreRowsOf : {V S : Type 0} → (S → Disk) → (V → Running S) → (earlier : List ShownRow) → List (RingPart V S) → (rows : List ShownRow) → Type 0
 AreRowsOf disk runs earlier [] rows = rows ≡ earlier
-AreRowsOf disk runs earlier (Runs run end ∷ parts) rows = (opening : ShownRow) × (calls : List ShownRow) × (cut : List ShownRow) × (opening.events ≡ run.opening)
+AreRowsOf disk runs earlier (Runs run end ∷ parts) rows = (opening : ShownRow) × (calls : List ShownRow) × (cut : List ShownRow)
+    × IsSeenOpening run.lanes opening.events (disk run.before).seen (disk (runs run.first).store).seen
     × Notes (events_of_rows calls) (disk (runs run.first).store).seen (disk (runs run.last.past).store).seen × IsShownAtEnd disk runs run.last.past end cut × AreRowsOf disk runs (cut ++ (calls ++ opening ∷ earlier)) parts rows
 AreRowsOf disk runs earlier (Stops old new lanes calls image ∷ parts) rows =
     (cut : List ShownRow) × (all : List Event) × IsSeenOpening lanes all (disk old).seen (disk new).seen × (events_of_rows cut ≡ take calls all) × AreRowsOf disk runs (cut ++ earlier) parts rows
