@@ -11,6 +11,7 @@ pub mod Lasting
 pub mod Refused
 pub mod Wanted
 pub mod WantedActs
+pub mod WantedRuns
 pub mod WantedMoments
 pub mod Running
 pub mod Counting

@@ -1,36 +1,25 @@
--- What is said of acts and of runs, without one of its premises: for each a case that keeps all the others, and of which it isn't so.
-use Rattle.std.specs.Prelude.{ℕ, ◌≡◌, true, false, All, List, [], ◌∷◌, Option, None, Some, Ok}
+-- What is said of acts, without one of its premises: for each a case that keeps all the others, and of which it isn't so.
+use Rattle.std.specs.Prelude.{ℕ, ◌≡◌, true, false, All, List, [], ◌∷◌, Option, None, Some}
 use Rattle.std.proofs.Common.{refl, sym, ap, subst, ◌∙◌, inl, inr, ⊎_elim, arith}
 use Rattle.std.proofs.lemmas.Option.{none-some, same_Some}
 use Rattle.std.proofs.lemmas.List.Elements.{All-nil, All-cons}
 use Rattle.ob_base.specs.declared.fault.Fault.TheVariants.{SinkFault}
-use Rattle.ob_base.specs.declared.params.Params.{Params}
-use Rattle.ob_io.specs.Streams.{Flow}
 use Rattle.ob_store.specs.Disk.{silent}
-use Rattle.ob_store.specs.Lines.{Trace}
-use Rattle.ob_serial.specs.Vaults.{VaultCall, Fetch, End, VaultAnswer, Values, Ended, RefusedBy, DoubtBy, VaultState, VaultStep, IsAnswer, standing_now, vault_next}
-use Rattle.ob_serial.specs.VaultKinds.{Kind, Called, AllCalled, after_calls}
+use Rattle.ob_serial.specs.Vaults.{VaultCall, Fetch, VaultAnswer, Values, VaultState, VaultStep, IsAnswer, vault_next}
+use Rattle.ob_serial.specs.VaultKinds.{Kind, Called, AllCalled}
 use Rattle.ob_order.specs.Order.{after_take, after_deliver}
 use Rattle.ob_desk.specs.Beats.{BeatKind}
-use Rattle.ob_desk.specs.Desk.{Setup, DeskState, Begin, Commit, TakeBatch, Begun, Done, Batch, look_at, new_client, new_desk, stopped_by, with_order}
+use Rattle.ob_desk.specs.Desk.{DeskState, Begin, Commit, TakeBatch, Begun, Done, Batch, look_at, new_client, stopped_by, with_order}
 use Rattle.ob_desk.specs.declared.calls.Look.{Look}
 use Rattle.ob_desk.specs.declared.clients.Client.{Client}
 use Rattle.ob_session.specs.Steps.{Leads, IsOwn}
-use Rattle.ob_conduct.proofs.Going.{in_order}
 use Rattle.ob_conduct.specs.Acts.{Act, Says, Delivers, RestUnwatched, IsAllowed, history, calls}
-use Rattle.ob_conduct.specs.Conducted.{Conducted}
-use Rattle.ob_conduct.specs.Ready.{IsOrdered}
 use Rattle.ob_conduct.specs.Rounds.{IsOneThing}
-use Rattle.ob_conduct.specs.Scenes.{RunState, RunnerKind}
 use Rattle.ob_driver.specs.Drives.{AreThings}
-use Rattle.ob_run.specs.Threaded.{driven, RunsBy}
-use Rattle.ob_world.specs.Courses.{course_of}
+use Rattle.ob_run.specs.Threaded.{driven}
 use Rattle.ob_world.specs.Drivers.{AtRest, HasFetched}
 use Rattle.ob_world.specs.Laws.{AreActsFrom, IsWovenWorld}
-use Rattle.ob_world.specs.Weaves.{woven, reports_of}
-use Rattle.ob_world.specs.Worlds.{World, first_world, opened_vault}
-use Rattle.ob_world.proofs.Holding.{inv_first}
-use Rattle.ob_world.proofs.Keeping.{Ran, ran}
+use Rattle.ob_world.specs.Worlds.{World, opened_vault}
 use Rattle.ob_world.proofs.Rows.{asked, at_zero, d0, d1, keys, pads, setup, small, values, x}
 
 -- ---- vaults, in words of their own
@@ -127,11 +116,11 @@ t2 = record d1 { running = with_order d1.running (after_take small d1.running.or
 abbrev pub t3 : List (Option (List ℕ)) → DeskState
 t3 out = record t2 { running = with_order t2.running (after_deliver t2.running.order keys out) }
 
-stopped_allowed : (out : List (Option (List ℕ))) → All (IsAllowed eager) (stopped out)
+pub stopped_allowed : (out : List (Option (List ℕ))) → All (IsAllowed eager) (stopped out)
 stopped_allowed out = All-cons (IsAllowed eager) (Says 1 ((Begin 1, Begun x) ∷ [])) (RestUnwatched seen (record { keys = keys; values = out } ∷ []) ∷ []) (All-cons (IsOwn 1) (Begin 1, Begun x) [] refl (All-nil (IsOwn 1)))
     (All-cons (IsAllowed eager) (RestUnwatched seen (record { keys = keys; values = out } ∷ [])) [] (inr refl, (inl refl, omega arith)) (All-nil (IsAllowed eager)))
 
-stopped_leads : (a b : Option (List ℕ)) → Leads d0 (history (stopped (a ∷ b ∷ []))) (stopped_by SinkFault (t3 (a ∷ b ∷ [])))
+pub stopped_leads : (a b : Option (List ℕ)) → Leads d0 (history (stopped (a ∷ b ∷ []))) (stopped_by SinkFault (t3 (a ∷ b ∷ [])))
 stopped_leads a b = (
   d1,
   (record { client = new_client 1; found = refl; not_signed_off = refl }, λ c y found last. absurd (none-some y (ap (λ (c : Client). c.last) (same_Some (new_client 1) c found) ∙ last))),
@@ -141,6 +130,9 @@ stopped_leads a b = (
 
 stopped_things : (out : List (Option (List ℕ))) → AreThings (driven (stopped out))
 stopped_things out = record { things = (RestUnwatched seen (record { keys = keys; values = out } ∷ []) ∷ []) ∷ []; acts_are = refl; each = All-cons IsOneThing (RestUnwatched seen (record { keys = keys; values = out } ∷ []) ∷ []) [] tt (All-nil IsOneThing) }
+
+abbrev pub d_stopped : List (Option (List ℕ)) → DeskState
+d_stopped out = stopped_by SinkFault (t3 out)
 
 -- of calls of the vault that were never made
 pub chain_is_wanted : All (IsAllowed eager) (stopped values) × Leads d0 (history (stopped values)) (stopped_by SinkFault (t3 values)) × AreThings (driven (stopped values)) × deaf.holds v0 v0
@@ -180,125 +172,3 @@ holding_is_wanted = (
 pub opening_is_wanted : Leads d0 (history []) d0 × AllCalled plain (record v0 { batches = 2 }) (calls []) (record v0 { batches = 2 }) × AreThings (driven []) × plain.holds (record v0 { batches = 2 }) (record v0 { batches = 2 })
     × (IsWovenWorld plain setup (1 ∷ []) (record v0 { batches = 2 }) (record v0 { batches = 2 }) (record v0 { batches = 2 }) [] d0 → ⊥)
 opening_is_wanted = (refl, refl, none_driven, refl, λ w. (let e : 1 ≡ 2 = ap (λ (u : VaultState). u.batches) (ap (λ (m : World VaultState). m.vault) w.leads ∙ w.vault_is) in omega (arith, e)))
-
--- ---- runs that are no world
-
-batches_stay : (v : VaultState) (steps : List (VaultCall × VaultAnswer)) → (after_calls v steps).batches ≡ v.batches
-batches_stay v [] = refl
-batches_stay v ((call, answer) ∷ steps) = batches_stay (vault_next v call answer) steps ∙ one call answer
-  where
-    one : (call : VaultCall) (answer : VaultAnswer) → (vault_next v call answer).batches ≡ v.batches
-    one (Fetch asks) (Values out) = refl
-    one (Fetch asks) Ended = refl
-    one (Fetch asks) (RefusedBy fault) = refl
-    one (Fetch asks) (DoubtBy fault) = refl
-    one (End ws) (Values out) = refl
-    one (End ws) Ended = refl
-    one (End ws) (RefusedBy fault) = refl
-    one (End ws) (DoubtBy fault) = refl
-
--- in a world the desk's batches are the vault's
-same_batches : {V : Type 0} (k : Kind V) (s : Setup) (clients : List ℕ) (v : VaultState) (old new : V) (acts : List Act) (d : DeskState) → IsWovenWorld k s clients v old new acts d → v.batches ≡ d.setup.params.batches
-same_batches {V} k s clients v old new acts d w =
-    let first : World V = first_world s clients (standing_now v) v.left old in
-    let all : Ran (course_of k) (v.content) [] [] first (woven acts (reports_of acts)) w.last = ran (course_of k) v.content [] [] first (woven acts (reports_of acts)) w.last (inv_first s clients (standing_now v) v.left old) w.leads in
-    sym (ap (λ (u : VaultState). u.batches) w.vault_is ∙ batches_stay v (calls acts)) ∙ all.inv.alike ∙ ap (λ (e : DeskState). e.setup.params.batches) w.desk_is
-
-abbrev pub nobody : RunnerKind (Unit {0}) (Unit {0})
-nobody = record { client = λ u. 1; bound = λ u. 0; plan = λ u. tt; fits = λ u said. Unit {0}; turn = λ plan client said steps. Unit {0} }
-
-abbrev pub quiet : Trace
-quiet = record { written = None; broken = false; faults = 0; anchors = [] }
-
-abbrev pub output : Flow
-output = record { bytes = None; faults = 0 }
-
--- a run of nobody over this desk and this vault
-abbrev pub idle : DeskState → VaultState → RunState VaultState (Unit {0})
-idle d v = record { scene = record { desk = d; vault = v; trace = quiet }; runners = []; output = output }
-
--- of two batches an epoch
-abbrev pub wide : Params
-wide = record {
-  keys = small.keys;
-  levels = small.levels;
-  real = small.real;
-  dummies = small.dummies;
-  batches = 2;
-  places = small.places;
-  writes = small.writes;
-  evictions = small.evictions;
-  room = small.room;
-  in_range = record {
-    some_keys = omega arith;
-    few_keys = omega arith;
-    some_levels = omega arith;
-    few_levels = omega arith;
-    some_real = omega arith;
-    few_real = omega arith;
-    some_dummies = omega arith;
-    few_dummies = omega arith;
-    some_batches = omega arith;
-    few_batches = omega arith;
-    some_places = omega arith;
-    few_places = omega arith;
-    some_writes = omega arith;
-    few_writes = omega arith;
-    some_evictions = omega arith;
-    few_evictions = omega arith;
-    some_room = omega arith;
-    few_room = omega arith;
-    keys_fit = omega arith;
-  };
-}
-
-abbrev pub other_setup : Setup
-other_setup = record { params = wide }
-
-conducted : (s : Setup) (v : VaultState) → Conducted plain nobody eager (idle (new_desk s 1 1 []) v) (idle (new_desk s 1 1 []) v) [] (Ok tt)
-conducted s v = record {
-  allowed = All-nil (IsAllowed eager);
-  leads = refl;
-  notes = [];
-  chain = (refl, refl, refl);
-  shown = record { anchors = refl; faults = omega arith; breaks = tt; lines = tt };
-  serial = λ m h. ((refl, refl), h);
-  one_by_one = λ m h. refl;
-  in_order = in_order 1 1 [] [] (record { counted = refl; numbered = refl; ordered = All-nil IsOrdered; written = tt });
-  epochs = refl;
-  wrote = tt;
-  printed = record { count = 0; within = omega arith; written = refl; whole = inl refl };
-  fitting = All-nil (λ u. Unit {0});
-  keeps = tt;
-  clients = refl;
-  bounds = refl;
-  plans = refl;
-  ends = (tt, record { at_rest = record { none_runs = refl; none_closed = refl; not_stopped = refl }; signed_off = refl }, record { bytes = refl; later = omega arith }, refl);
-}
-
-by_hand : (s : Setup) (v : VaultState) → RunsBy false plain nobody eager (idle (new_desk s 1 1 []) v) (idle (new_desk s 1 1 []) v) (Ok tt)
-by_hand s v = ([], conducted s v, record { rounds = []; acts_are = refl; each = tt })
-
-abbrev pub IsRunWorld : DeskState → VaultState → Type 0
-IsRunWorld d v = (acts : List Act) × Conducted plain nobody eager (idle d v) (idle d v) acts (Ok tt) × IsWovenWorld plain setup [] v v v acts d
-
--- from a desk that isn't new for the vault
-pub new_desk_is_wanted : RunsBy false plain nobody eager (idle (new_desk other_setup 1 1 []) v0) (idle (new_desk other_setup 1 1 []) v0) (Ok tt) × plain.holds v0 v0 × (v0 ≡ opened_vault 1 (standing_now v0) v0.left)
-    × (IsRunWorld (new_desk other_setup 1 1 []) v0 → ⊥)
-new_desk_is_wanted = (
-  by_hand other_setup v0,
-  refl,
-  refl,
-  λ run. (let e : 1 ≡ 2 = same_batches plain setup [] v0 v0 v0 run.0 (new_desk other_setup 1 1 []) run.2 in omega (arith, e)),
-)
-
--- over a vault that isn't as an opening leaves it
-abbrev pub v_other : VaultState
-v_other = record v0 { batches = 2 }
-
-pub opened_vault_is_wanted : RunsBy false plain nobody eager (idle (new_desk setup 1 1 []) v_other) (idle (new_desk setup 1 1 []) v_other) (Ok tt) × plain.holds v_other v_other × (IsRunWorld (new_desk setup 1 1 []) v_other → ⊥)
-opened_vault_is_wanted = (
-  by_hand setup v_other,
-  refl,
-  λ run. (let e : 2 ≡ 1 = same_batches plain setup [] v_other v_other v_other run.0 (new_desk setup 1 1 []) run.2 in omega (arith, e)),
-)

@@ -1,5 +1,5 @@
 -- What is said of a run's moments and of its records, without one of its premises: for each a case that keeps all the others, and of which it isn't so.
-use Rattle.std.specs.Prelude.{ℕ, ◌≡◌, Bool, true, false, All, List, [], ◌∷◌, length, take, None}
+use Rattle.std.specs.Prelude.{ℕ, ◌≡◌, Bool, true, false, All, List, [], ◌∷◌, ◌++◌, length, take, None, Some}
 use Rattle.std.proofs.Common.{refl, ap, ◌∙◌, inl, inr, ⊎_elim, arith}
 use Rattle.std.proofs.lemmas.Option.{none-some, same_Some}
 use Rattle.std.proofs.lemmas.Bool.{false≢true}
@@ -7,9 +7,14 @@ use Rattle.std.proofs.lemmas.List.Elements.{All-nil, All-cons}
 use Rattle.ob_store.specs.Disk.{Disk, silent}
 use Rattle.ob_store.specs.Images.{LeavesOnly}
 use Rattle.ob_serial.specs.Serial.{EpochRecord}
-use Rattle.ob_serial.specs.Vaults.{VaultState, StandsIn}
+use Rattle.ob_serial.specs.Vaults.{End, Ended, VaultState, StandsIn}
 use Rattle.ob_serial.specs.VaultKinds.{Kind}
-use Rattle.ob_desk.specs.Desk.{Begin, Commit, Publish, TakeBatch, Begun, Published, new_client}
+use Rattle.ob_base.specs.declared.op.Op.{Op}
+use Rattle.ob_base.specs.declared.op.Op.TheVariants.{Put}
+use Rattle.ob_order.specs.Order.{after_begin, after_write}
+use Rattle.ob_order.specs.declared.answers.Wrote.TheVariants.{Yes}
+use Rattle.ob_desk.specs.declared.calls.Txn.{Txn}
+use Rattle.ob_desk.specs.Desk.{Part, DeskState, Close, Committed, Done, Write, Writes, begin_client, closing, new_holder, new_part, on_client, record_of, settle, with_order, Begin, Commit, Publish, TakeBatch, Begun, Published, new_client}
 use Rattle.ob_desk.specs.declared.clients.Client.{Client}
 use Rattle.ob_session.specs.Clients.{told_of, said_by}
 use Rattle.ob_session.specs.Records.{IsAtRest, TellAll, txns_by}
@@ -17,12 +22,13 @@ use Rattle.ob_session.specs.Steps.{IsOwn, Leads}
 use Rattle.ob_conduct.specs.Acts.{Act, Says, IsAllowed, history, records}
 use Rattle.ob_conduct.specs.Left.{Rests as CrashesRest, OnlyNow}
 use Rattle.ob_world.specs.Courses.{course_of}
-use Rattle.ob_world.specs.Drivers.{AtRest, HasTold, IsDown}
+use Rattle.ob_world.specs.Drivers.{AtRest, HasClosed, HasEnded, HasTold, IsDown}
 use Rattle.ob_world.specs.Headlines.{IsPrefix, acknowledged, published_in}
 use Rattle.ob_world.specs.Laws.{IsOneRun, desk_steps}
 use Rattle.ob_world.specs.Weaves.{publishes_in, reported_in, woven}
-use Rattle.ob_world.specs.Worlds.{WorldEvent, Desk, Crash, Open, World, IsWorld, cut_vault, first_world, opened_vault}
+use Rattle.ob_world.specs.Worlds.{WorldEvent, Desk, Vault, Crash, Open, World, IsWorld, cut_vault, first_world, opened_vault}
 use Rattle.ob_world.proofs.Rows.{at_zero, bare, d1, d6, d7, empty, image_of, part, setup, told, w0, w1, w8, w9, x}
+use Rattle.ob_world.proofs.Wanted.{LeadsBy, Unasked, r0}
 use Rattle.ob_world.proofs.WantedActs.{eager}
 
 -- ---- moments
@@ -163,4 +169,89 @@ new_is_wanted = (
   (w9, record { up = tt; own = inl (refl, tt); desk = d7; driver = HasTold told; may = (refl, omega arith, refl, refl); step = record { part = part; is_closed = refl; record_is = refl; state = refl }; moves = record { published = told; was = refl; told = refl; now = refl }; state = refl }, refl),
   record { none_runs = refl; none_closed = refl; not_stopped = refl },
   λ none. none,
+)
+
+-- of calls that may not be made: a client begins again, and then writes in its transaction before
+abbrev pub y : Txn
+y = record { client = 1; epoch = 1; ticket = 2 }
+
+abbrev pub f1 : DeskState
+f1 = record r0.desk { running = record r0.desk.running { order = after_begin r0.desk.running.order; holders = r0.desk.running.holders ++ new_holder 1 ∷ [] }; clients = on_client (begin_client x) r0.desk.clients 1 }
+
+abbrev pub f2 : DeskState
+f2 = record f1 { running = record f1.running { order = after_begin f1.running.order; holders = f1.running.holders ++ new_holder 1 ∷ [] }; clients = on_client (begin_client y) f1.clients 1 }
+
+abbrev pub f3 : DeskState
+f3 = record f2 { running = with_order f2.running (after_write f2.running.order 1 5 (Some (7 ∷ [])) Yes) }
+
+abbrev pub late_part : Part
+late_part = closing f3.running
+
+abbrev pub f4 : DeskState
+f4 = record f3 { running = new_part 2 1; closed = Some late_part }
+
+abbrev pub f5 : DeskState
+f5 = record f4 { closed = None; clients = settle late_part Committed f4.clients }
+
+abbrev pub g1 : World (Unit {0})
+g1 = record r0 { desk = f1 }
+
+abbrev pub g2 : World (Unit {0})
+g2 = record r0 { desk = f2 }
+
+abbrev pub g3 : World (Unit {0})
+g3 = record r0 { desk = f3 }
+
+abbrev pub g4 : World (Unit {0})
+g4 = record r0 { desk = f4; driver = HasClosed [] }
+
+abbrev pub g5 : World (Unit {0})
+g5 = record g4 { vault = opened_vault 1 (record { epoch = 1; content = empty }) 1; driver = HasEnded; ended = record_of late_part ∷ [] }
+
+abbrev pub g6 : World (Unit {0})
+g6 = record g5 { desk = f5; driver = HasTold (record_of late_part) }
+
+abbrev pub both_begun : List WorldEvent
+both_begun =
+    Desk 1 (Begin 1) (Begun x) ∷ Desk 1 (Begin 1) (Begun y) ∷ Desk 1 (Write x 5 (Some (7 ∷ []))) Done
+    ∷ Desk 0 Close (Writes []) ∷ Vault (End []) Ended ∷ Desk 0 (Publish 2 1) (Published (record_of late_part)) ∷ []
+
+pub asking_is_wanted : LeadsBy Unasked r0 both_begun g6 × IsOneRun both_begun × IsAtRest g6.desk × (AllTold both_begun → ⊥)
+asking_is_wanted = (
+  (
+    g1,
+    record { up = tt; own = inr refl; desk = f1; driver = AtRest; step = record { not_stopped = refl; next = refl; state = refl }; moves = refl; state = refl },
+    (
+      g2,
+      record { up = tt; own = inr refl; desk = f2; driver = AtRest; step = record { not_stopped = refl; next = refl; state = refl }; moves = refl; state = refl },
+      (
+        g3,
+        record { up = tt; own = inr refl; desk = f3; driver = AtRest; step = record { live = record { runs = refl; goes = refl }; reply = refl; state = refl }; moves = refl; state = refl },
+        (
+          g4,
+          record { up = tt; own = inl (refl, tt); desk = f4; driver = HasClosed []; step = record { batch = refl; state = refl }; moves = record { writes = []; was = refl; told = refl; now = refl }; state = refl },
+          (
+            g5,
+            record { vault = g5.vault; past = tt; law = record { serves = refl; answered = tt; state = refl }; called = tt; was = refl; state = refl },
+            (
+              g6,
+              record {
+                up = tt;
+                own = inl (refl, tt);
+                desk = f5;
+                driver = HasTold (record_of late_part);
+                step = record { part = late_part; is_closed = refl; record_is = refl; state = refl };
+                moves = record { published = record_of late_part; was = refl; told = refl; now = refl };
+                state = refl;
+              },
+              refl,
+            ),
+          ),
+        ),
+      ),
+    ),
+  ),
+  tt,
+  record { none_runs = refl; none_closed = refl; not_stopped = refl },
+  λ all. (let none : ◌≡◌ {A = List (Op ℕ)} (Put 5 (7 ∷ []) ∷ []) [] = all.0.ops in cc),
 )
