@@ -27,9 +27,9 @@ use Rattle.ob_ring_world.proofs.Sounding.{dealt_one_by_one}
 use Rattle.ob_ring_world.specs.Formatting.{BeginsIn, FormatsBeginWorlds, FormatsMomentByMoment, IsLeftInFormat}
 
 pub formats_begin_worlds : {S : Type 0} (disk : S → Disk) → FormatsBeginWorlds disk
-formats_begin_worlds disk keys p word_of old made begun tells empty =
+formats_begin_worlds disk keys p drawn word_of old made begun tells empty =
     let all : List Event = events_of (format_notes p) in (
-      record { small = begun.2; begins = λ c left. begun.3 word_of c left; stands = λ c left. (1, empty.images tells c left) },
+      record { small = begun.small; begins = λ c left. begun.stands word_of c left; stands = λ c left. (1, empty.images tells c left) },
       subst (λ (l : List Event). AreDealt 1 (phases_of (format_notes p)) l) (sym (take_all (length all) all (omega arith))) (dealt_one_by_one 1 (omega arith) (format_notes p)),
       subst (λ (l : List Event). Notes l (disk old).seen (disk made).seen) (sym (take_all (length all) all (omega arith))) empty.seen,
     )
@@ -39,19 +39,20 @@ module _ (keys : Keys) (p : Params) (drawn : List ℕ) (many : length drawn ≡ 
   abbrev left_as : Image → Disk
   left_as image = record old { may_leave = λ c. c ≡ image }
 
-  begins_in : (image : Image) → Stands keys p (formatted_standing p drawn) image → BeginsIn keys p old image
+  begins_in : (image : Image) → Stands keys p (formatted_standing p drawn) image → BeginsIn keys p drawn old image
   begins_in image stands =
-      let f : RingFormatted keys p (left_as image) = formats p drawn many keys (left_as image) (λ word_of slot c are same. first_stands keys p word_of slot drawn c are (subst (λ (i : Image). Stands keys p (formatted_standing p drawn) i) (sym same) stands)) in
+      let f : RingFormatted keys p drawn (left_as image) = formats p drawn many keys (left_as image) (λ word_of slot c are same. first_stands keys p word_of slot drawn c are (subst (λ (i : Image). Stands keys p (formatted_standing p drawn) i) (sym same) stands)) in
       let at : StandsRing keys p 1 image beginning = ring_stands keys p (formatted_standing p drawn) image beginning (record { epoch = refl; map = λ k. sym (get-empty nat_cmp k) }) stands in (
-        f.0,
-        f.1,
-        λ word_of. record { small = f.2; begins = λ c same. f.3 word_of c same; stands = λ c same. (1, subst (λ (i : Image). StandsRing keys p 1 i beginning) (sym same) at) },
+        f.slot,
+        f.ranked,
+        f.of_words,
+        λ word_of. record { small = f.small; begins = λ c same. f.stands word_of c same; stands = λ c same. (1, subst (λ (i : Image). StandsRing keys p 1 i beginning) (sym same) at) },
       )
 
-  left_in : (image : Image) → RingFormatLeaves keys p drawn old image → IsLeftInFormat keys p old image
+  left_in : (image : Image) → RingFormatLeaves keys p drawn old image → IsLeftInFormat keys p drawn old image
   left_in image (inl torn) = inl torn
   left_in image (inr (inl none)) = inr (inl none)
   left_in image (inr (inr laid)) = inr (inr (λ (head : image 0 ≡ head_cell keys ring_version p). begins_in image (formatted keys p drawn many image laid head)))
 
 pub formats_moment_by_moment : {S : Type 0} (disk : S → Disk) → FormatsMomentByMoment disk
-formats_moment_by_moment disk keys p drawn old new many leaves = weakened (disk old) (disk new) (RingFormatLeaves keys p drawn (disk old)) (IsLeftInFormat keys p (disk old)) (left_in keys p drawn many (disk old)) leaves
+formats_moment_by_moment disk keys p drawn old new many leaves = weakened (disk old) (disk new) (RingFormatLeaves keys p drawn (disk old)) (IsLeftInFormat keys p drawn (disk old)) (left_in keys p drawn many (disk old)) leaves

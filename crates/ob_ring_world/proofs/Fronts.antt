@@ -11,14 +11,14 @@ use Rattle.ob_schedule.specs.Phases.{Phase, phases_of, shared}
 use Rattle.ob_schedule.specs.Schedule.{Fills, batch_leaves, end_lifts, phase_notes, record_notes, written_by_end}
 use Rattle.ob_serial.specs.Vaults.{End, Fetch, VaultCall}
 use Rattle.ob_end.specs.Shown.{before_gate, up_to_gate}
-use Rattle.ob_recover.specs.Life.{LifeState, WordId}
+use Rattle.ob_recover.specs.Life.{End as EndAct, IsLife, LifeAct, LifeState, WordId}
 use Rattle.ob_vault.proofs.Cutting.{cut_batch, cut_end}
 use Rattle.ob_vault.specs.Acts.{AreTapeWords}
 use Rattle.ob_vault.specs.Hidden.{AreFirst, AreLifts, BatchCut, EndCut, RingCut, RingDrawsCut, RingHidden}
-use Rattle.ob_vault.specs.Lives.{IsCutInLife}
+use Rattle.ob_vault.specs.Lives.{AreShowing, IsBarelySeen, IsCutInLife, IsShownInLife}
 use Rattle.ob_vault.specs.Seen.{RingPublic, ring_phases}
 use Rattle.ob_vault.specs.Shapes.{Ends, Fetches, shape_of}
-use Rattle.ob_vault.specs.Shown.{IsInLife}
+use Rattle.ob_vault.specs.Shown.{AreFilledBy, IsInLife}
 
 pub all_first : (most : ℕ) (all : List Phase) (more : List Event) → AreDealt most all more → AreFirst most all more
 all_first most all more dealt = (all, [], sym (append-nil all), dealt)
@@ -71,14 +71,34 @@ module _ (most : ℕ) (p : Params) (q : RingPublic) (f : Fills) (more : List Eve
 abbrev pub IsFirstShown : (p : Params) → (most : ℕ) → (word_of : WordId → ℕ) → LifeState → RingPublic → VaultCall → List Event → Type 0
 IsFirstShown p most word_of s q call more = (more ≡ []) ⊎ ((f : Fills) × IsCutInLife p word_of s call f × AreFirst most (ring_phases p q (shape_of call) f) more)
 
-module _ (p : Params) (most : ℕ) (word_of : WordId → ℕ) (s : LifeState) (q : RingPublic) (h : RingHidden) (here : IsInLife p word_of h s) (words : List ℕ) (tape : AreTapeWords word_of h.generation words) (more : List Event) where
-  pub batch_shown : (asks : List (Option ℕ)) (f : Fills) (refused : Fault) → length h.records < p.batches → RingCut most p q h (Fetch asks) f words refused more → IsFirstShown p most word_of s q (Fetch asks) more
-  batch_shown asks f refused some cut = by_fault refused cut
-    where
-      by_draws : (refused : Fault) → RingDrawsCut p h (Fetch asks) f words × BatchCut most p q f refused more → IsFirstShown p most word_of s q (Fetch asks) more
-      by_draws refused ((behind, d, of_tape), first) = inr (f, cut_batch p word_of s h here asks f behind d words of_tape some tape, batch_first most p q f more refused first)
+-- ---- a call that was refused, beside the acts that were made of it
 
-      by_fault : (refused : Fault) → RingCut most p q h (Fetch asks) f words refused more → IsFirstShown p most word_of s q (Fetch asks) more
+-- and these acts are made, or none is and it was barely seen
+abbrev pub IsRefusedShown : (p : Params) → (most : ℕ) → (word_of : WordId → ℕ) → LifeState → RingPublic → VaultCall → List Event → (made : List LifeAct) → Type 0
+IsRefusedShown p most word_of s q call more made = (more ≡ [])
+    ⊎ ((f : Fills) × (c : IsCutInLife p word_of s call f) × AreFirst most (ring_phases p q (shape_of call) f) more × (((rest : List LifeAct) × (made ≡ c.acts ++ rest)) ⊎ ((made ≡ []) × IsBarelySeen most p s call more)))
+
+pub first_only : (p : Params) (most : ℕ) (word_of : WordId → ℕ) (s : LifeState) (q : RingPublic) (call : VaultCall) (more : List Event) (made : List LifeAct) → IsRefusedShown p most word_of s q call more made → IsFirstShown p most word_of s q call more
+first_only p most word_of s q call more made (inl none) = inl none
+first_only p most word_of s q call more made (inr (f, c, first, tied)) = inr (f, c, first)
+
+module _ (p : Params) (most : ℕ) (word_of : WordId → ℕ) (s : LifeState) (q : RingPublic) (h : RingHidden) (here : IsInLife p word_of h s) (words : List ℕ) (tape : AreTapeWords word_of h.generation words) (more : List Event) (made : List LifeAct) (is_life : IsLife p word_of s made) where
+  pub batch_refused : (asks : List (Option ℕ)) (f : Fills) (refused : Fault) → length h.records < p.batches → RingCut most p q h (Fetch asks) f words refused more → IsShownInLife most p word_of s h (Fetch asks) words more made → IsRefusedShown p most word_of s q (Fetch asks) more made
+  batch_refused asks f refused some cut by = by_fault refused cut
+    where
+      made_so : RingDrawsCut p h (Fetch asks) f words → AreFirst most (ring_phases p q Fetches f) more → ((f : Fills) → RingDrawsCut p h (Fetch asks) f words → AreFilledBy p word_of s made (Fetch asks) f) → AreShowing (Fetch asks) made
+          → IsRefusedShown p most word_of s q (Fetch asks) more made
+      made_so draws first filled shows = inr (f, record { acts = made; shows = shows; is_life = is_life; filled = filled f draws }, first, inl ([], sym (append-nil made)))
+
+      shown_so : RingDrawsCut p h (Fetch asks) f words → AreFirst most (ring_phases p q Fetches f) more → IsShownInLife most p word_of s h (Fetch asks) words more made → IsRefusedShown p most word_of s q (Fetch asks) more made
+      shown_so draws first (inl (inl acts, filled)) = made_so draws first filled acts
+      shown_so draws first (inl (inr acts, filled)) = made_so draws first filled acts
+      shown_so (behind, d, of_tape) first (inr (none, barely)) = inr (f, cut_batch p word_of s h here asks f behind d words of_tape some tape, first, inr (none, barely))
+
+      by_draws : (refused : Fault) → RingDrawsCut p h (Fetch asks) f words × BatchCut most p q f refused more → IsRefusedShown p most word_of s q (Fetch asks) more made
+      by_draws refused (draws, first) = shown_so draws (batch_first most p q f more refused first) by
+
+      by_fault : (refused : Fault) → RingCut most p q h (Fetch asks) f words refused more → IsRefusedShown p most word_of s q (Fetch asks) more made
       by_fault (fault.Worn number) none = inl none
       by_fault (fault.StoreFault unsure) is = by_draws (fault.StoreFault unsure) is
       by_fault (fault.Damaged cell check kept computed) is = by_draws (fault.Damaged cell check kept computed) is
@@ -91,5 +111,13 @@ module _ (p : Params) (most : ℕ) (word_of : WordId → ℕ) (s : LifeState) (q
       by_fault fault.SourceFault is = by_draws fault.SourceFault is
       by_fault fault.SinkFault is = by_draws fault.SinkFault is
 
-  pub end_shown : (writes : List (ℕ × Option (List ℕ))) (f : Fills) (refused : Fault) → length h.records ≡ p.batches → RingCut most p q h (End writes) f words refused more → IsFirstShown p most word_of s q (End writes) more
-  end_shown writes f refused all (fills, cut, answer) = ⊎_elim (λ (none : more ≡ []). inl none) (λ (first : AreFirst most (ring_phases p q Ends f) more). inr (f, cut_end p word_of s h here writes f fills all, first)) (end_first most p q f more refused cut)
+  pub end_refused : (writes : List (ℕ × Option (List ℕ))) (f : Fills) (refused : Fault) → length h.records ≡ p.batches → RingCut most p q h (End writes) f words refused more → IsShownInLife most p word_of s h (End writes) words more made → IsRefusedShown p most word_of s q (End writes) more made
+  end_refused writes f refused all (fills, cut, answer) by = ⊎_elim (λ (none : more ≡ []). inl none) (λ (first : AreFirst most (ring_phases p q Ends f) more). inr (f, c, first, inl (tied by))) (end_first most p q f more refused cut)
+    where
+      c : IsCutInLife p word_of s (End writes) f
+      c = cut_end p word_of s h here writes f fills all
+
+      tied : IsShownInLife most p word_of s h (End writes) words more made → (rest : List LifeAct) × (made ≡ c.acts ++ rest)
+      tied (inl (inl (ws, drawn, slot, is), filled)) = (EndAct ws drawn slot ∷ [], is ∙ ap (λ (l : List LifeAct). l ++ EndAct ws drawn slot ∷ []) (sym c.shows))
+      tied (inl (inr is, filled)) = ([], is ∙ sym c.shows ∙ sym (append-nil c.acts))
+      tied (inr (none, barely)) = absurd barely

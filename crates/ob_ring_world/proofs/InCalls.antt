@@ -26,8 +26,8 @@ use Rattle.ob_vault.proofs.Leaving as leaving
 use Rattle.ob_vault.proofs.SealCalls.{kept_by}
 use Rattle.ob_vault.proofs.Whole.{reached_join}
 use Rattle.ob_vault.specs.Acts.{AreBatchesSmall, AreTapeWords, IsBatchSmall, IsCallInLife, IsLeftWithin, is_answered}
-use Rattle.ob_vault.specs.Hidden.{IsOfTape, RingHidden}
-use Rattle.ob_vault.specs.Lives.{AreActsOf, IsLeftInLife}
+use Rattle.ob_vault.specs.Hidden.{AreFirst, IsOfTape, RingHidden}
+use Rattle.ob_vault.specs.Lives.{AreActsOf, IsCutInLife, IsLeftInLife}
 use Rattle.ob_vault.specs.RingKind.{IsRingMap, RingFound, ring_kind}
 use Rattle.ob_vault.specs.RingSteps.{RingAt, RunIsAtHidden}
 use Rattle.ob_vault.specs.RingVaults.{EndCalled, FetchCalled, KeepsRun, Running, write_from}
@@ -40,10 +40,10 @@ use Rattle.ob_serial.specs.declared.vault.EndErr.TheVariants.{Before, Unsure}
 use Rattle.ob_base.specs.declared.fault.Fault.{Fault}
 use Rattle.ob_store.specs.Calls.{Notes}
 use Rattle.ob_vault.proofs.Cutting.{cut_batch, cut_end}
-use Rattle.ob_ring_world.proofs.Fronts.{IsFirstShown, all_first, batch_shown, end_shown}
+use Rattle.ob_ring_world.proofs.Fronts.{IsFirstShown, IsRefusedShown, all_first, batch_refused, end_refused, first_only}
 use Rattle.ob_ring_world.specs.Pasts.{GoesOnBehind, OfCall, RingPast, ShownRow, events_of_rows, row_leaves, state_behind}
 use Rattle.ob_ring_world.specs.Runs.{IsOverRing}
-use Rattle.ob_ring_world.specs.Steps.{IsAnsweredBy, IsCutCall, IsPartOf, IsRefusedBy, IsRingCall, IsShownOf, SealsOn, part_left, rows_with}
+use Rattle.ob_ring_world.specs.Steps.{IsAnsweredBy, IsCutCall, IsPartOf, IsRefusedBy, IsRingCall, IsShownBy, IsShownOf, SealsOn, part_left, rows_with}
 
 same_leaves : (p : Params) (batch : ℕ) (call : VaultCall) (f : Fills) → leaves_filled p batch call f ≡ row_leaves p batch (OfCall (shape_of call)) f
 same_leaves p batch (Fetch asks) f = refl
@@ -105,7 +105,7 @@ module _ {V S : Type 0} (k : Kind V) (disk : S → Disk) (runs : V → Running S
 
     pub serving_opens : (c : Image) → (disk (runs v).store).may_leave c → CanOpen keys p word_of slot x c
     serving_opens c left =
-        let l : IsLeftInLife keys p word_of now None (disk (runs v).store) = leaving.at_rest k disk runs over.words counts_now only_now keys most p f (disk (runs first).store) s.public h s.epochs v s.at word_of now s.here lies in
+        let l : IsLeftInLife keys most p word_of now h None [] [] (disk (runs v).store) = leaving.at_rest k disk runs over.words counts_now only_now keys most p f (disk (runs first).store) s.public h s.epochs v s.at word_of now s.here lies [] [] in
         subst (λ (pending : Option LifeAct). CanOpen keys p word_of slot (record x { in_flight = pending }) c) (sym s.idle)
         (record {
           is_life = s.is_life;
@@ -121,10 +121,12 @@ module _ {V S : Type 0} (k : Kind V) (disk : S → Disk) (runs : V → Running S
       pub rows_are : rows_with shown x.rows ≡ rows ++ x.rows
       pub events_are : events_of_rows rows ≡ events
 
+    abbrev none_shown : (call : VaultCall) (events : List Event) → events ≡ [] → FrontShown call events
+    none_shown call events none = record { shown = None; fronts = tt; rows = []; rows_are = refl; events_are = sym none }
+
     -- these events, where these would have come behind
-    front_shown : (call : VaultCall) (events behind : List Event) → IsFirstShown p most word_of now s.public call (events ++ behind) → FrontShown call events
-    front_shown call events behind (inl none) = record { shown = None; fronts = tt; rows = []; rows_are = refl; events_are = sym (front_none events behind none) }
-    front_shown call events behind (inr (fills, c, first_made)) =
+    abbrev some_shown : (call : VaultCall) (events behind : List Event) (fills : Fills) → IsCutInLife p word_of now call fills → AreFirst most (ring_phases p s.public (shape_of call) fills) (events ++ behind) → FrontShown call events
+    some_shown call events behind fills c first_made =
         let row : ShownRow = record { kind = OfCall (shape_of call); public = s.public; fills = fills; lanes = most; events = events; before = x.acts; acts = c.acts } in
         record {
           shown = Some row;
@@ -141,14 +143,25 @@ module _ {V S : Type 0} (k : Kind V) (disk : S → Disk) (runs : V → Running S
           events_are = refl;
         }
 
+    front_shown : (call : VaultCall) (events behind : List Event) → IsFirstShown p most word_of now s.public call (events ++ behind) → FrontShown call events
+    front_shown call events behind (inl none) = none_shown call events (front_none events behind none)
+    front_shown call events behind (inr (fills, c, first_made)) = some_shown call events behind fills c first_made
+
     -- all that a call called its store for, whatever it answered, is the first of its row
     record CallSeen (call : VaultCall) (w : V) : Type 0 where
       pub all : List Event
       pub noted : Notes all (disk (runs v).store).seen (disk (runs w).store).seen
       pub begins : IsFirstShown p most word_of now s.public call all
 
-    whole_shown : (call : VaultCall) (w : V) (c : CallSeen call w) → FrontShown call c.all
-    whole_shown call w c = front_shown call c.all [] (subst (λ (l : List Event). IsFirstShown p most word_of now s.public call l) (sym (append-nil c.all)) c.begins)
+    -- of one that was refused, beside the acts that were made of it
+    record RefusedSeen (call : VaultCall) (w : V) : Type 0 where
+      pub all : List Event
+      pub noted : Notes all (disk (runs v).store).seen (disk (runs w).store).seen
+      pub left : IsLeftInLife keys most p word_of now h (Some call) (runs w).drawn all (disk (runs w).store)
+      pub begins : IsRefusedShown p most word_of now s.public call all left.made
+
+    refused_seen : (call : VaultCall) (w : V) → RefusedSeen call w → CallSeen call w
+    refused_seen call w r = record { all = r.all; noted = r.noted; begins = first_only p most word_of now s.public call r.all r.left.made r.begins }
 
     -- and the first so many of it
     part_shown : (call : VaultCall) (w : V) (n : ℕ) (c : CallSeen call w) → FrontShown call (take n c.all)
@@ -207,10 +220,7 @@ module _ {V S : Type 0} (k : Kind V) (disk : S → Disk) (runs : V → Running S
 
       -- ---- refused
 
-      left_so : IsLeftInLife keys p word_of now (Some call) (disk (runs w).store)
-      left_so = leaving.at_refusal k disk runs over.words counts_now only_now keys most p f (disk (runs first).store) s.public h s.epochs v s.at word_of now s.here lies call answer w one own
-
-      module _ (more : List Event) (r : FrontShown call more) where
+      module _ (more : List Event) (left_so : IsLeftInLife keys most p word_of now h (Some call) (runs w).drawn more (disk (runs w).store)) (r : FrontShown call more) (tied : IsShownBy p word_of slot call left_so.made r.shown) where
         abbrev part : IsPartOf p word_of slot x call
         part = record { made = left_so.made; in_flight = left_so.in_flight; first = left_so.first; is_life = life_goes_on p word_of (formatted_life slot) x.acts left_so.made s.is_life left_so.is_life; shown = r.shown; fronts = r.fronts; seals = seals }
 
@@ -219,7 +229,7 @@ module _ {V S : Type 0} (k : Kind V) (disk : S → Disk) (runs : V → Running S
 
         refused_on : IsRefusedBy p word_of slot x call spent_past × IsSpent w spent_past
         refused_on = (
-          record { part = part; state = refl },
+          record { part = part; shown_by = tied; state = refl },
           record {
             can = λ c left. record {
               is_life = part.is_life;
@@ -321,23 +331,49 @@ module _ {V S : Type 0} (k : Kind V) (disk : S → Disk) (runs : V → Running S
       begins = inr (a.drawn, cut_end p word_of now h s.here writes a.drawn (a.draws).fills (a.draws).all, all_first most (ring_phases p s.public Ends a.drawn) a.seen.events a.seen.dealt);
     }
 
-    refused_batch : (asks : List (Option ℕ)) (w : V) (refused : Fault) (notes : List Note) → AreTapeWords word_of h.generation (runs w).drawn → FetchCalled disk (runs v) (runs w) notes asks (Err refused) → Stopped (Fetch asks) w refused notes → CallSeen (Fetch asks) w
-    refused_batch asks w refused notes tape called stops =
-        let some : length h.records < p.batches = (let left = s.at.left in let one_more = called.some_left in omega (arith, left, one_more)) in
-        record { all = stops.more; noted = stops.seen; begins = batch_shown p most word_of now s.public h s.here (runs w).drawn tape stops.more asks stops.cut.0 refused some stops.cut.1 }
+    module _ (call : VaultCall) (answer : VaultAnswer) (w : V) (one : Called k v call answer w) (tape : AreTapeWords word_of gen (runs w).drawn) (refused : Fault) (stops : Stopped call w refused one.notes) where
+      left_by : IsLeftInLife keys most p word_of now h (Some call) (runs w).drawn stops.more (disk (runs w).store)
+      left_by = leaving.at_refusal k disk runs over.words counts_now only_now keys most p f (disk (runs first).store) s.public h s.epochs v s.at word_of now s.here lies call answer w one (own call answer w one tape) stops.cut.0 refused stops.more stops.cut.1 stops.shown
 
-    refused_end : (writes : List (ℕ × Option (List ℕ))) (w : V) (err : EndErr) (refused : Fault) (notes : List Note) → AreTapeWords word_of h.generation (runs w).drawn
-        → EndCalled disk (runs v) (runs w) notes (map write_from writes) (Err err) → Stopped (End writes) w refused notes → CallSeen (End writes) w
-    refused_end writes w err refused notes tape called stops =
+    refused_batch : (asks : List (Option ℕ)) (answer : VaultAnswer) (w : V) (one : Called k v (Fetch asks) answer w) → AreTapeWords word_of gen (runs w).drawn → (refused : Fault) → FetchCalled disk (runs v) (runs w) one.notes asks (Err refused) → Stopped (Fetch asks) w refused one.notes → RefusedSeen (Fetch asks) w
+    refused_batch asks answer w one tape refused called stops =
+        let some : length h.records < p.batches = (let left = s.at.left in let one_more = called.some_left in omega (arith, left, one_more)) in
+        let l : IsLeftInLife keys most p word_of now h (Some (Fetch asks)) (runs w).drawn stops.more (disk (runs w).store) = left_by (Fetch asks) answer w one tape refused stops in
+        record {
+          all = stops.more;
+          noted = stops.seen;
+          left = l;
+          begins = batch_refused p most word_of now s.public h s.here (runs w).drawn (own (Fetch asks) answer w one tape) stops.more l.made l.is_life asks stops.cut.0 refused some stops.cut.1 (l.shown (Fetch asks) refl);
+        }
+
+    refused_end : (writes : List (ℕ × Option (List ℕ))) (answer : VaultAnswer) (w : V) (one : Called k v (End writes) answer w) → AreTapeWords word_of gen (runs w).drawn → (err : EndErr) (refused : Fault)
+        → EndCalled disk (runs v) (runs w) one.notes (map write_from writes) (Err err) → Stopped (End writes) w refused one.notes → RefusedSeen (End writes) w
+    refused_end writes answer w one tape err refused called stops =
         let all : length h.records ≡ p.batches = (let left = s.at.left in let none = called.none_left in omega (arith, left, none)) in
-        record { all = stops.more; noted = stops.seen; begins = end_shown p most word_of now s.public h s.here (runs w).drawn tape stops.more writes stops.cut.0 refused all stops.cut.1 }
+        let l : IsLeftInLife keys most p word_of now h (Some (End writes)) (runs w).drawn stops.more (disk (runs w).store) = left_by (End writes) answer w one tape refused stops in
+        record {
+          all = stops.more;
+          noted = stops.seen;
+          left = l;
+          begins = end_refused p most word_of now s.public h s.here (runs w).drawn (own (End writes) answer w one tape) stops.more l.made l.is_life writes stops.cut.0 refused all stops.cut.1 (l.shown (End writes) refl);
+        }
+
+    -- by the answer, where that is no refusal there is none
+    refused_fetch : (asks : List (Option ℕ)) (fault : Fault) (w : V) (one : Called k v (Fetch asks) (RefusedBy fault) w) → AreTapeWords word_of gen (runs w).drawn → RefusedSeen (Fetch asks) w
+    refused_fetch asks fault w one tape = refused_batch asks (RefusedBy fault) w one tape fault (over.words.called v (Fetch asks) (RefusedBy fault) one.notes w one.called) (does (Fetch asks) (RefusedBy fault) w one)
+
+    ended_before : (writes : List (ℕ × Option (List ℕ))) (fault : Fault) (w : V) (one : Called k v (End writes) (RefusedBy fault) w) → AreTapeWords word_of gen (runs w).drawn → RefusedSeen (End writes) w
+    ended_before writes fault w one tape = refused_end writes (RefusedBy fault) w one tape (Before fault) fault (over.words.called v (End writes) (RefusedBy fault) one.notes w one.called) (does (End writes) (RefusedBy fault) w one)
+
+    ended_unsure : (writes : List (ℕ × Option (List ℕ))) (fault : Fault) (w : V) (one : Called k v (End writes) (DoubtBy fault) w) → AreTapeWords word_of gen (runs w).drawn → RefusedSeen (End writes) w
+    ended_unsure writes fault w one tape = refused_end writes (DoubtBy fault) w one tape (Unsure fault) fault (over.words.called v (End writes) (DoubtBy fault) one.notes w one.called) (does (End writes) (DoubtBy fault) w one)
 
     seen_of : (call : VaultCall) (answer : VaultAnswer) (w : V) (one : Called k v call answer w) → AreTapeWords word_of gen (runs w).drawn → CallSeen call w
     seen_of (Fetch asks) (Values out) w one tape = seen_batch asks w s.epochs one.notes (own (Fetch asks) (Values out) w one tape) (does (Fetch asks) (Values out) w one)
     seen_of (End writes) Ended w one tape = seen_end writes w (suc s.epochs) one.notes (does (End writes) Ended w one)
-    seen_of (Fetch asks) (RefusedBy fault) w one tape = refused_batch asks w fault one.notes (own (Fetch asks) (RefusedBy fault) w one tape) (over.words.called v (Fetch asks) (RefusedBy fault) one.notes w one.called) (does (Fetch asks) (RefusedBy fault) w one)
-    seen_of (End writes) (RefusedBy fault) w one tape = refused_end writes w (Before fault) fault one.notes (own (End writes) (RefusedBy fault) w one tape) (over.words.called v (End writes) (RefusedBy fault) one.notes w one.called) (does (End writes) (RefusedBy fault) w one)
-    seen_of (End writes) (DoubtBy fault) w one tape = refused_end writes w (Unsure fault) fault one.notes (own (End writes) (DoubtBy fault) w one tape) (over.words.called v (End writes) (DoubtBy fault) one.notes w one.called) (does (End writes) (DoubtBy fault) w one)
+    seen_of (Fetch asks) (RefusedBy fault) w one tape = refused_seen (Fetch asks) w (refused_fetch asks fault w one tape)
+    seen_of (End writes) (RefusedBy fault) w one tape = refused_seen (End writes) w (ended_before writes fault w one tape)
+    seen_of (End writes) (DoubtBy fault) w one tape = refused_seen (End writes) w (ended_unsure writes fault w one tape)
     seen_of (Fetch asks) Ended w one tape = absurd (over.words.called v (Fetch asks) Ended one.notes w one.called)
     seen_of (Fetch asks) (DoubtBy fault) w one tape = absurd (over.words.called v (Fetch asks) (DoubtBy fault) one.notes w one.called)
     seen_of (End writes) (Values out) w one tape = absurd (over.words.called v (End writes) (Values out) one.notes w one.called)
@@ -349,12 +385,17 @@ module _ {V S : Type 0} (k : Kind V) (disk : S → Disk) (runs : V → Running S
 
     -- ---- what comes of it
 
-    refused_next : (call : VaultCall) (answer : VaultAnswer) (w : V) → Called k v call answer w → AreTapeWords word_of gen (runs w).drawn → (y : RingPast) × IsRefusedBy p word_of slot x call y × IsSpent w y × AreRowsSeen v w x y
-    refused_next call answer w one tape =
-        let c : CallSeen call w = seen_of call answer w one tape in
-        let r : FrontShown call c.all = whole_shown call w c in
-        let is = refused_on call answer w one tape c.all r in
-        (spent_past call answer w one tape c.all r, is.0, is.1, record { rows = r.rows; rows_are = r.rows_are; seen = subst (λ (l : List Event). Notes l (disk (runs v).store).seen (disk (runs w).store).seen) (sym r.events_are) c.noted })
+    refused_next : (call : VaultCall) (answer : VaultAnswer) (w : V) → Called k v call answer w → AreTapeWords word_of gen (runs w).drawn → RefusedSeen call w → (y : RingPast) × IsRefusedBy p word_of slot x call y × IsSpent w y × AreRowsSeen v w x y
+    refused_next call answer w one tape c = by_seen c.begins
+      where
+        by_front : (r : FrontShown call c.all) → IsShownBy p word_of slot call c.left.made r.shown → (y : RingPast) × IsRefusedBy p word_of slot x call y × IsSpent w y × AreRowsSeen v w x y
+        by_front r tied =
+            let is = refused_on call answer w one tape c.all c.left r tied in
+            (spent_past call answer w one tape c.all c.left r tied, is.0, is.1, record { rows = r.rows; rows_are = r.rows_are; seen = subst (λ (l : List Event). Notes l (disk (runs v).store).seen (disk (runs w).store).seen) (sym r.events_are) c.noted })
+
+        by_seen : IsRefusedShown p most word_of now s.public call c.all c.left.made → (y : RingPast) × IsRefusedBy p word_of slot x call y × IsSpent w y × AreRowsSeen v w x y
+        by_seen (inl none) = by_front (none_shown call c.all none) tt
+        by_seen (inr (fills, cut, first, tied)) = by_front (some_shown call c.all [] fills cut (subst (λ (l : List Event). AreFirst most (ring_phases p s.public (shape_of call) fills) l) (sym (append-nil c.all)) first)) tied
 
     pub call_on : (call : VaultCall) (answer : VaultAnswer) (w : V) → Called k v call answer w → AreTapeWords word_of gen (runs w).drawn → IsNext call answer w
     call_on (Fetch asks) (Values out) w one tape =
@@ -373,9 +414,9 @@ module _ {V S : Type 0} (k : Kind V) (disk : S → Disk) (runs : V → Running S
         let is = answered_on (End writes) Ended w one tape a.drawn a.behind a.seen.events (suc s.epochs) (ends.acts p word_of now h s.here writes a.drawn a.behind d words) a.seen.dealt a.at (_, _, _, refl)
         (ends.end_life p word_of now h s.here writes a.drawn a.behind d words) (ends.end_then p word_of now h s.here writes a.drawn a.behind d words) (ends.end_filled p word_of now h s.here writes a.drawn a.behind d words) d.generation a.seen.noted in
         (is.0, is.1, inl is.2, is.3)
-    call_on (Fetch asks) (RefusedBy fault) w one tape = let (y, by, spent, rows) = refused_next (Fetch asks) (RefusedBy fault) w one tape in (y, by, inr (λ u. refl, spent), rows)
-    call_on (End writes) (RefusedBy fault) w one tape = let (y, by, spent, rows) = refused_next (End writes) (RefusedBy fault) w one tape in (y, by, inr (λ u. refl, spent), rows)
-    call_on (End writes) (DoubtBy fault) w one tape = let (y, by, spent, rows) = refused_next (End writes) (DoubtBy fault) w one tape in (y, by, inr (λ u. refl, spent), rows)
+    call_on (Fetch asks) (RefusedBy fault) w one tape = let (y, by, spent, rows) = refused_next (Fetch asks) (RefusedBy fault) w one tape (refused_fetch asks fault w one tape) in (y, by, inr (λ u. refl, spent), rows)
+    call_on (End writes) (RefusedBy fault) w one tape = let (y, by, spent, rows) = refused_next (End writes) (RefusedBy fault) w one tape (ended_before writes fault w one tape) in (y, by, inr (λ u. refl, spent), rows)
+    call_on (End writes) (DoubtBy fault) w one tape = let (y, by, spent, rows) = refused_next (End writes) (DoubtBy fault) w one tape (ended_unsure writes fault w one tape) in (y, by, inr (λ u. refl, spent), rows)
     call_on (Fetch asks) Ended w one tape = absurd (over.words.called v (Fetch asks) Ended one.notes w one.called)
     call_on (Fetch asks) (DoubtBy fault) w one tape = absurd (over.words.called v (Fetch asks) (DoubtBy fault) one.notes w one.called)
     call_on (End writes) (Values out) w one tape = absurd (over.words.called v (End writes) (Values out) one.notes w one.called)

@@ -45,7 +45,7 @@ module _ (keys : Keys) (p : Params) (word_of : WordId → ℕ) where
 
     next_stands : (c : Image) → Stands keys p (with_generation st (suc st.generation)) c → StandsInLife keys p word_of (life_step p word_of t opens) c
     next_stands c stands = at_standing keys p word_of (with_generation st (suc st.generation)) (life_step p word_of t opens) c stands here.epoch (ap (λ (n : ℕ). suc n) here.generation)
-        (record { table = (here.life).table; slots = (here.life).slots; book = (here.life).book; kept = (here.life).kept; log = (here.life).log; words = (here.life).words })
+        (record { table = (here.life).table; slots = (here.life).slots; homes = (here.life).homes; book = (here.life).book; kept = (here.life).kept; log = (here.life).log; words = (here.life).words })
 
     by_one : (c : Image) → OneOf keys p st (with_generation st (suc st.generation)) c → StandsInLife keys p word_of t c ⊎ ((a : LifeAct) × (Some opens ≡ Some a) × StandsInLife keys p word_of (life_step p word_of t a) c)
     by_one c (inl was) = inl (same_stands c was)

@@ -11,7 +11,9 @@ use Rattle.ob_seal.specs.declared.keys.Keys.{Keys}
 use Rattle.ob_start.specs.Heads.{head_cell}
 use Rattle.ob_start.specs.Laying.{HasNoHead, IsTornHead}
 use Rattle.ob_recover.specs.Life.{WordId}
-use Rattle.ob_opening.specs.Formats.{RingFormatLeaves, format_words}
+use Rattle.ob_opening.specs.Formats.{RingFormatLeaves, drawn_ranks, format_words}
+use Rattle.ob_opening.specs.OpeningActs.{AreSlotsIn}
+use Rattle.ob_stand.specs.Fresh.{fresh_content}
 use Rattle.ob_vault.specs.Formats.{MakesEmpty, beginning}
 use Rattle.ob_vault.specs.Lives.{RingFormatted}
 use Rattle.ob_vault.specs.RingKind.{ring_kind, ring_version}
@@ -24,17 +26,18 @@ whole_format p = length (events_of (format_notes p))
 
 -- A format that returned begins a world in each image that it may have left; and its row is whole, and is what its store was called for.
 abbrev pub FormatsBeginWorlds : {S : Type 0} → (S → Disk) → Type 0
-FormatsBeginWorlds {S} disk = (keys : Keys) (p : Params) (word_of : WordId → ℕ) (old made : S) (formatted : RingFormatted keys p (disk made)) → (disk old).tells → MakesEmpty ring_kind keys p (disk old) (disk made)
-    → BeginsWorld keys p word_of formatted.0 (left_by_format (disk made) Formats) beginning × IsWholeRow p (format_row p (whole_format p)) × Notes (format_row p (whole_format p)).events (disk old).seen (disk made).seen
+FormatsBeginWorlds {S} disk = (keys : Keys) (p : Params) (drawn : List ℕ) (word_of : WordId → ℕ) (old made : S) (formatted : RingFormatted keys p drawn (disk made)) → (disk old).tells → MakesEmpty ring_kind keys p (disk old) (disk made)
+    → BeginsWorld keys p word_of formatted.slot (left_by_format (disk made) Formats) beginning × IsWholeRow p (format_row p (whole_format p)) × Notes (format_row p (whole_format p)).events (disk old).seen (disk made).seen
 
--- in one life, whatever words the tapes will give, a world begins in this image
-abbrev pub BeginsIn : Keys → Params → Disk → Image → Type 0
-BeginsIn keys p made image = (slot : ℕ → ℕ → ℕ) × ((u : ℕ) → IsRanking (p.real + p.dummies) (slot u)) × ((word_of : WordId → ℕ) → BeginsWorld keys p word_of slot (left_by_format made (FormatsPartly image)) beginning)
+-- In one life, whatever words the tapes will give, a world begins in this image: the slots of a bucket's indexes are the ranks of its words.
+abbrev pub BeginsIn : Keys → Params → (drawn : List ℕ) → Disk → Image → Type 0
+BeginsIn keys p drawn made image = (slot : ℕ → ℕ → ℕ) × ((u : ℕ) → IsRanking (p.real + p.dummies) (slot u)) × AreSlotsIn p (fresh_content p (drawn_ranks p drawn)) slot
+    × ((word_of : WordId → ℕ) → BeginsWorld keys p word_of slot (left_by_format made (FormatsPartly image)) beginning)
 
 -- It is the store before, but for its head; or no store; or, where its head is whole, a new one.
-abbrev pub IsLeftInFormat : Keys → Params → Disk → Image → Type 0
-IsLeftInFormat keys p old image = IsTornHead old image ⊎ HasNoHead image ⊎ (image 0 ≡ head_cell keys ring_version p → BeginsIn keys p old image)
+abbrev pub IsLeftInFormat : Keys → Params → (drawn : List ℕ) → Disk → Image → Type 0
+IsLeftInFormat keys p drawn old image = IsTornHead old image ⊎ HasNoHead image ⊎ (image 0 ≡ head_cell keys ring_version p → BeginsIn keys p drawn old image)
 
 -- So it is of each image that a crash leaves at any moment of a format, which drew a word for each index of each bucket.
 abbrev pub FormatsMomentByMoment : {S : Type 0} → (S → Disk) → Type 0
-FormatsMomentByMoment {S} disk = (keys : Keys) (p : Params) (drawn : List ℕ) (old new : S) → length drawn ≡ format_words p → LeavesOnly (disk old) (disk new) (RingFormatLeaves keys p drawn (disk old)) → LeavesOnly (disk old) (disk new) (IsLeftInFormat keys p (disk old))
+FormatsMomentByMoment {S} disk = (keys : Keys) (p : Params) (drawn : List ℕ) (old new : S) → length drawn ≡ format_words p → LeavesOnly (disk old) (disk new) (RingFormatLeaves keys p drawn (disk old)) → LeavesOnly (disk old) (disk new) (IsLeftInFormat keys p drawn (disk old))

@@ -1,5 +1,5 @@
 -- What each step adds to the past of a ring store: a call, a crash, an opening.
-use Rattle.std.specs.Prelude.{◌≡◌, ◌⊎◌, ℕ, suc, Bool, true, false, List, ◌∷◌, ◌++◌, length, Option, None, Some}
+use Rattle.std.specs.Prelude.{◌≡◌, ◌⊎◌, ℕ, suc, Bool, true, false, List, [], ◌∷◌, ◌++◌, length, Option, None, Some}
 use Rattle.ob_base.specs.declared.params.Params.{Params}
 use Rattle.ob_store.specs.Disk.{Image}
 use Rattle.ob_seal.specs.Sealing.{Sealing}
@@ -10,7 +10,7 @@ use Rattle.ob_recover.specs.Life.{IsLife, LifeAct, WordId, formatted_life}
 use Rattle.ob_pads.specs.Seals.{SealerGoesOn, pads_between}
 use Rattle.ob_opening.specs.OpeningActs.{IsLeftAt}
 use Rattle.ob_vault.specs.Acts.{is_answered}
-use Rattle.ob_vault.specs.Lives.{AreActsOf, AreFirstActs, AreShowing, opening_acts}
+use Rattle.ob_vault.specs.Lives.{AreActsOf, AreFirstActs, AreShowing, IsBarelySeen, opening_acts}
 use Rattle.ob_vault.specs.Shapes.{shape_of}
 use Rattle.ob_ring_world.specs.Pasts.{GoesOnBehind, IsFrontRow, IsRowFilled, IsWholeRow, OfCall, OfOpening, RingPast, ShownRow, state_behind}
 
@@ -70,8 +70,15 @@ module _ (p : Params) (word_of : WordId → ℕ) (slot : ℕ → ℕ → ℕ) wh
     sealer = sealer;
   }
 
+  -- What a refused call has shown is shown by the acts that were made of it; or none was made, and of a batch no more was shown than the first
+  -- steps of its record, which have no hole.
+  abbrev pub IsShownBy : VaultCall → (made : List LifeAct) → Option ShownRow → Type 0
+  IsShownBy call made None = Unit {0}
+  IsShownBy call made (Some row) = ((more : List LifeAct) × (made ≡ row.acts ++ more)) ⊎ ((made ≡ []) × IsBarelySeen row.lanes p (state_behind p word_of slot row.before) call row.events)
+
   pub record IsRefusedBy (past : RingPast) (call : VaultCall) (new : RingPast) : Type 0 where
     pub part : IsPartOf past call
+    pub shown_by : IsShownBy call part.made part.shown
     pub state : new ≡ part_left past call part (Some part.seals.now)
 
   -- a call that was answered, or not

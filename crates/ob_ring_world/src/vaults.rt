@@ -13,5 +13,5 @@ use ob_vault::RingVault;
 /// is of it.
 pub fn ring_vaults_are_over_rings<'a, S: Lanes + 'a, T: Tape + 'a>()
     ensures over { IsOverRing (kind_of ⟦<RingVault<'a, S, T> as Vault>⟧) (λ store. S.disk store)
-        (λ v. running v.lent.store.now (T.drawn v.lent.tape.now) v.crew.lanes v.run) }
+        (λ v. running v.lent.store.now (T.present v.lent.tape.now) (T.drawn v.lent.tape.now) v.crew.lanes v.run) }
 {}
