@@ -29,7 +29,10 @@ use Rattle.ob_schedule.specs.Phases.{Reads}
 use Rattle.ob_vault.specs.Seen.{opening_phases}
 use Rattle.ob_recover.specs.Known.{fills_of, gates_open, public_of_kept}
 use Rattle.ob_recover.specs.Life.{Append, End, IsLife, LifeAct, LifeBatch, LifeState, Open as OpenAct, ShowBatch, ShowLifts, WordId, formatted_life, life_step, reached}
+use Rattle.ob_recover.specs.Finds.{IsFoundOf}
+use Rattle.ob_recover.specs.LifePublic.{public_in}
 use Rattle.ob_recover.specs.Lives.{life_batch}
+use Rattle.ob_vault.proofs.Founding.{found_is_standing}
 use Rattle.ob_schedule.specs.Schedule.{after_open}
 use Rattle.ob_opening.specs.OpeningActs.{IsLeftAt, StandsInLife}
 use Rattle.ob_vault.proofs.OpenedLife.{opened_lives}
@@ -49,7 +52,7 @@ use Rattle.ob_world.specs.Worlds.{WorldEvent, Crash, Open, World, IsWorld, OpenE
 use Rattle.ob_ring_world.proofs.AlongEvents.{Mapped, mapped, other, params_stay, serving}
 use Rattle.ob_ring_world.proofs.InCalls.{CanOpen, IsServing, cut_call, goes_opens}
 use Rattle.ob_ring_world.proofs.InOpenings.{IsFound, found_at, openings_moment_by_moment}
-use Rattle.ob_ring_world.proofs.OpeningRows.{OpeningFront, fills, has_open, log_many, opening_front, opening_labels, opening_life, opening_slots, phases_at, public_at}
+use Rattle.ob_ring_world.proofs.OpeningRows.{OpeningFront, fills, has_open, log_many, public_begun, opening_front, opening_labels, opening_life, opening_slots, phases_at, public_at}
 use Rattle.ob_ring_world.specs.OpeningMoments.{IsLeftInOpening}
 use Rattle.ob_ring_world.specs.Pasts.{IsFrontRow, IsRowFilled, OfOpening, RingPast, ShownRow, events_of_rows, formatted_past, state_behind}
 use Rattle.ob_ring_world.specs.RingCourses.{RingPromises, ring_course}
@@ -165,6 +168,15 @@ module _ {V S : Type 0} (k : Kind V) (disk : S → Disk) (runs : V → Running S
     abbrev past : RingPast
     past = record { acts = before ++ opening_acts t; in_flight = None; rows = row ∷ x.rows; pads = x.pads; sealer = Some ((runs run.first).run).sealer }
 
+    -- what is public where it begins is what is public of the life
+    known_begun : row.public.known ≡ public_in p word_of (life_step p word_of t (OpenAct (f.run.sealer).generation)) (gates_open r.found_in.found.gates)
+    known_begun =
+        let st : RingStanding = here.standing in
+        let same : IsFoundOf st r.found_in.found = found_is_standing keys p st run.image r.found_in.found here.stands r.found_in.found_in in
+        let content : f.content ≡ st.content = sym r.found_in.goes_on.content ∙ same.content in
+        let epoch : f.run.epoch ≡ st.epoch = r.found_in.goes_on.epoch ∙ same.epoch in
+        (λ i. public_of_kept p (content i) [] (epoch i) r.found_in.found.gates) ∙ public_begun keys p word_of t run.image here r.found_in.found.gates (f.run.sealer).generation
+
     epoch_is : t.epoch ≡ run.standing.epoch
     epoch_is =
         let (g, is) = r.stands in
@@ -182,7 +194,7 @@ module _ {V S : Type 0} (k : Kind V) (disk : S → Disk) (runs : V → Running S
       before = refl;
       acts = refl;
       whole = opening_seen.dealt;
-      filled = record { is_life = whole_life; labels = o.labels; slots = o.slots };
+      filled = record { gates = gates_open r.found_in.found.gates; known = known_begun; shown = refl; is_life = whole_life; labels = o.labels; slots = o.slots };
       sealing = ((runs run.first).run).sealer;
       generation = r.at.generation ∙ generation_is;
       none_sealed = r.at.sealed;
@@ -396,6 +408,9 @@ module _ {V S : Type 0} (k : Kind V) (disk : S → Disk) (runs : V → Running S
 
     cut_filled : IsRowFilled p word_of slot cut_row
     cut_filled = record {
+      gates = gates_open front.gates;
+      known = public_begun keys p word_of u (disk old).cells settled_here front.gates (suc standing.generation);
+      shown = refl;
       is_life = life_goes_on p word_of (formatted_life slot) settled (opening_acts u) settled_life (opening_life keys p word_of u (disk old) settled_here);
       labels = opening_labels keys p word_of u (disk old) settled_here;
       slots = opening_slots keys p word_of u (disk old) settled_here;

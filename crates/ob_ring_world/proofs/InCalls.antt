@@ -14,6 +14,12 @@ use Rattle.ob_serial.specs.VaultKinds.{Called, Kind}
 use Rattle.ob_serial.specs.Vaults.{DoubtBy, End, Ended, Fetch, MayStand, RefusedBy, Standing, Values, VaultAnswer, VaultCall, VaultState, vault_next}
 use Rattle.ob_stand.specs.Stands.{StandsRing}
 use Rattle.ob_recover.specs.Life.{Append, IsLife, LifeAct, LifeBatch, LifeState, WordId, formatted_life, reached}
+use Rattle.ob_recover.specs.Known.{gates_open, public_of_kept}
+use Rattle.ob_recover.specs.LifePublic.{public_in}
+use Rattle.ob_recover.specs.Lives.{life_batch}
+use Rattle.ob_vault.proofs.Publics.{public_is}
+use Rattle.std.proofs.lemmas.List.{length-map}
+use Rattle.std.specs.Prelude.{Bool}
 use Rattle.ob_recover.specs.Telling.{AreDealt}
 use Rattle.ob_recover.proofs.Pads.{life_goes_on}
 use Rattle.ob_pads.specs.Seals.{pads_between}
@@ -113,6 +119,21 @@ module _ {V S : Type 0} (k : Kind V) (disk : S → Disk) (runs : V → Running S
           small = (subst (λ (made : List LifeAct). AreBatchesSmall (reached p word_of now made).log) l.first.0 l.small.0, λ b e. absurd (none-some (Append b) e));
         })
 
+    -- what is public of the vault is what is public of the life
+    own_gates : ℕ → Bool
+    own_gates = gates_open ((runs v).run).gates
+
+    known_here : s.public.known ≡ public_in p word_of now own_gates
+    unfolding own_gates
+    known_here = sym s.at.known ∙ ap (λ (e : ℕ). public_of_kept p h.content h.records e ((runs v).run).gates) s.at.epoch_hidden ∙ public_is p word_of now h s.here ((runs v).run).gates
+
+    shown_here : s.public.shown ≡ now.begun
+    shown_here =
+        let many : length now.log ≡ length h.records = ap (λ (log : List LifeBatch). length log) ((s.here).life).log ∙ length-map h.records life_batch in
+        let begun = (s.here).begun in
+        let seen = s.at.shown in
+        omega (arith, many, begun, seen)
+
     -- what was shown of a call that was refused or cut off
     record FrontShown (call : VaultCall) (events : List Event) : Type 0 where
       pub shown : Option ShownRow
@@ -135,7 +156,7 @@ module _ {V S : Type 0} (k : Kind V) (disk : S → Disk) (runs : V → Running S
             refl,
             c.shows,
             (behind, first_made),
-            record { is_life = life_goes_on p word_of (formatted_life slot) x.acts c.acts s.is_life c.is_life; labels = c.filled.labels ∙ same_leaves p (length now.log) call fills; slots = c.filled.slots },
+            record { gates = own_gates; known = known_here; shown = shown_here; is_life = life_goes_on p word_of (formatted_life slot) x.acts c.acts s.is_life c.is_life; labels = c.filled.labels ∙ same_leaves p (length now.log) call fills; slots = c.filled.slots },
             s.rows (shape_of call),
           );
           rows = row ∷ [];
@@ -198,7 +219,7 @@ module _ {V S : Type 0} (k : Kind V) (disk : S → Disk) (runs : V → Running S
                 before = refl;
                 acts = are;
                 whole = dealt;
-                filled = record { is_life = whole; labels = filled.labels ∙ same_leaves p (length now.log) call fills; slots = filled.slots };
+                filled = record { gates = own_gates; known = known_here; shown = shown_here; is_life = whole; labels = filled.labels ∙ same_leaves p (length now.log) call fills; slots = filled.slots };
                 behind = s.rows (shape_of call);
                 seals = seals;
                 state = refl;

@@ -100,7 +100,7 @@ module _ (keys : Keys) (calls : ℕ) where
     before = refl;
     acts = refl;
     whole = as_planned (row_phases two_batches (OfOpening open_gates 2 0) q0 filled);
-    filled = record { is_life = (omega arith, tt); labels = refl; slots = λ x has. absurd has };
+    filled = record { gates = q0.known.gates; known = refl; shown = refl; is_life = (omega arith, tt); labels = refl; slots = λ x has. absurd has };
     sealing = record { keys = keys; generation = 2; next = 0 };
     generation = refl;
     none_sealed = refl;
@@ -126,6 +126,9 @@ module _ (keys : Keys) (calls : ℕ) where
     acts = (first_batch, refl, refl);
     whole = as_planned (row_phases two_batches (OfCall Fetches) q1 filled);
     filled = record {
+      gates = q1.known.gates;
+      known = refl;
+      shown = refl;
       is_life = (omega arith, ((omega arith, refl, omega arith), (omega arith, tt)));
       labels = refl;
       slots = each_fills (life_slots two_batches words (state_behind two_batches words slots (OpenAct 2 ∷ [])) (Append first_batch ∷ ShowBatch ∷ [])) (refl, (refl, (refl, (refl, (refl, (refl, tt))))));
@@ -182,6 +185,9 @@ module _ (keys : Keys) (calls : ℕ) where
           (second_batch, refl, refl),
           is_front,
           record {
+            gates = q2.known.gates;
+            known = refl;
+            shown = refl;
             is_life = (omega arith, ((omega arith, refl, omega arith), (omega arith, ((omega arith, refl, omega arith), (omega arith, tt)))));
             labels = refl;
             slots = each_fills (life_slots two_batches words (state_behind two_batches words slots shown) (Append second_batch ∷ ShowBatch ∷ [])) (refl, (refl, (refl, (refl, (refl, (refl, (refl, tt)))))));
@@ -214,6 +220,9 @@ module _ (keys : Keys) (calls : ℕ) where
       acts = both_again;
       whole = as_planned (row_phases two_batches (OfOpening open_gates 3 2) q0 filled);
       filled = record {
+        gates = q0.known.gates;
+        known = refl;
+        shown = refl;
         is_life = row_is_life;
         labels = refl;
         slots = each_fills (life_slots two_batches words (state_behind two_batches words slots (shown ++ found)) again)

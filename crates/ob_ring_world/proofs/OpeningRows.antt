@@ -1,10 +1,9 @@
 -- What an opening that was refused or cut off had shown is the first of its row, filled as the life would show it.
 use Rattle.std.specs.Prelude.{IsTrue, ◌||◌, drop, take}
 use Rattle.std.specs.List.{flat_map, range_with_len}
-use Rattle.std.proofs.Common.{◌≡◌, ◌⊎◌, inl, inr, ⊎_elim, ℕ, zero, suc, ◌+◌, ◌<◌, ◌≤◌, true, false, Bool, List, [], ◌∷◌, ◌++◌, length, map, refl, sym, ap, subst, ◌∙◌, append_assoc, arith}
+use Rattle.std.proofs.Common.{◌≡◌, ◌⊎◌, inl, inr, ℕ, zero, suc, ◌+◌, ◌<◌, ◌≤◌, true, false, Bool, List, [], ◌∷◌, ◌++◌, length, map, refl, sym, ap, subst, ◌∙◌, append_assoc, arith}
 use Rattle.std.proofs.lemmas.Bool.{false≢true}
-use Rattle.std.proofs.lemmas.List.{append-nil, length-map, map-append, take-append-drop}
-use Rattle.ob_base.proofs.Repeats.{has_cases}
+use Rattle.std.proofs.lemmas.List.{append-nil, length-map, take-append-drop}
 use Rattle.ob_base.specs.Repeats.{Has}
 use Rattle.ob_base.specs.Tree.{below}
 use Rattle.ob_base.specs.declared.fault.Fault.{Fault}
@@ -15,10 +14,10 @@ use Rattle.ob_opening.specs.OpeningActs.{StandsInLife}
 use Rattle.ob_recover.proofs.FindLaws.{number_found}
 use Rattle.ob_recover.proofs.Living.{lives_show_fills}
 use Rattle.ob_recover.proofs.ShownOpening.{openings_are_scheduled}
-use Rattle.ob_recover.specs.Calls.{repeated}
 use Rattle.ob_recover.specs.Finds.{IsFoundInRing, IsFoundOf, finding_notes}
 use Rattle.ob_recover.specs.Known.{fills_of, gates_open, public_of_kept}
-use Rattle.ob_recover.specs.Life.{IsLife, LabelFill, LifeBatch, LifeState, Open, ShowBatch, SlotFill, WordId, leaf_of_word, life_labels, life_slots, life_step, log_slots, phase_labels, phase_slots}
+use Rattle.ob_recover.specs.Life.{IsLife, LifeBatch, LifeState, Open, SlotFill, WordId, leaf_of_word, life_labels, life_slots, life_step}
+use Rattle.ob_recover.specs.LifePublic.{public_in}
 use Rattle.ob_recover.specs.Lives.{LifeShowsFills, life_batch}
 use Rattle.ob_recover.specs.Repeats.{repeat_cells}
 use Rattle.ob_recover.specs.ShownOpenings.{OpeningIsScheduled, began_notes, opened_phases}
@@ -28,6 +27,9 @@ use Rattle.ob_schedule.specs.Phases.{Phase, Reads, open_phases, phases_of, repea
 use Rattle.ob_schedule.specs.Schedule.{Fills, Public, after_phase, batch_leaves, before_repeats, begun_public, phase_notes}
 use Rattle.ob_seal.specs.Sealing.{Sealing}
 use Rattle.ob_seal.specs.declared.keys.Keys.{Keys}
+use Rattle.ob_ring.specs.FlatTable.{FlatTable, reads}
+use Rattle.ob_stand.proofs.Reading.{reads_are_marks}
+use Rattle.ob_stand.specs.Counts.{marks_of}
 use Rattle.ob_stand.specs.Stands.{RingStanding}
 use Rattle.ob_stand.specs.Table.{flat_of}
 use Rattle.ob_start.specs.Orders.{begin_notes, registers_notes}
@@ -43,10 +45,9 @@ use Rattle.ob_twin.specs.Reading.{Counts}
 use Rattle.ob_twin.specs.Register.{IsOpen}
 use Rattle.ob_twin.specs.declared.gates.Gates.{Gates}
 use Rattle.ob_twin.specs.declared.gates.Open.{Open as OpenGates}
-use Rattle.ob_vault.proofs.Batches.{has_phase}
 use Rattle.ob_vault.proofs.Ending.{records_fit_of}
 use Rattle.ob_vault.proofs.Founding.{found_is_standing}
-use Rattle.ob_vault.proofs.OpenedLife.{repeats_live}
+use Rattle.ob_vault.proofs.OpenedLife.{repeats_leaves, repeats_live, repeats_slots}
 use Rattle.ob_vault.specs.Hidden.{AreFirst}
 use Rattle.ob_vault.specs.Lives.{opening_acts}
 use Rattle.ob_vault.specs.RingKind.{IsRingFound, RingFound}
@@ -71,27 +72,6 @@ has_open first image n gates counts are = at_place counts.some.0 counts.some.1 c
     at_place zero low up = left_of gates.zero gates.one (are.zero.1 up)
     at_place (suc zero) low up = right_of gates.zero gates.one (are.one.1 up)
     at_place (suc (suc more)) low up = absurd (omega (arith, low))
-
--- ---- what the life shows in its repeats
-
-module _ (p : Params) (word_of : WordId → ℕ) where
-  abbrev leaf : LabelFill → ℕ
-  leaf l = leaf_of_word p word_of l.word
-
-  repeats_leaves : (f : Fills) (t : LifeState) (n : ℕ) → ((b : ℕ) → b < t.begun + n → map leaf (phase_labels p word_of (t.epoch + 1) 0 (t.content).book t.log b) ≡ batch_leaves p f b)
-      → map leaf (life_labels p word_of t (repeated n)) ≡ flat_map (λ b. batch_leaves p f b) (range_with_len t.begun n)
-  repeats_leaves f t zero each = refl
-  repeats_leaves f t (suc n) each =
-      map-append leaf (phase_labels p word_of (t.epoch + 1) 0 (t.content).book t.log t.begun) (life_labels p word_of (life_step p word_of t ShowBatch) (repeated n))
-      ∙ ap (λ (l : List ℕ). l ++ map leaf (life_labels p word_of (life_step p word_of t ShowBatch) (repeated n))) (each t.begun (omega arith))
-      ∙ ap (λ (l : List ℕ). batch_leaves p f t.begun ++ l) (repeats_leaves f (life_step p word_of t ShowBatch) n (λ b lt. each b (omega (arith, lt))))
-
-  repeats_slots : (t : LifeState) (n : ℕ) (x : SlotFill) → Has (life_slots p word_of t (repeated n)) x → Has (log_slots p word_of (t.epoch + 1) t.content (t.content).table t.log) x
-  repeats_slots t zero x none = absurd none
-  repeats_slots t (suc n) x has = ⊎_elim
-      (λ (now : Has (phase_slots p word_of (t.epoch + 1) t.content (t.content).table t.log t.begun) x). has_phase p word_of (t.epoch + 1) t.content (t.content).table t.log t.begun x now)
-      (λ (later : Has (life_slots p word_of (life_step p word_of t ShowBatch) (repeated n)) x). repeats_slots (life_step p word_of t ShowBatch) n x later)
-      (has_cases (phase_slots p word_of (t.epoch + 1) t.content (t.content).table t.log t.begun) (life_slots p word_of (life_step p word_of t ShowBatch) (repeated n)) x has)
 
 -- ---- fronts of a row of phases
 
@@ -120,6 +100,22 @@ module _ (most : ℕ) (some : 1 ≤ most) where
         ap (λ (l : List Phase). phases_of (before_repeats p q gates generation) ++ l) is ∙ sym (append_assoc (phases_of (before_repeats p q gates generation)) (repeat_phases p (begun_public gates q) f 0 m) rest),
         dealt,
       )
+
+-- ---- what is public where an opening begins
+
+module _ (keys : Keys) (p : Params) (word_of : WordId → ℕ) (s : LifeState) (image : Image) (here : StandsInLife keys p word_of s image) where
+  counts_are : (u : ℕ) → reads p (s.content).table u ≡ marks_of (here.standing).content u
+  counts_are u = ap (λ (t : FlatTable). reads p t u) (here.life).table ∙ reads_are_marks p (here.standing).content u ((here.stands).holds).obeys
+
+  pub public_begun : (gates : Gates) (generation : ℕ) → public_of_kept p (here.standing).content [] (here.standing).epoch gates ≡ public_in p word_of (life_step p word_of s (Open generation)) (gates_open gates)
+  public_begun gates generation i = record {
+    epoch = here.epoch i;
+    homes = λ u. sym ((here.life).homes u) i;
+    counts = λ u. sym (counts_are u) i;
+    counter = sym (ap (λ (t : FlatTable). t.counter) (here.life).table) i;
+    gates = gates_open gates;
+    leaves = [];
+  }
 
 -- ---- the row of an opening of what stands
 

@@ -14,7 +14,10 @@ use Rattle.ob_store.specs.declared.event.Event.TheVariants as event
 use Rattle.ob_store.specs.declared.watch.Note.{Note}
 use Rattle.ob_store.specs.declared.watch.Note.TheVariants as note
 use Rattle.ob_schedule.specs.Phases.{phases_of}
-use Rattle.ob_schedule.specs.Schedule.{format_notes}
+use Rattle.std.specs.List.{count_by}
+use Rattle.ob_recover.specs.LifePublic.{public_in}
+use Rattle.ob_ring.specs.FlatTable.{indexes}
+use Rattle.ob_schedule.specs.Schedule.{format_notes, public_formatted}
 use Rattle.ob_recover.specs.Telling.{AreDealt}
 use Rattle.ob_vault.specs.Hidden.{AreFirst}
 use Rattle.ob_seal.specs.Sealing.{Sealing}
@@ -254,8 +257,16 @@ module _ (keys : Keys) (p : Params) (word_of : WordId → ℕ) (slot : ℕ → �
     ),
   )
 
+  none_read : (xs : List ℕ) → count_by (λ j. false) xs ≡ 0
+  none_read [] = refl
+  none_read (x ∷ xs) = none_read xs
+
+  -- a new store has no reads, and all its buckets lie in their first places
+  format_public : public_formatted p ≡ public_in p word_of (formatted_life slot) (public_formatted p).gates
+  format_public i = record { epoch = 0; homes = λ u. 0; counts = λ u. sym (none_read (indexes p)) i; counter = 0; gates = (public_formatted p).gates; leaves = [] }
+
   pub begins_sound : (calls : ℕ) → IsSoundPast p word_of slot (formatted_past p calls)
-  begins_sound calls = record { is_life = tt; rows = (format_front calls, record { is_life = tt; labels = refl; slots = λ x has. absurd has }, tt, tt); pads = record { apart = tt; earlier = λ x has. absurd has; own = λ s is. absurd (none-some s is); taken = λ s is. absurd (none-some s is) } }
+  begins_sound calls = record { is_life = tt; rows = (format_front calls, record { gates = (public_formatted p).gates; known = format_public; shown = refl; is_life = tt; labels = refl; slots = λ x has. absurd has }, tt, tt); pads = record { apart = tt; earlier = λ x has. absurd has; own = λ s is. absurd (none-some s is); taken = λ s is. absurd (none-some s is) } }
 
 pub ring_headline : RingHeadlineHolds
 ring_headline keys p word_of slot ranked = (begins_sound keys p word_of slot ranked, promises keys p word_of slot ranked, λ kept. headline (ring_course keys p word_of slot kept))

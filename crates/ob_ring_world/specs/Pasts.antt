@@ -9,7 +9,8 @@ use Rattle.ob_store.specs.declared.event.Event.{Event}
 use Rattle.ob_seal.specs.Sealing.{Sealing}
 use Rattle.ob_schedule.specs.Phases.{Phase, open_phases, phases_of}
 use Rattle.ob_schedule.specs.Schedule.{Fills, after_open, batch_leaves, format_notes, public_formatted}
-use Rattle.ob_recover.specs.Life.{HolesAreFresh, IsLife, LifeAct, LifeState, ShowBatch, ShowLifts, SlotFill, WordId, formatted_life, labels_shown, leaf_of_word, life_labels, life_slots, reached, slots_shown}
+use Rattle.ob_recover.specs.LifePublic.{public_in}
+use Rattle.ob_recover.specs.Life.{HolesAreFresh, IsLife, LifeAct, LifeState, Open, ShowBatch, ShowLifts, SlotFill, WordId, formatted_life, labels_shown, leaf_of_word, life_labels, life_slots, life_step, reached, slots_shown}
 use Rattle.ob_recover.specs.Telling.{AreDealt}
 use Rattle.ob_pads.specs.Seals.{Pad}
 use Rattle.ob_vault.specs.Shapes.{Shape, Ends, Fetches}
@@ -107,9 +108,18 @@ module _ (p : Params) (word_of : WordId → ℕ) (slot : ℕ → ℕ → ℕ) wh
   abbrev pub state_behind : List LifeAct → LifeState
   state_behind acts = reached p word_of (formatted_life slot) acts
 
-  -- The life may go on with the row's acts, and these show what fills it: each leaf is the low bits of the word that is shown there, and the
+  -- where the life is at a row: behind these acts, and of an opening behind the generation that it begins
+  abbrev pub state_at : RowKind → (before : List LifeAct) → LifeState
+  state_at OfFormat before = state_behind before
+  state_at (OfOpening gates generation repeats) before = life_step p word_of (state_behind before) (Open generation)
+  state_at (OfCall shape) before = state_behind before
+
+  -- What is public before the row is what is public of the life there, with some register gates known to be open. The life may go on with the row's acts, and these show what fills it: each leaf is the low bits of the word that is shown there, and the
   -- hole of each slot that is shown is filled by it.
   pub record IsRowFilled (row : ShownRow) : Type 0 where
+    pub gates : ℕ → Bool
+    pub known : row.public.known ≡ public_in p word_of (state_at row.kind row.before) gates
+    pub shown : row.public.shown ≡ (state_at row.kind row.before).begun
     pub is_life : IsLife p word_of (formatted_life slot) (row.before ++ row.acts)
     pub labels : map (λ l. leaf_of_word p word_of l.word) (life_labels p word_of (state_behind row.before) row.acts) ≡ row_leaves p (length (state_behind row.before).log) row.kind row.fills
     pub slots : (x : SlotFill) → Has (life_slots p word_of (state_behind row.before) row.acts) x → x.slot ≡ row.fills.slot (record { bucket = x.bucket; number = x.number })
