@@ -33,13 +33,13 @@ use Rattle.ob_vault.proofs.SealCalls.{kept_by}
 use Rattle.ob_vault.proofs.Whole.{reached_join}
 use Rattle.ob_vault.specs.Acts.{AreBatchesSmall, AreTapeWords, IsBatchSmall, IsCallInLife, IsLeftWithin, is_answered}
 use Rattle.ob_vault.specs.Hidden.{AreFirst, IsOfTape, RingHidden}
-use Rattle.ob_vault.specs.Lives.{AreActsOf, IsCutInLife, IsLeftInLife}
+use Rattle.ob_vault.specs.Lives.{IsCutInLife, IsLeftInLife}
 use Rattle.ob_vault.specs.RingKind.{IsRingMap, RingFound, ring_kind}
 use Rattle.ob_vault.specs.RingSteps.{RingAt, RunIsAtHidden}
 use Rattle.ob_vault.specs.RingVaults.{EndCalled, FetchCalled, KeepsRun, Running, write_from}
 use Rattle.ob_vault.specs.Seen.{RingPublic, ring_next, ring_phases}
 use Rattle.ob_vault.specs.Shapes.{Ends, Fetches, Shape, shape_of}
-use Rattle.ob_vault.specs.Shown.{AreFilledBy, IsInLife, leaves_filled}
+use Rattle.ob_vault.specs.Shown.{AreActsOf, AreFilledBy, IsInLife, leaves_filled}
 use Rattle.ob_vault.specs.Steps.{IsAnsweredCall, IsCallOfKind, Stops}
 use Rattle.ob_serial.specs.declared.vault.EndErr.{EndErr}
 use Rattle.ob_serial.specs.declared.vault.EndErr.TheVariants.{Before, Unsure}

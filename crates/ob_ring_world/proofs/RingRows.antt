@@ -8,7 +8,8 @@ use Rattle.ob_serial.specs.Vaults.{Fetch, Standing}
 use Rattle.ob_recover.proofs.FreshLaws.{lives_are_fresh}
 use Rattle.ob_recover.specs.Calls.{Finds}
 use Rattle.ob_recover.specs.Life.{Append, End, HolesAreFresh, IsLife, LabelFill, LifeAct, LifeBatch, Open, ShowBatch, ShowLifts, WordId, formatted_life, leaf_of_word, life_labels, life_slots, SlotFill}
-use Rattle.ob_vault.specs.Lives.{AreActsOf, AreFirstActs, opening_acts}
+use Rattle.ob_vault.specs.Shown.{AreActsOf}
+use Rattle.ob_vault.specs.Lives.{AreFirstActs, opening_acts}
 use Rattle.ob_ring_world.proofs.Sounding.{behind_rises, life_front}
 use Rattle.ob_seal.specs.declared.keys.Keys.{Keys}
 use Rattle.ob_world.specs.Headlines.{Headline}

@@ -10,7 +10,8 @@ use Rattle.ob_recover.specs.Life.{IsLife, LifeAct, WordId, formatted_life}
 use Rattle.ob_pads.specs.Seals.{SealerGoesOn, pads_between}
 use Rattle.ob_opening.specs.OpeningActs.{IsLeftAt}
 use Rattle.ob_vault.specs.Acts.{is_answered}
-use Rattle.ob_vault.specs.Lives.{AreActsOf, AreFirstActs, AreShowing, IsBarelySeen, opening_acts}
+use Rattle.ob_vault.specs.Shown.{AreActsOf}
+use Rattle.ob_vault.specs.Lives.{AreFirstActs, AreShowing, IsBarelySeen, opening_acts}
 use Rattle.ob_vault.specs.Shapes.{shape_of}
 use Rattle.ob_ring_world.specs.Pasts.{GoesOnBehind, IsFrontRow, IsRowFilled, IsWholeRow, OfCall, OfOpening, RingPast, ShownRow, state_behind}
 
