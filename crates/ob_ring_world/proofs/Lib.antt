@@ -6,5 +6,6 @@ pub mod InCalls
 pub mod AlongEvents
 pub mod AlongRuns
 pub mod RingRows
+pub mod RingWanted
 pub mod Formatted
 pub mod OneList
