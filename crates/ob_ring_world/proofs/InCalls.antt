@@ -49,7 +49,7 @@ use Rattle.ob_vault.proofs.Cutting.{cut_batch, cut_end}
 use Rattle.ob_ring_world.proofs.Fronts.{IsFirstShown, IsRefusedShown, all_first, batch_refused, end_refused, first_only}
 use Rattle.ob_ring_world.specs.Pasts.{GoesOnBehind, OfCall, RingPast, ShownRow, events_of_rows, row_leaves, state_behind}
 use Rattle.ob_ring_world.specs.Runs.{IsOverRing}
-use Rattle.ob_ring_world.specs.Steps.{IsAnsweredBy, IsCutCall, IsPartOf, IsRefusedBy, IsRingCall, IsShownBy, IsShownOf, SealsOn, part_left, rows_with}
+use Rattle.ob_ring_world.specs.Steps.{IsAnsweredBy, IsCutCall, IsPartOf, IsRefusedBy, IsRingCall, IsShownInActs, IsShownOf, SealsOn, part_left, rows_with}
 
 same_leaves : (p : Params) (batch : ℕ) (call : VaultCall) (f : Fills) → leaves_filled p batch call f ≡ row_leaves p batch (OfCall (shape_of call)) f
 same_leaves p batch (Fetch asks) f = refl
@@ -241,7 +241,7 @@ module _ {V S : Type 0} (k : Kind V) (disk : S → Disk) (runs : V → Running S
 
       -- ---- refused
 
-      module _ (more : List Event) (left_so : IsLeftInLife keys most p word_of now h (Some call) (runs w).drawn more (disk (runs w).store)) (r : FrontShown call more) (tied : IsShownBy p word_of slot call left_so.made r.shown) where
+      module _ (more : List Event) (left_so : IsLeftInLife keys most p word_of now h (Some call) (runs w).drawn more (disk (runs w).store)) (r : FrontShown call more) (tied : IsShownInActs p word_of slot call left_so.made r.shown) where
         abbrev part : IsPartOf p word_of slot x call
         part = record { made = left_so.made; in_flight = left_so.in_flight; first = left_so.first; is_life = life_goes_on p word_of (formatted_life slot) x.acts left_so.made s.is_life left_so.is_life; shown = r.shown; fronts = r.fronts; seals = seals }
 
@@ -409,7 +409,7 @@ module _ {V S : Type 0} (k : Kind V) (disk : S → Disk) (runs : V → Running S
     refused_next : (call : VaultCall) (answer : VaultAnswer) (w : V) → Called k v call answer w → AreTapeWords word_of gen (runs w).drawn → RefusedSeen call w → (y : RingPast) × IsRefusedBy p word_of slot x call y × IsSpent w y × AreRowsSeen v w x y
     refused_next call answer w one tape c = by_seen c.begins
       where
-        by_front : (r : FrontShown call c.all) → IsShownBy p word_of slot call c.left.made r.shown → (y : RingPast) × IsRefusedBy p word_of slot x call y × IsSpent w y × AreRowsSeen v w x y
+        by_front : (r : FrontShown call c.all) → IsShownInActs p word_of slot call c.left.made r.shown → (y : RingPast) × IsRefusedBy p word_of slot x call y × IsSpent w y × AreRowsSeen v w x y
         by_front r tied =
             let is = refused_on call answer w one tape c.all c.left r tied in
             (spent_past call answer w one tape c.all c.left r tied, is.0, is.1, record { rows = r.rows; rows_are = r.rows_are; seen = subst (λ (l : List Event). Notes l (disk (runs v).store).seen (disk (runs w).store).seen) (sym r.events_are) c.noted })

@@ -73,13 +73,13 @@ module _ (p : Params) (word_of : WordId → ℕ) (slot : ℕ → ℕ → ℕ) wh
 
   -- What a refused call has shown is shown by the acts that were made of it; or none was made, and of a batch no more was shown than the first
   -- steps of its record, which have no hole.
-  abbrev pub IsShownBy : VaultCall → (made : List LifeAct) → Option ShownRow → Type 0
-  IsShownBy call made None = Unit {0}
-  IsShownBy call made (Some row) = ((more : List LifeAct) × (made ≡ row.acts ++ more)) ⊎ ((made ≡ []) × IsBarelySeen row.lanes p (state_behind p word_of slot row.before) call row.events)
+  abbrev pub IsShownInActs : VaultCall → (made : List LifeAct) → Option ShownRow → Type 0
+  IsShownInActs call made None = Unit {0}
+  IsShownInActs call made (Some row) = ((more : List LifeAct) × (made ≡ row.acts ++ more)) ⊎ ((made ≡ []) × IsBarelySeen row.lanes p (state_behind p word_of slot row.before) call row.events)
 
   pub record IsRefusedBy (past : RingPast) (call : VaultCall) (new : RingPast) : Type 0 where
     pub part : IsPartOf past call
-    pub shown_by : IsShownBy call part.made part.shown
+    pub shown_by : IsShownInActs call part.made part.shown
     pub state : new ≡ part_left past call part (Some part.seals.now)
 
   -- a call that was answered, or not
