@@ -21,7 +21,7 @@ use Rattle.ob_ring_world.proofs.RingRows.{two_batches}
 use Rattle.ob_ring_world.specs.OpeningMoments.{IsLeftInOpening}
 use Rattle.ob_ring_world.specs.Pasts.{RingPast, formatted_past}
 use Rattle.ob_ring_world.specs.RingCourses.{RingPromises, ring_course}
-use Rattle.ob_ring_world.specs.Runs.{AreRingPartsFrom, Formats, IsOverRing, RingPart, Stops, events_of_parts, left_by_format}
+use Rattle.ob_ring_world.specs.Runs.{AreRingPartsFrom, BeginsWorld, Formats, IsOverRing, RingPart, Stops, events_of_parts, left_by_format}
 
 -- ---- an image that is no store
 
@@ -110,6 +110,29 @@ pub beginning_is_wanted : (keys : Keys) (word_of : WordId → ℕ) (slot : ℕ �
     × ((last : World RingPast) → IsWorld (ring_course keys two_batches word_of slot kept) (first_world setup [] at_zero 0 (formatted_past two_batches 0)) (events_of_parts refused) last → ⊥)
 beginning_is_wanted keys word_of slot kept = (
   nobody_over,
+  (refl, tt, λ c same k. (λ i. same i k), inl (same_again (Unit {0}) no_store (λ c. c ≡ no_store)), omega arith, inl (Memory, inl (0, omega arith, tt)), refl, tt),
+  λ last run. (let stands : (generation : ℕ) × StandsRing keys two_batches generation no_store run.1.left = run.1.stands in stands_not keys two_batches _ stands.1.stands),
+)
+
+-- from another image than one that was left: the same opening, behind a format that left a store elsewhere
+abbrev pub two_stores : Image → Bool → Disk
+two_stores good true = leaving (Unit {0}) good (λ c. c ≡ good)
+two_stores good false = leaving (Unit {0}) no_store (λ c. c ≡ no_store)
+
+abbrev pub runs_elsewhere : ⊥ → Running Bool
+runs_elsewhere v = absurd v
+
+abbrev pub elsewhere : List (RingPart ⊥ Bool)
+elsewhere = Stops false false 1 0 no_store ∷ []
+
+elsewhere_over : (good : Image) → IsOverRing nobody (two_stores good) runs_elsewhere
+elsewhere_over good = record { words = record { called = λ v. absurd v; holds = λ v. absurd v }; sound = λ v. absurd v; stands = λ v. absurd v; since = λ v. absurd v }
+
+pub left_image_is_wanted : (keys : Keys) (word_of : WordId → ℕ) (slot : ℕ → ℕ → ℕ) (kept : RingPromises keys two_batches word_of slot) (good : Image) → BeginsWorld keys two_batches word_of slot (left_by_format (two_stores good true) Formats) at_zero
+    → IsOverRing nobody (two_stores good) runs_elsewhere × AreRingPartsFrom nobody (two_stores good) runs_elsewhere setup keys word_of (λ c. c ≡ no_store) elsewhere
+    × ((last : World RingPast) → IsWorld (ring_course keys two_batches word_of slot kept) (first_world setup [] at_zero 0 (formatted_past two_batches 0)) (events_of_parts elsewhere) last → ⊥)
+left_image_is_wanted keys word_of slot kept good begins = (
+  elsewhere_over good,
   (refl, tt, λ c same k. (λ i. same i k), inl (same_again (Unit {0}) no_store (λ c. c ≡ no_store)), omega arith, inl (Memory, inl (0, omega arith, tt)), refl, tt),
   λ last run. (let stands : (generation : ℕ) × StandsRing keys two_batches generation no_store run.1.left = run.1.stands in stands_not keys two_batches _ stands.1.stands),
 )
