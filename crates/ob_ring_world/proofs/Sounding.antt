@@ -31,7 +31,7 @@ use Rattle.ob_vault.proofs.Whole.{reached_join}
 use Rattle.ob_vault.specs.Acts.{is_answered}
 use Rattle.ob_vault.specs.Lives.{opening_acts}
 use Rattle.ob_world.proofs.Holding.{headline}
-use Rattle.ob_ring_world.specs.Pasts.{AreHolesFresh, ArePadsApart, AreRowsShown, GoesOnBehind, IsFrontRow, IsRowFilled, IsSoundPast, IsWholeRow, OfOpening, RingPast, RowKind, ShownRow, format_row, formatted_past, row_phases, state_behind}
+use Rattle.ob_ring_world.specs.Pasts.{AreHolesFresh, ArePadsApart, AreRowsShown, BeginsWithFormat, GoesOnBehind, IsFrontRow, IsRowFilled, IsSoundPast, IsWholeRow, OfOpening, RingPast, RowKind, ShownRow, format_row, formatted_past, row_phases, state_behind}
 use Rattle.ob_ring_world.specs.RingCourses.{RingHeadlineHolds, RingPromises, ring_course}
 use Rattle.ob_ring_world.specs.Steps.{IsAnsweredBy, IsCallBy, IsOpenedBy, IsPartOf, IsRingCut, IsShownOf, IsShownOfOpening, SealsOn, part_left, rows_with}
 
@@ -153,6 +153,14 @@ module _ (p : Params) (word_of : WordId → ℕ) (slot : ℕ → ℕ → ℕ) wh
   opening_rows before None rows is shown = shown
   opening_rows before (Some row) rows (gates, kind, first, acts, front, filled) shown = (front, filled, behind_opening rows gates _ _ row kind, shown)
 
+  begins_more : (rows : List ShownRow) (row : ShownRow) → BeginsWithFormat rows → BeginsWithFormat (row ∷ rows)
+  begins_more [] row none = absurd none
+  begins_more (last ∷ rows) row begins = begins
+
+  begins_with : (shown : Option ShownRow) (rows : List ShownRow) → BeginsWithFormat rows → BeginsWithFormat (rows_with shown rows)
+  begins_with None rows begins = begins
+  begins_with (Some row) rows begins = begins_more rows row begins
+
   -- ---- each step
 
   answered_sound : (past : RingPast) (call : VaultCall) (new : RingPast) → IsAnsweredBy p word_of slot past call new → IsSoundPast p word_of slot past → IsSoundPast p word_of slot new
@@ -161,6 +169,7 @@ module _ (p : Params) (word_of : WordId → ℕ) (slot : ℕ → ℕ → ℕ) wh
       subst (IsSoundPast p word_of slot) (sym s.state) (record {
         is_life = life;
         rows = (front_of_whole s.row s.whole, s.filled, s.behind, h.rows);
+        begins = begins_more past.rows s.row h.begins;
         pads = pads_on past (record { acts = past.acts ++ s.row.acts; in_flight = None; rows = s.row ∷ past.rows; pads = past.pads ++ pads_between (Some s.seals.was) s.seals.now; sealer = Some s.seals.now }) s.seals h.pads refl
             (behind_rises past.acts s.row.acts life) (λ x is. sym (same_Some s.seals.now x is));
       })
@@ -169,6 +178,7 @@ module _ (p : Params) (word_of : WordId → ℕ) (slot : ℕ → ℕ → ℕ) wh
   part_sound past call part sealer same h = record {
     is_life = part.is_life;
     rows = call_rows past call part.shown part.fronts h.rows;
+    begins = begins_with part.shown past.rows h.begins;
     pads = pads_on past (part_left p word_of slot past call part sealer) part.seals h.pads refl (behind_rises past.acts part.made part.is_life) same;
   }
 
@@ -188,6 +198,7 @@ module _ (p : Params) (word_of : WordId → ℕ) (slot : ℕ → ℕ → ℕ) wh
       subst (IsSoundPast p word_of slot) (sym s.state) (record {
         is_life = life;
         rows = (front_of_whole s.row s.whole, s.filled, behind_opening past.rows s.gates _ _ s.row s.kind, h.rows);
+        begins = begins_more past.rows s.row h.begins;
         pads = record {
           apart = h.pads.apart;
           earlier = λ x has. let e = h.pads.earlier x has in omega (arith, e, found, there);
@@ -201,13 +212,14 @@ module _ (p : Params) (word_of : WordId → ℕ) (slot : ℕ → ℕ → ℕ) wh
 
   module _ (keys : Keys) where
     cut_sound : (past : RingPast) (inside : Option VaultCall) (image : Image) (new : RingPast) → IsRingCut p word_of slot keys past inside image new → IsSoundPast p word_of slot past → IsSoundPast p word_of slot new
-    cut_sound past None image new (inl s) h = subst (IsSoundPast p word_of slot) (sym s.state) (record { is_life = h.is_life; rows = h.rows; pads = pads_stay past (record past { sealer = None }) h.pads refl refl (omega arith) })
+    cut_sound past None image new (inl s) h = subst (IsSoundPast p word_of slot) (sym s.state) (record { is_life = h.is_life; rows = h.rows; begins = h.begins; pads = pads_stay past (record past { sealer = None }) h.pads refl refl (omega arith) })
     cut_sound past None image new (inr s) h =
         let there = behind_rises (past.acts ++ s.found) s.made s.is_life in
         let found = behind_rises past.acts s.found (life_front p word_of (formatted_life slot) (past.acts ++ s.found) s.made s.is_life) in
         subst (IsSoundPast p word_of slot) (sym s.state) (record {
           is_life = s.is_life;
           rows = opening_rows (past.acts ++ s.found) s.shown past.rows s.fronts h.rows;
+          begins = begins_with s.shown past.rows h.begins;
           pads = pads_stay past (record { acts = (past.acts ++ s.found) ++ s.made; in_flight = s.in_flight; rows = rows_with s.shown past.rows; pads = past.pads; sealer = None }) h.pads refl refl (omega (arith, there, found));
         })
     cut_sound past (Some call) image new s h = subst (IsSoundPast p word_of slot) (sym s.state) (part_sound past call s.part None (λ x is. absurd (none-some x is)) h)
@@ -240,7 +252,7 @@ module _ (keys : Keys) (p : Params) (word_of : WordId → ℕ) (slot : ℕ → �
     called = λ old call answer new step sound. called_sound p word_of slot (is_answered answer) old call new step sound;
     cut = cut_sound p word_of slot keys;
     opened = opened_sound p word_of slot;
-    public = λ past sound. sound.rows;
+    public = λ past sound. (sound.rows, sound.begins);
     fresh = fresh_past p word_of slot (let some = p.in_range.some_dummies in omega (arith, some)) ranked;
     pads_once = λ past sound. sound.pads.apart;
   }
@@ -266,7 +278,7 @@ module _ (keys : Keys) (p : Params) (word_of : WordId → ℕ) (slot : ℕ → �
   format_public i = record { epoch = 0; homes = λ u. 0; counts = λ u. sym (none_read (indexes p)) i; counter = 0; gates = (public_formatted p).gates; leaves = [] }
 
   pub begins_sound : (calls : ℕ) → IsSoundPast p word_of slot (formatted_past p calls)
-  begins_sound calls = record { is_life = tt; rows = (format_front calls, record { gates = (public_formatted p).gates; known = format_public; shown = refl; is_life = tt; labels = refl; slots = λ x has. absurd has }, tt, tt); pads = record { apart = tt; earlier = λ x has. absurd has; own = λ s is. absurd (none-some s is); taken = λ s is. absurd (none-some s is) } }
+  begins_sound calls = record { is_life = tt; rows = (format_front calls, record { gates = (public_formatted p).gates; known = format_public; shown = refl; is_life = tt; labels = refl; slots = λ x has. absurd has }, tt, tt); begins = refl; pads = record { apart = tt; earlier = λ x has. absurd has; own = λ s is. absurd (none-some s is); taken = λ s is. absurd (none-some s is) } }
 
 pub ring_headline : RingHeadlineHolds
 ring_headline keys p word_of slot ranked = (begins_sound keys p word_of slot ranked, promises keys p word_of slot ranked, λ kept. headline (ring_course keys p word_of slot kept))

@@ -63,13 +63,19 @@ IsWholeRow p row = AreDealt row.lanes (row_phases p row.kind row.public row.fill
 abbrev pub IsFrontRow : Params → ShownRow → Type 0
 IsFrontRow p row = (behind : List Event) × AreFirst row.lanes (row_phases p row.kind row.public row.fills) (row.events ++ behind)
 
--- The format's row is the oldest. A call's comes behind a whole one, and goes on from what is public behind that. The newest row is the first.
+-- A format's row comes behind none. A call's comes behind a whole one, and goes on from what is public behind that. The newest row is the first.
 abbrev pub GoesOnBehind : Params → List ShownRow → RowKind → RingPublic → Type 0
 GoesOnBehind p [] OfFormat q = Unit {0}
 GoesOnBehind p (last ∷ rows) OfFormat q = ⊥
 GoesOnBehind p rows (OfOpening gates generation repeats) q = Unit {0}
 GoesOnBehind p [] (OfCall shape) q = ⊥
 GoesOnBehind p (last ∷ rows) (OfCall shape) q = IsWholeRow p last × (q ≡ row_next p last.kind last.public last.fills)
+
+-- the oldest row is the format's
+abbrev pub BeginsWithFormat : List ShownRow → Type 0
+BeginsWithFormat [] = ⊥
+BeginsWithFormat (row ∷ []) = row.kind ≡ OfFormat
+BeginsWithFormat (row ∷ last ∷ rows) = BeginsWithFormat (last ∷ rows)
 
 -- all that the store was called for, in order
 abbrev pub events_of_rows : List ShownRow → List Event
@@ -114,8 +120,9 @@ module _ (p : Params) (word_of : WordId → ℕ) (slot : ℕ → ℕ → ℕ) wh
   state_at (OfOpening gates generation repeats) before = life_step p word_of (state_behind before) (Open generation)
   state_at (OfCall shape) before = state_behind before
 
-  -- What is public before the row is what is public of the life there, with some register gates known to be open. The life may go on with the row's acts, and these show what fills it: each leaf is the low bits of the word that is shown there, and the
-  -- hole of each slot that is shown is filled by it.
+  -- What is public before the row is what is public of the life there, with some register gates known to be open. The life may go on with the
+  -- row's acts, and these show what fills it: each leaf is the low bits of the word that is shown there, and the hole of each slot that is shown
+  -- is filled by it.
   pub record IsRowFilled (row : ShownRow) : Type 0 where
     pub gates : ℕ → Bool
     pub known : row.public.known ≡ public_in p word_of (state_at row.kind row.before) gates
@@ -152,4 +159,5 @@ module _ (p : Params) (word_of : WordId → ℕ) (slot : ℕ → ℕ → ℕ) wh
   pub record IsSoundPast (past : RingPast) : Type 0 where
     pub is_life : IsLife p word_of (formatted_life slot) past.acts
     pub rows : AreRowsShown past.rows
+    pub begins : BeginsWithFormat past.rows
     pub pads : ArePadsApart past

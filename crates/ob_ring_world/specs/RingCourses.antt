@@ -10,17 +10,17 @@ use Rattle.ob_stand.specs.Stands.{StandsRing}
 use Rattle.ob_recover.specs.Life.{WordId}
 use Rattle.ob_world.specs.Courses.{Course}
 use Rattle.ob_world.specs.Headlines.{HeadlineHolds}
-use Rattle.ob_ring_world.specs.Pasts.{AreHolesFresh, AreRowsShown, IsSoundPast, RingPast, formatted_past}
+use Rattle.ob_ring_world.specs.Pasts.{AreHolesFresh, AreRowsShown, BeginsWithFormat, IsSoundPast, RingPast, formatted_past}
 use Rattle.ob_ring_world.specs.Steps.{IsOpenedBy, IsRingCall, IsRingCut}
 
 module _ (keys : Keys) (p : Params) (word_of : WordId → ℕ) (slot : ℕ → ℕ → ℕ) where
-  -- A past that began well goes on so. Then its rows are the public schedule's, filled by the life; each hole was filled once; and no pad was
+  -- A past that began well goes on so. Then its rows are the public schedule's, the format's the oldest, filled by the life; each hole was filled once; and no pad was
   -- used twice.
   pub record RingPromises : Type 0 where
     pub called : (old : RingPast) (call : VaultCall) (answer : VaultAnswer) (new : RingPast) → IsRingCall p word_of slot old call answer new → IsSoundPast p word_of slot old → IsSoundPast p word_of slot new
     pub cut : (old : RingPast) (inside : Option VaultCall) (image : Image) (new : RingPast) → IsRingCut p word_of slot keys old inside image new → IsSoundPast p word_of slot old → IsSoundPast p word_of slot new
     pub opened : (old : RingPast) (found : Standing) (new : RingPast) → IsOpenedBy p word_of slot old found new → IsSoundPast p word_of slot old → IsSoundPast p word_of slot new
-    pub public : (past : RingPast) → IsSoundPast p word_of slot past → AreRowsShown p word_of slot past.rows
+    pub public : (past : RingPast) → IsSoundPast p word_of slot past → AreRowsShown p word_of slot past.rows × BeginsWithFormat past.rows
     pub fresh : (past : RingPast) → IsSoundPast p word_of slot past → AreHolesFresh p word_of slot past
     pub pads_once : (past : RingPast) → IsSoundPast p word_of slot past → NoRepeats past.pads
 
@@ -36,7 +36,7 @@ module _ (keys : Keys) (p : Params) (word_of : WordId → ℕ) (slot : ℕ → �
     goes_on_called = kept.called;
     goes_on_cut = kept.cut;
     goes_on_opened = kept.opened;
-    IsPublic = λ past. AreRowsShown p word_of slot past.rows;
+    IsPublic = λ past. AreRowsShown p word_of slot past.rows × BeginsWithFormat past.rows;
     IsFresh = AreHolesFresh p word_of slot;
     ArePadsOnce = λ past. NoRepeats past.pads;
     public = kept.public;
