@@ -56,7 +56,8 @@ use Rattle.ob_ring_world.proofs.OpeningRows.{OpeningFront, fills, has_open, log_
 use Rattle.ob_ring_world.specs.OpeningMoments.{IsLeftInOpening}
 use Rattle.ob_ring_world.specs.Pasts.{IsFrontRow, IsRowFilled, OfOpening, RingPast, ShownRow, events_of_rows, formatted_past, state_behind}
 use Rattle.ob_ring_world.specs.RingCourses.{RingPromises, ring_course}
-use Rattle.ob_ring_world.specs.Runs.{AreRingPartsFrom, AreRowsOf, BeginsWorld, Crashes, CrashesIn, IsEndOfRun, IsOverRing, IsRingRun, IsSeenOpening, IsShownAtEnd, OpensOrRefuses, left_by_format, Returns, RingPart, RingRun, RingRunsAreWorlds, RunEnd, Runs, Serves, Stops, end_leaves, events_of_end, events_of_parts}
+use Rattle.ob_ring_world.specs.Runs.{AreRingPartsFrom, AreRowsOf, BeginsWorld, Crashes, CrashesIn, IsEndOfRun, IsOverRing, IsRingRun, IsSeenOpening, IsShownAtEnd, OpensOrRefuses}
+use Rattle.ob_ring_world.specs.Runs.{left_by_format, Returns, RingPart, RingRun, RingRunsAreWorlds, RunEnd, Runs, Serves, Stops, end_leaves, events_of_end, events_of_parts}
 use Rattle.ob_ring_world.specs.Steps.{IsCutOpening, IsOpenedBy}
 
 open_append : (g : ℕ) (b : LifeBatch) → ◌≡◌ {A = Option LifeAct} (Some (OpenAct g)) (Some (Append b)) → ⊥

@@ -356,7 +356,8 @@ module _ {V S : Type 0} (k : Kind V) (disk : S → Disk) (runs : V → Running S
       left_by : IsLeftInLife keys most p word_of now h (Some call) (runs w).drawn stops.more (disk (runs w).store)
       left_by = leaving.at_refusal k disk runs over.words counts_now only_now keys most p f (disk (runs first).store) s.public h s.epochs v s.at word_of now s.here lies call answer w one (own call answer w one tape) stops.cut.0 refused stops.more stops.cut.1 stops.shown
 
-    refused_batch : (asks : List (Option ℕ)) (answer : VaultAnswer) (w : V) (one : Called k v (Fetch asks) answer w) → AreTapeWords word_of gen (runs w).drawn → (refused : Fault) → FetchCalled disk (runs v) (runs w) one.notes asks (Err refused) → Stopped (Fetch asks) w refused one.notes → RefusedSeen (Fetch asks) w
+    refused_batch : (asks : List (Option ℕ)) (answer : VaultAnswer) (w : V) (one : Called k v (Fetch asks) answer w)
+        → AreTapeWords word_of gen (runs w).drawn → (refused : Fault) → FetchCalled disk (runs v) (runs w) one.notes asks (Err refused) → Stopped (Fetch asks) w refused one.notes → RefusedSeen (Fetch asks) w
     refused_batch asks answer w one tape refused called stops =
         let some : length h.records < p.batches = (let left = s.at.left in let one_more = called.some_left in omega (arith, left, one_more)) in
         let l : IsLeftInLife keys most p word_of now h (Some (Fetch asks)) (runs w).drawn stops.more (disk (runs w).store) = left_by (Fetch asks) answer w one tape refused stops in

@@ -278,7 +278,12 @@ module _ (keys : Keys) (p : Params) (word_of : WordId → ℕ) (slot : ℕ → �
   format_public i = record { epoch = 0; homes = λ u. 0; counts = λ u. sym (none_read (indexes p)) i; counter = 0; gates = (public_formatted p).gates; leaves = [] }
 
   pub begins_sound : (calls : ℕ) → IsSoundPast p word_of slot (formatted_past p calls)
-  begins_sound calls = record { is_life = tt; rows = (format_front calls, record { gates = (public_formatted p).gates; known = format_public; shown = refl; is_life = tt; labels = refl; slots = λ x has. absurd has }, tt, tt); begins = refl; pads = record { apart = tt; earlier = λ x has. absurd has; own = λ s is. absurd (none-some s is); taken = λ s is. absurd (none-some s is) } }
+  begins_sound calls = record {
+    is_life = tt;
+    rows = (format_front calls, record { gates = (public_formatted p).gates; known = format_public; shown = refl; is_life = tt; labels = refl; slots = λ x has. absurd has }, tt, tt);
+    begins = refl;
+    pads = record { apart = tt; earlier = λ x has. absurd has; own = λ s is. absurd (none-some s is); taken = λ s is. absurd (none-some s is) };
+  }
 
 pub ring_headline : RingHeadlineHolds
 ring_headline keys p word_of slot ranked = (begins_sound keys p word_of slot ranked, promises keys p word_of slot ranked, λ kept. headline (ring_course keys p word_of slot kept))
