@@ -125,4 +125,5 @@ pub returns-in-Err-copied-clause-cause : goal.returns-in-Err-copied-clause-cause
 returns-in-Err-copied-clause-cause g c =
     let made = c.in-Ok.ensures in
     let back = c.absorb.ensures in
-    copy_cause (g.A.Store.disk c.args.first.now).faults (g.A.Store.disk c.lane.new.self).faults (g.A.Store.disk c.absorb.new.self).faults (g.A.Store.lane_faults c.in-Ok.lane) (g.A.Store.lane_faults c.copy_cells-copied.new.lane) _ made.goes.faults made.fresh back.goes.faults back.faults c.in-Err-copied.ensures.cause
+    let disk = g.A.Store.disk in
+    copy_cause (disk c.args.first.now).faults (disk c.lane.new.self).faults (disk c.absorb.new.self).faults (g.A.Store.lane_faults c.in-Ok.lane) (g.A.Store.lane_faults c.copy_cells-copied.new.lane) _ made.goes.faults made.fresh back.goes.faults back.faults c.in-Err-copied.ensures.cause
