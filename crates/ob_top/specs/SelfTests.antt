@@ -55,14 +55,13 @@ module _ {S : Type 0} (disk : S → Disk) (beat : BeatKind) (keys : Keys) (p : P
     pub committed : IsPatient beat → AllCommitted n served.records
     pub read : IsReadBehind found (calls served.is_served.served.acts) old new
 
--- An empty store of the self-test's parameters was made, and opened at its first epoch, with no key; then that was done.
-pub record IsDrilled {S : Type 0} (disk : S → Disk) (beat : BeatKind) (n : ℕ) (old new : S) : Type 0 where
+-- An empty store of the self-test's parameters was made, with the words that this tape gave, and opened at its first epoch, with no key; then
+-- that was done.
+pub record IsDrilled {S : Type 0} (disk : S → Disk) (beat : BeatKind) (n : ℕ) (tape : Given) (old new : S) : Type 0 where
   pub keys : Keys
   pub p : Params
   pub numbers : numbers_of p ≡ drill_numbers
   pub made : S
-  -- what the tape of the format has given
-  pub tape : Given
   pub formatted : IsFormatted ring_kind ring_lives disk tape keys p old made
   pub opened : S
   pub found : RingFound

@@ -18,7 +18,7 @@ ghost use Rattle.ob_outcomes.specs.Served.{IsPatient};
 ghost use Rattle.ob_top.specs.Begun.{MayServe};
 ghost use Rattle.ob_io.specs.Streams.{Flow, outflow};
 ghost use Rattle.ob_top.specs.Drills.{drill_numbers, drill_digest, DrillDone};
-ghost use Rattle.ob_top.specs.Outside.{outside};
+ghost use Rattle.ob_top.specs.Outside.{outside, words_given};
 ghost use Rattle.ob_top.specs.Drilling.{IsOpenedEmpty, OpensEmpty, IsWant, HasDrilled, DrillFails};
 ghost use Rattle.ob_top.specs.SelfTests.{IsDrilled, IsServedAndRead};
 
@@ -233,7 +233,7 @@ pub fn drill_on<R: AllocGlobal + Threads + Wait + Sync, S: Lanes, T: Tape, B: Be
     // An empty store was made, opened, served and read. Each transaction is committed, in an epoch
     // of its own, as the records of its run tell; and the map is what they come to.
     ensures drilled { IfOk result (λ d. IsDrilled S.disk (beat_kind B.passes B.exact) count
-        store.old store.new) }
+        (words_given (T.present made.new) (T.drawn made.new)) store.old store.new) }
     ensures epochs { IsPatient (beat_kind B.passes B.exact)
         → IfOk result (λ d. d.epochs ≡ count) }
     ensures digest { IsPatient (beat_kind B.passes B.exact)

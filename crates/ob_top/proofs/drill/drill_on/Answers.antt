@@ -6,7 +6,6 @@ use Rattle.std.proofs.lemmas.Result.{IfErr-weaker, IfOk-weaker}
 use Rattle.ob_store.proofs.Serving.{goes_then}
 use Rattle.ob_desk.specs.Beats.{beat_kind}
 use Rattle.ob_vault.proofs.Formatted.{formats}
-use Rattle.ob_top.specs.Outside.{words_given}
 use Rattle.ob_top.specs.SelfTests.{IsServedAndRead}
 use Rattle.ob_top.proofs.Beginnings.{formatted}
 use Rattle.ob_top.proofs.SelfTest.{format_want, later_want, ready_as}
@@ -90,7 +89,6 @@ returns-clause-drilled g c =
       p = p;
       numbers = c.drill_params-params.ensures;
       made = c.format.new.store;
-      tape = words_given (g.T.Tape.present c.format.new.tape) (g.T.Tape.drawn c.format.new.tape);
       formatted = formatted (λ s. g.S.Store.disk s) keys p (g.T.Tape.present c.format.new.tape) (g.T.Tape.drawn c.format.new.tape) c.args.store.now c.format.new.store e.does.all.seen e.stands e.images e.durable e.closed e.act e.drawn
           (λ tells. formats p (g.T.Tape.drawn c.format.new.tape) e.drawn.1 keys (g.S.Store.disk c.format.new.store) (e.life tells)) e.serves.tells;
       opened = c.ready.new.store;
