@@ -71,8 +71,8 @@ fn left_after<R: AllocGlobal + Abort>(
     store.crash(moment, &fillings).expect(rt, "memory")
 }
 
-// Audits the lines before a crash, and behind them those of the next run, which finds what the crash
-// left at this moment.
+// Audits the lines before a crash, and behind them those of the next run, which finds what the
+// crash left at this moment.
 fn expect_behind<R: AllocGlobal + Threads + Wait + Sync + Abort>(
     rt: &R,
     ran: &MemStore,
@@ -101,8 +101,8 @@ fn expect_behind<R: AllocGlobal + Threads + Wait + Sync + Abort>(
 }
 
 // Each moment of a run of one epoch, in which each write and sync is one more, and what the cells
-// get that aren't sure. Only where the generation's gate was written and not synced, and stayed, the
-// next run begins as no trace may.
+// get that aren't sure. Only where the generation's gate was written and not synced, and stayed,
+// the next run begins as no trace may.
 #[test]
 fn traces_in_a_row_fit_behind_a_crash(rt: HostRuntime) {
     let made = formatted(&rt, &[]);

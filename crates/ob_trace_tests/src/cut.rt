@@ -94,7 +94,7 @@ fn expect_cut<R: AllocGlobal + Threads + Wait + Sync + Abort>(
 // Rooms at which what a run does changes, and those before.
 static EDGES: [usize; 11] = [0, 5, 6, 126, 127, 178, 179, 245, 246, 473, 474];
 
-// Runs of one epoch with each room for the trace, each in the next way; and at the edges in all ways.
+// Runs of one epoch with each room for the trace, each in the next way; at the edges in all ways.
 fn expect_all_cut<R: AllocGlobal + Threads + Wait + Sync + Abort>(
     rt: &R,
     script: &str,

@@ -123,8 +123,7 @@ fn the_head_stands_in_the_trace_of_a_refused_run(rt: HostRuntime) {
 }
 
 // Calls that fail behind a format of 62 writes and 10 syncs, how many lines of an epoch's the trace
-// then has, the last of them, and whether the epoch is in doubt. The sixth lane is the first batch's
-// first.
+// then has, the last of them, and whether the epoch is in doubt. Lane 5 is the first batch's first.
 static FAILS: [(Fail, usize, &str, bool); 7] = [
     (Fail::Sync(19), 103, "W 8", true),
     (Fail::Sync(10), 25, "R 16", false),
