@@ -30,27 +30,27 @@ module _ {S W : Type 0} (disk : S → Disk) (text : Bor (List ℕ)) (old new : S
 
   abbrev FormatTells : Given → List (List ℕ) → Type 0
   FormatTells tape numbers = Tell Memory ⊎ (((field : Field) × IsBadNumber numbers field × Tell (BadParams field))
-      ⊎ ((p : Params) × AreParams numbers p × (KeysTell ⊎ ((keys : Keys) × HasKeys (Some text) keys × (is ≡ was) × FormatDone ring_kind ring_lives disk tape keys p old new before after blind blind status))))
+      ⊎ ((p : Params) × AreParams numbers p × (KeysTell ⊎ ((keys : Keys) × HasKeys (Some text) keys × ((is ≡ was) × FormatDone ring_kind ring_lives disk tape keys p old new before after blind blind status)))))
 
   abbrev RunTells : BeatKind → Given → Option (List ℕ) → Bool → Type 0
   RunTells beat tape lanes turns = Tell Memory ⊎ ((AreBadLanes lanes × Tell (BadParams LANES))
-      ⊎ ((k : ℕ) × AreLanes lanes k × (KeysTell ⊎ ((keys : Keys) × HasKeys (Some text) keys × (is ≡ was) × RunDone ring_kind ring_lives disk (manner beat (not turns) k) tape keys old new before after blind blind status))))
+      ⊎ ((k : ℕ) × AreLanes lanes k × (KeysTell ⊎ ((keys : Keys) × HasKeys (Some text) keys × ((is ≡ was) × RunDone ring_kind ring_lives disk (manner beat (not turns) k) tape keys old new before after blind blind status)))))
 
   no_keys : (A : Type 0) → KeysTell → status ≡ 0 → A
-  no_keys A (f, (refused, none), (kept, told)) zero = let two : status ≡ 2 = told.status_is ∙ ap fault_status is in absurd (omega (arith, two, zero))
+  no_keys A (f, (refused, none), (kept, told)) zero = let two : status ≡ 2 = told.status_is ∙ ap fault_status refused in absurd (omega (arith, two, zero))
 
   pub made : (tape : Given) (numbers : List (List ℕ)) → FormatTells tape numbers → status ≡ 0 → HasFormatted disk text.now tape old new
   made tape numbers (inl (kept, told)) zero = absurd (omega (arith, told.status_is, zero))
   made tape numbers (inr (inl (field, bad, (kept, told)))) zero = absurd (omega (arith, told.status_is, zero))
   made tape numbers (inr (inr (p, are, inl refused))) zero = no_keys (HasFormatted disk text.now tape old new) refused zero
-  made tape numbers (inr (inr (p, are, inr (keys, has, untraced, done)))) zero =
+  made tape numbers (inr (inr (p, are, inr (keys, has, (untraced, done))))) zero =
       record { keys = keys; are = has; p = p; before = before; after = after; done = subst (λ n. FormatDone ring_kind ring_lives disk tape keys p old new before after blind blind n) zero done }
 
   pub ran : (beat : BeatKind) (tape : Given) (lanes : Option (List ℕ)) (turns : Bool) → RunTells beat tape lanes turns → status ≡ 0 → HasRun disk text.now tape old new
   ran beat tape lanes turns (inl (kept, told)) zero = absurd (omega (arith, told.status_is, zero))
   ran beat tape lanes turns (inr (inl (bad, (kept, told)))) zero = absurd (omega (arith, told.status_is, zero))
   ran beat tape lanes turns (inr (inr (k, are, inl refused))) zero = no_keys (HasRun disk text.now tape old new) refused zero
-  ran beat tape lanes turns (inr (inr (k, are, inr (keys, has, untraced, done)))) zero = record {
+  ran beat tape lanes turns (inr (inr (k, are, inr (keys, has, (untraced, done))))) zero = record {
     keys = keys;
     are = has;
     by = manner beat (not turns) k;

@@ -144,8 +144,8 @@ pub lived_so : {S : Type 0} (disk : S → Disk) (counts_now : (x : S) (t : Clock
     → (keys : Keys) × (made_is : Given) × (first_is : Given) × (second_is : Given) × (formatted_is : S) × AreOneLife disk keys made_is first_is second_is formatted_is new
 lived_so {S} disk counts_now includes_reads one_life pads tells leaves text made_by first_by second_by blank made ran left new f one may sure two =
     let keys : Keys = f.keys in
-    let one_done = subst (λ (k : Keys). RunDone ring_kind ring_lives disk one.by first_words k made ran one.before one.after blind blind 0) (one_keys (Some text) one.keys keys one.are f.are) one.done in
-    let two_done = subst (λ (k : Keys). RunDone ring_kind ring_lives disk two.by second_words k left new two.before two.after blind blind 0) (one_keys (Some text) two.keys keys two.are f.are) two.done in
+    let one_done = subst (λ (k : Keys). RunDone ring_kind ring_lives disk one.by first_by k made ran one.before one.after blind blind 0) (one_keys (Some text) one.keys keys one.are f.are) one.done in
+    let two_done = subst (λ (k : Keys). RunDone ring_kind ring_lives disk two.by second_by k left new two.before two.after blind blind 0) (one_keys (Some text) two.keys keys two.are f.are) two.done in
     let sound = (f.done).sound refl (tells blank) in (
       keys,
       made_by,
