@@ -18,3 +18,7 @@ mod noting;
 mod playing;
 #[cfg(test)]
 mod shown;
+#[cfg(test)]
+mod two_epochs;
+#[cfg(test)]
+mod worked;

@@ -1,0 +1,52 @@
+//! Runs over a store that another implementation made.
+
+ghost use Rattle.std.specs.Prelude.{◌≡◌};
+ghost use Rattle.ob_mem.specs.Memory.{disk_of_store};
+
+use crate::noting::noted;
+use crate::playing::{CELLS, go_on};
+use crate::two_epochs::CELLS as DIGITS;
+use hex::FromHex;
+use ob_mem::MemStore;
+use ob_store::Store;
+use std::process::Abort;
+
+// Writes the bytes of a cell's digits, of which each cell has 256.
+fn write_digits<R: Abort>(rt: &R, store: &mut MemStore, cell: usize)
+    requires { (disk_of_store store.old).out ≡ 0 }
+    ensures { (disk_of_store store.new).out ≡ 0 }
+{
+    assert!(rt; cell < CELLS && DIGITS.len() == 256 * CELLS);
+    let own = &DIGITS[256 * cell..256 * cell + 256];
+    let bytes = <[u8; 128] as FromHex>::from_hex(own)
+        .ok()
+        .expect(rt, "digits");
+    assert!(rt; store.write(cell as u64, &bytes).is_ok());
+}
+
+// The store after two epochs.
+fn after_two_epochs<R: AllocGlobal + Abort>(rt: &R) -> MemStore
+    ensures { (disk_of_store result).out ≡ 0 }
+{
+    let made = MemStore::new(rt.alloc(), CELLS, Vec::new(rt.alloc()));
+    let mut store = made.expect(rt, "memory");
+    for cell in 0..CELLS {
+        write_digits(rt, &mut store, cell);
+    }
+    store
+}
+
+// Two lanes go on with it, and the next run with what they left.
+const GOES_ON: &str = "\
+    run S K --lanes 2 < client 1/begin/get 5/put 5 there/commit/begin/get 5/commit -> \
+    0 epoch 3/txn 1 client 1 committed/get 5 = hi/put 5 there/\
+    epoch 4/txn 1 client 1 committed/get 5 = there/\n\
+    crash\n\
+    run S K < client 1/begin/get 5/get 4/commit -> \
+    0 epoch 5/txn 1 client 1 committed/get 5 = there/get 4 absent/";
+
+#[test]
+fn a_run_goes_on_with_another_implementations_store(rt: HostRuntime) {
+    let mut store = noted(&rt, after_two_epochs(&rt));
+    go_on(&rt, &mut store, GOES_ON);
+}
