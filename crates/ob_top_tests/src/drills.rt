@@ -1,11 +1,14 @@
-//! Self-tests over stores in memory that are handed in.
+//! Self-tests: over stores in memory that are handed in, and by the top call, which touches none.
+
+ghost use Rattle.ob_seal.specs.Draws.{list_drawn};
 
 use crate::noting::noted;
+use crate::playing::{CELLS as SMALL, WIDE};
 use ob_base::Fault;
 use ob_desk::Eager;
-use ob_mem::{Fail, MemStore};
-use ob_seal::ChaChaTape;
-use ob_top::{Drilled, drill_on};
+use ob_mem::{Fail, MemSink, MemSource, MemStore};
+use ob_seal::{ChaChaTape, ListTape, Tape};
+use ob_top::{Drilled, drill_on, obladi};
 use std::process::Abort;
 use std::sync::Wait;
 use std::thread::Threads;
@@ -54,7 +57,7 @@ fn a_self_test_begins_with_its_format(rt: HostRuntime) {
     let mut store = noted(&rt, store.expect(&rt, "memory"));
     let mut made = ChaChaTape::new(&[0; 32]);
     let mut tape = ChaChaTape::new(&[0; 32]);
-    let drilled = drill_on(&rt, 0, &mut store, &mut made, &mut tape, &mut Eager);
+    let drilled = drill_on(&rt, 2, &mut store, &mut made, &mut tape, &mut Eager);
     assert!(&rt; drilled.is_ok());
     assert!(&rt;
         store
@@ -62,4 +65,66 @@ fn a_self_test_begins_with_its_format(rt: HostRuntime) {
             .written()
             .starts_with(b"W 0\nS\nW 2\nW 4\nW 6\nW 8\n")
     );
+}
+
+// A tape of zeros that counts its calls.
+#[derive(Drop)]
+struct Counted {
+    tape: ListTape,
+    calls: u64,
+}
+
+impl Tape for Counted {
+    ghost present = { λ t. t.tape.generation };
+
+    ghost drawn = { λ t. list_drawn t.tape };
+
+    fn start(&mut self, generation: u64) {
+        self.calls = self.calls.saturating_add(1);
+        self.tape.start(generation);
+    }
+
+    fn draw(&mut self) -> u64 {
+        self.calls = self.calls.saturating_add(1);
+        self.tape.draw()
+    }
+}
+
+// A self-test of so many transactions beside a store, a tape, an input and a trace, none of which it
+// touches: its status.
+fn drill_beside<R: AllocGlobal + Threads + Wait + Sync + Abort>(rt: &R, count: &str) -> u8 {
+    let made = MemStore::new(rt.alloc(), SMALL, Vec::new(rt.alloc()));
+    let mut store = noted(rt, made.expect(rt, "memory"));
+    let mut tape = Counted {
+        tape: ListTape::new(rt.alloc(), &[]).expect(rt, "memory"),
+        calls: 0,
+    };
+    let script = b"client 1\n".to_vec(rt.alloc()).expect(rt, "memory");
+    let mut input = MemSource::new(script, Vec::new(rt.alloc()));
+    let output = MemSink::new(rt.alloc(), WIDE, Vec::new(rt.alloc()));
+    let mut output = output.expect(rt, "memory");
+    let trace = MemSink::new(rt.alloc(), WIDE, Vec::new(rt.alloc()));
+    let mut trace = Some(trace.expect(rt, "memory"));
+    let status = obladi(
+        rt,
+        &["drill", count],
+        None,
+        Some(&mut store),
+        &mut tape,
+        &mut input,
+        &mut output,
+        &mut trace,
+        &mut Eager,
+    );
+    assert!(rt; store.told.written().is_empty() && tape.calls == 0);
+    let trace = trace.expect(rt, "a trace");
+    assert!(rt; input.left() == b"client 1\n".as_slice() && trace.written().is_empty());
+    status
+}
+
+#[test]
+fn what_is_handed_in_is_left_as_it_was(rt: HostRuntime) {
+    assert!(&rt; drill_beside(&rt, "1") == 0);
+    assert!(&rt; drill_beside(&rt, "10001") == 2);
+    assert!(&rt; drill_beside(&rt, "-1") == 2);
 }
