@@ -1,0 +1,221 @@
+//! Runs that are cut off twice: a failing call or a crash, the next run cut off too, and a third.
+
+ghost use Rattle.std.specs.Prelude.{◌≡◌};
+ghost use Rattle.ob_mem.specs.Memory.{disk_of_store};
+
+use crate::playing::{END, ONE_EPOCH, PUT, RUN, STEPS, expect, formatted, left_after};
+use ob_mem::{Fail, MemStore};
+use std::process::Abort;
+use std::sync::Wait;
+use std::thread::Threads;
+
+/// A run of two epochs, the first of this number, of which the second one reads what was put.
+pub fn expect_next<R: AllocGlobal + Threads + Wait + Sync + Abort>(
+    rt: &R,
+    store: &mut MemStore,
+    epoch: u64,
+    found: bool,
+)
+    requires { (disk_of_store store.old).out ≡ 0 }
+    ensures { (disk_of_store store.new).out ≡ 0 }
+{
+    let script = "client 1/begin/commit/begin/get 5/commit/";
+    let value = if found { "= hi" } else { "absent" };
+    let next = epoch.saturating_add(1);
+    let told = format!(in rt.alloc();
+        "epoch {epoch}/txn 1 client 1 committed/epoch {next}/txn 1 client 1 committed/get 5 {value}/"
+    ).expect(rt, "memory");
+    expect(rt, store, RUN, script, 0, told.as_str());
+}
+
+// Whether an epoch has ended that makes so many writes and syncs, the last two of which are its
+// gate and the sync behind it, where a crash comes behind so many.
+fn has_ended(steps: usize, moment: usize, filling: Option<u8>) -> bool {
+    moment >= steps || (moment.saturating_add(1) == steps && filling != Some(0))
+}
+
+/// A store behind the next run: how many writes and syncs it had before that, how many that run
+/// made up to its first epoch's end and in all, that epoch's number, and whether the key was found.
+/// And whether it was in doubt before that run that the epoch before had ended.
+#[derive(Drop)]
+pub struct Next {
+    store: MemStore,
+    before: usize,
+    first: usize,
+    all: usize,
+    epoch: u64,
+    found: bool,
+    in_doubt: bool,
+}
+
+// How many writes and syncs an epoch of this number makes behind what a store has.
+fn steps_of<R: AllocGlobal + Threads + Wait + Sync + Abort>(
+    rt: &R,
+    store: &MemStore,
+    epoch: u64,
+) -> usize {
+    let mut copy = left_after(rt, store, END, None);
+    let told = format!(in rt.alloc(); "epoch {epoch}/txn 1 client 1 committed/").expect(
+        rt, "memory",
+    );
+    expect(
+        rt,
+        &mut copy,
+        RUN,
+        "client 1/begin/commit",
+        0,
+        told.as_str(),
+    );
+    copy.moments()
+}
+
+// The next run, whose first epoch has this number.
+fn next_of<R: AllocGlobal + Threads + Wait + Sync + Abort>(
+    rt: &R,
+    mut store: MemStore,
+    epoch: u64,
+    found: bool,
+    in_doubt: bool,
+) -> Next
+    requires { (disk_of_store store).out ≡ 0 }
+{
+    let (before, first) = (store.moments(), steps_of(rt, &store, epoch));
+    expect_next(rt, &mut store, epoch, found);
+    let all = store.moments().saturating_sub(before);
+    Next {
+        store,
+        before,
+        first,
+        all,
+        epoch,
+        found,
+        in_doubt,
+    }
+}
+
+// The third run, where a crash comes behind so many writes and syncs of the next one: each epoch
+// that had ended has, and the key has the value that it had.
+fn expect_third<R: AllocGlobal + Threads + Wait + Sync + Abort>(
+    rt: &R,
+    next: &Next,
+    moment: usize,
+    filling: Option<u8>,
+) {
+    let mut left = left_after(rt, &next.store, next.before.saturating_add(moment), filling);
+    if next.in_doubt && moment == 0 && filling == Some(0) {
+        expect_next(rt, &mut left, 1, false);
+        return;
+    }
+    let ended = has_ended(next.first, moment, filling) as u64;
+    let both = has_ended(next.all, moment, filling) as u64;
+    let epoch = next.epoch.saturating_add(ended).saturating_add(both);
+    expect_next(rt, &mut left, epoch, next.found);
+}
+
+// A filling by its number.
+fn filling_of(n: usize) -> Option<u8> {
+    match n {
+        0 => None,
+        1 => Some(0),
+        _ => Some(0xA5),
+    }
+}
+
+// The writes of a run, the last of which is that of the register's gate, and its syncs.
+const WRITES: u64 = 46;
+
+const SYNCS: u64 = 10;
+
+/// How many calls of a run may fail, and how many images a crash of it may leave.
+pub const CALLS: u64 = WRITES + SYNCS;
+
+pub const IMAGES: usize = 3 * (STEPS + 1);
+
+/// A run of which this call fails, and the next one.
+pub fn behind_call<R: AllocGlobal + Threads + Wait + Sync + Abort>(rt: &R, call: u64) -> Next {
+    let (fail, unsure) = if call < WRITES {
+        (Fail::Write(call.saturating_add(62)), call == WRITES - 1)
+    } else {
+        let sync = call.saturating_sub(WRITES);
+        (Fail::Sync(sync.saturating_add(10)), sync == SYNCS - 1)
+    };
+    let told = if unsure {
+        "fault: store, epoch 1 unsure/"
+    } else {
+        "fault: store/"
+    };
+    let mut store = formatted(rt, &[fail]);
+    expect(rt, &mut store, RUN, PUT, 5, told);
+    next_of(rt, store, 1 + unsure as u64, unsure, unsure)
+}
+
+/// A run of a store that was just formatted.
+pub fn ran<R: AllocGlobal + Threads + Wait + Sync + Abort>(rt: &R) -> MemStore {
+    let mut ran = left_after(rt, &formatted(rt, &[]), END, None);
+    expect(rt, &mut ran, RUN, PUT, 0, ONE_EPOCH);
+    ran
+}
+
+/// The next run behind a crash of it: at each moment there are three images.
+pub fn behind_crash<R: AllocGlobal + Threads + Wait + Sync + Abort>(
+    rt: &R,
+    ran: &MemStore,
+    image: usize,
+) -> Next {
+    let (moment, filling) = (image / 3, filling_of(image % 3));
+    let ended = has_ended(STEPS, moment, filling);
+    let left = left_after(rt, ran, moment, filling);
+    next_of(rt, left, 1 + ended as u64, ended, false)
+}
+
+/// Tries the crashes of a next run at each moment with each filling, but for as many as are left
+/// out between two; and counts those that it comes by, from this number on.
+pub fn expect_thirds<R: AllocGlobal + Threads + Wait + Sync + Abort>(
+    rt: &R,
+    next: &Next,
+    every: u64,
+    from: u64,
+) -> u64 {
+    let mut cases = from;
+    for moment in 0..next.all.saturating_add(1) {
+        for n in 0..3 {
+            if cases.checked_rem(every) == Some(0) {
+                expect_third(rt, next, moment, filling_of(n));
+            }
+            cases = cases.wrapping_add(1);
+        }
+    }
+    cases
+}
+
+// Behind each failing call every eleventh crash of the next run.
+#[test]
+fn a_crash_behind_a_failing_call_loses_no_epoch(rt: HostRuntime) {
+    let mut cases: u64 = 0;
+    for call in 0..CALLS {
+        cases = expect_thirds(&rt, &behind_call(&rt, call), 11, cases);
+    }
+    assert!(&rt; cases > 18_000);
+}
+
+// The next number of a row, below this one.
+fn drawn(row: &mut u64, below: usize) -> usize {
+    *row = row
+        .wrapping_mul(6_364_136_223_846_793_005)
+        .wrapping_add(1_442_695_040_888_963_407);
+    (*row >> 33).checked_rem(below as u64).unwrap_or(0) as usize
+}
+
+// Of the images of a run 30 are drawn, and ten crashes of each one's next run.
+#[test]
+fn a_second_crash_loses_no_epoch(rt: HostRuntime) {
+    let ran = ran(&rt);
+    let mut row = 59;
+    for _image in 0..30 {
+        let next = behind_crash(&rt, &ran, drawn(&mut row, IMAGES));
+        for _crash in 0..10 {
+            let moment = drawn(&mut row, next.all.saturating_add(1));
+            expect_third(&rt, &next, moment, filling_of(drawn(&mut row, 3)));
+        }
+    }
+}

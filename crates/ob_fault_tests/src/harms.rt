@@ -1,0 +1,161 @@
+//! What is done to the cells of a store between two calls: a bit is changed, or a cell is forged
+//! under the keys.
+
+ghost use Rattle.std.specs.Prelude.{◌≡◌};
+ghost use Rattle.ob_mem.specs.Memory.{disk_of_store};
+
+use ob_base::Check;
+use ob_mem::MemStore;
+use ob_seal::{Keys, Sealer};
+use ob_store::Store;
+use std::process::Abort;
+
+/// What is done to a cell.
+#[derive(Clone, Copy)]
+pub enum Harm {
+    None,
+    /// A bit of its byte 20 is changed.
+    Flip(u64),
+    /// All its bytes are those of an open gate.
+    Open(u64),
+    /// Of the plain bytes of a sealed cell, from a place on, so many are the low ones of a number;
+    /// it is sealed anew under its own identity.
+    Seal(u64, usize, u64, usize),
+    /// The same of a stamped cell.
+    Stamp(u64, usize, u64, usize),
+    /// A second cell has the plain bytes of a sealed one, and its identity.
+    Move(u64, u64),
+}
+
+/// What a run is told: it ends its epoch, or a fault.
+#[derive(Clone, Copy)]
+pub enum Told {
+    Done,
+    Damaged(u64, Check),
+    NotStore,
+    Store,
+}
+
+// A sealer of a generation under the keys of the bytes 0 to 95.
+fn sealer_of(generation: u64) -> Sealer {
+    let mut bytes = [0; 96];
+    for i in 0..96 {
+        bytes[i] = i as u8;
+    }
+    Sealer::new(&Keys::from_bytes(&bytes), generation)
+}
+
+// Sets so many bytes from a place on to the low ones of a number.
+fn put<R: Abort>(rt: &R, bytes: &mut [u8], place: usize, number: u64, many: usize) {
+    let low = number.to_le_bytes();
+    assert!(rt; many <= 8 && place <= bytes.len() && many <= bytes.len() - place);
+    bytes[place..place + many].copy_from_slice(&low[..many]);
+}
+
+// The bytes of a cell.
+fn cell_of<R: Abort>(rt: &R, store: &mut MemStore, cell: u64) -> [u8; 128]
+    requires { (disk_of_store store.old).out ≡ 0 }
+    ensures { (disk_of_store store.new).out ≡ 0 }
+{
+    let mut bytes = [0; 128];
+    let mut lane = store.lane().ok().expect(rt, "a lane");
+    assert!(rt; store.read(&mut lane, cell, &mut bytes).is_ok());
+    store.absorb(lane);
+    bytes
+}
+
+// A sealed cell with these of its plain bytes set, sealed anew for a cell.
+fn sealed<R: Abort>(
+    rt: &R,
+    bytes: &[u8; 128],
+    cell: u64,
+    to: u64,
+    change: (usize, u64, usize),
+) -> [u8; 128] {
+    let opened = sealer_of(0).unseal(cell, None, bytes);
+    let opened = opened.ok().expect(rt, "a sealed cell");
+    let mut plain = opened.plain;
+    put(rt, &mut plain, change.0, change.1, change.2);
+    assert!(rt; opened.number < 1 << 62);
+    sealer_of(opened.generation).seal_at(to, opened.number, &plain)
+}
+
+// A stamped cell with these of its plain bytes set.
+fn stamped<R: Abort>(
+    rt: &R,
+    bytes: &[u8; 128],
+    cell: u64,
+    change: (usize, u64, usize),
+) -> [u8; 128] {
+    let mut plain = [0; 112];
+    plain.copy_from_slice(&bytes[..112]);
+    put(rt, &mut plain, change.0, change.1, change.2);
+    sealer_of(0).stamp(cell, &plain)
+}
+
+// The cell that is written, and its bytes.
+fn harmed<R: Abort>(rt: &R, store: &mut MemStore, harm: Harm) -> Option<(u64, [u8; 128])>
+    requires { (disk_of_store store.old).out ≡ 0 }
+    ensures { (disk_of_store store.new).out ≡ 0 }
+{
+    match harm {
+        Harm::None => None,
+        Harm::Flip(cell) => {
+            let mut bytes = cell_of(rt, store, cell);
+            bytes[20] ^= 1;
+            Some((cell, bytes))
+        }
+        Harm::Open(cell) => Some((cell, [0xA5; 128])),
+        Harm::Seal(cell, place, number, many) => {
+            let bytes = cell_of(rt, store, cell);
+            Some((cell, sealed(rt, &bytes, cell, cell, (place, number, many))))
+        }
+        Harm::Stamp(cell, place, number, many) => {
+            let bytes = cell_of(rt, store, cell);
+            Some((cell, stamped(rt, &bytes, cell, (place, number, many))))
+        }
+        Harm::Move(cell, to) => {
+            let bytes = cell_of(rt, store, cell);
+            Some((to, sealed(rt, &bytes, cell, to, (0, 0, 0))))
+        }
+    }
+}
+
+/// Does it to a store.
+pub fn harm_store<R: Abort>(rt: &R, store: &mut MemStore, harm: Harm)
+    requires { (disk_of_store store.old).out ≡ 0 }
+    ensures { (disk_of_store store.new).out ≡ 0 }
+{
+    if let Some((cell, bytes)) = harmed(rt, store, harm) {
+        assert!(rt; store.write(cell, &bytes).is_ok());
+    }
+}
+
+// The name of a check.
+fn name_of(check: Check) -> &'static str {
+    match check {
+        Check::Tag => "tag",
+        Check::Seal => "seal",
+        Check::Epoch => "epoch",
+        Check::Form => "form",
+    }
+}
+
+// A text of one's own.
+fn text_of<R: AllocGlobal + Abort>(rt: &R, text: &str) -> String {
+    format!(in rt.alloc(); "{text}").expect(rt, "memory")
+}
+
+/// The status of a run, and what it tells, where it would tell this of its epoch.
+pub fn words_of<R: AllocGlobal + Abort>(rt: &R, told: Told, done: &str) -> (u8, String) {
+    match told {
+        Told::Done => (0, text_of(rt, done)),
+        Told::Damaged(cell, check) => {
+            let check = name_of(check);
+            let text = format!(in rt.alloc(); "fault: damaged cell {cell} {check}/");
+            (4, text.expect(rt, "memory"))
+        }
+        Told::NotStore => (3, text_of(rt, "fault: not a store/")),
+        Told::Store => (5, text_of(rt, "fault: store/")),
+    }
+}

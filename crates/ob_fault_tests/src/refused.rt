@@ -1,0 +1,125 @@
+//! Runs of which a call fails: a read, a lane, the output, the input.
+
+use crate::crashes::expect_next;
+use crate::playing::{
+    END, ONE_EPOCH, PUT, READS, RUN, STEPS, WIDE, call_on, expect, formatted, left_after, lines_of,
+    made_before, sink_of, source_of,
+};
+use ob_mem::{Fail, MemSink, MemStore};
+use std::process::Abort;
+use std::sync::Wait;
+use std::thread::Threads;
+
+// The same run by one lane, and by four.
+static BY_LANES: [&str; 2] = ["run S K --lanes 1", "run S K --lanes 4"];
+
+// The epochs that a run behind what is left of an epoch that didn't end finds, whatever the cells
+// have that aren't sure.
+fn expect_not_ended<R: AllocGlobal + Threads + Wait + Sync + Abort>(rt: &R, store: &MemStore) {
+    for &filling in &[None, Some(0), Some(0xA5)] {
+        let mut left = left_after(rt, store, END, filling);
+        expect_next(rt, &mut left, 1, false);
+    }
+}
+
+// Whether a run has this call failing; then its fault is told, no write or sync comes behind it, so
+// many were made before, and the next run finds the epoch not ended.
+fn is_told<R: AllocGlobal + Threads + Wait + Sync + Abort>(
+    rt: &R,
+    words: &str,
+    fail: Fail,
+    steps: usize,
+) -> bool {
+    let mut store = formatted(rt, &[fail]);
+    let mut input = source_of(rt, lines_of(rt, PUT).as_bytes(), &[]);
+    let mut output = sink_of(rt, WIDE, &[]);
+    let mut trace: Option<MemSink> = None;
+    let status = call_on(rt, &mut store, words, &mut input, &mut output, &mut trace);
+    if store.faults() == 0 {
+        assert!(rt; status == 0 && output.written() == lines_of(rt, ONE_EPOCH).as_bytes());
+        assert!(rt; store.moments() == 72 + STEPS);
+        return false;
+    }
+    assert!(rt; status == 5 && output.written() == b"fault: store\n".as_slice());
+    assert!(rt; store.moments() == 72 + steps, "{steps}");
+    expect_not_ended(rt, &store);
+    true
+}
+
+#[test]
+fn each_failing_read_is_told(rt: HostRuntime) {
+    for &words in &BY_LANES {
+        for place in 0..READS.len() {
+            let (cell, (writes, steps)) = (READS[place], made_before(place));
+            let fail = Fail::Read { cell, writes };
+            assert!(&rt; is_told(&rt, words, fail, steps), "{cell}");
+        }
+    }
+}
+
+// The lanes of a run: five of the opening, whose reads come one by one, and those of the first
+// batch, of the second one and of the lifts.
+fn expect_lanes<R: AllocGlobal + Threads + Wait + Sync + Abort>(rt: &R, words: &str, many: u64) {
+    let (first, all) = (5 + many, 5 + 3 * many);
+    for lane in 0..all {
+        let steps = if lane < 5 {
+            0
+        } else if lane < first {
+            9
+        } else {
+            13
+        };
+        assert!(rt; is_told(rt, words, Fail::Lane(lane), steps), "{lane}");
+    }
+    assert!(rt; !is_told(rt, words, Fail::Lane(all), 0));
+}
+
+#[test]
+fn each_lane_that_cannot_be_had_is_told(rt: HostRuntime) {
+    expect_lanes(&rt, BY_LANES[0], 1);
+    expect_lanes(&rt, BY_LANES[1], 4);
+}
+
+// The failing reads of the input, the failing writes of the output and its room; the status, what
+// is written, how many writes and syncs are made, and the last epoch.
+type Ends = (
+    &'static [u64],
+    &'static [u64],
+    usize,
+    u8,
+    &'static str,
+    usize,
+    u64,
+);
+
+static ENDS: [Ends; 3] = [
+    (&[], &[0], WIDE, 7, "", STEPS, 1),
+    (&[], &[], 3, 7, "epo", STEPS, 1),
+    (&[0], &[], WIDE, 7, "fault: source/", 0, 0),
+];
+
+#[test]
+fn a_failing_output_or_input_is_told(rt: HostRuntime) {
+    for &(reads, writes, room, wanted, told, steps, epoch) in &ENDS {
+        let mut store = formatted(&rt, &[]);
+        let mut input = source_of(&rt, lines_of(&rt, PUT).as_bytes(), reads);
+        let mut output = sink_of(&rt, room, writes);
+        let mut trace: Option<MemSink> = None;
+        let status = call_on(&rt, &mut store, RUN, &mut input, &mut output, &mut trace);
+        assert!(&rt; status == wanted && output.written() == lines_of(&rt, told).as_bytes());
+        assert!(&rt; store.moments() == 72 + steps, "{told}");
+        expect_next(&rt, &mut store, epoch + 1, epoch == 1);
+    }
+}
+
+// A script of as many lines as there may be, and one of a line more.
+#[test]
+fn a_script_has_so_many_lines(rt: HostRuntime) {
+    let mut store = formatted(&rt, &[]);
+    let lines = vec![in rt.alloc(); b'\n'; 1_048_576].expect(&rt, "memory");
+    let text = str::from_utf8(&lines).ok().expect(&rt, "a text");
+    expect(&rt, &mut store, RUN, text, 0, "");
+    let more = vec![in rt.alloc(); b'\n'; 1_048_577].expect(&rt, "memory");
+    let text = str::from_utf8(&more).ok().expect(&rt, "a text");
+    expect(&rt, &mut store, RUN, text, 2, "fault: script line 1048577/");
+}

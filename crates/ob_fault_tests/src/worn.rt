@@ -1,0 +1,47 @@
+//! Runs over stores whose numbers are at their end.
+
+use crate::harms::{Harm, harm_store};
+use crate::playing::{
+    END, PUT, RUN, WIDE, call_on, expect, formatted, left_after, lines_of, sink_of, source_of,
+};
+
+// The last number of a register.
+const LAST: u64 = 4_611_686_018_427_387_903;
+
+const WORN: &str = "fault: worn at 4611686018427387904/";
+
+// The generation's register has it: the store is read, and neither written nor synced.
+#[test]
+fn no_run_begins_behind_the_last_generation(rt: HostRuntime) {
+    let mut store = left_after(&rt, &formatted(&rt, &[]), END, None);
+    harm_store(&rt, &mut store, Harm::Stamp(3, 0, LAST, 8));
+    expect(&rt, &mut store, RUN, PUT, 8, WORN);
+    assert!(&rt; store.moments() == 1);
+}
+
+// What a run shows where the epoch's register has it and its checkpoint is that of a new store: the
+// opening and both batches, and nothing of an end.
+const SHOWN: &str = "\
+    O/R 0/R 1/R 2/R 3/R 4/R 5/R 6/R 7/R 8/R 28/R 29/R 30/R 31/R 32/R 33/R 34/R 35/R 36/R 37/R 38/\
+    R 9/R 10/R 11/R 12/S/W 1/S/W 2/S/W 9/S/W 10/S/L 0/R 41/R 46/R 56/L 0/R 42/R 47/R 57/W 11/S/\
+    W 12/S/L 0/R 43/R 39/R 40/R 48/R 44/R 45/R 58/R 54/R 55/L 0/";
+
+// The epoch's register has it, and area 1 the checkpoint.
+#[test]
+fn no_epoch_ends_behind_the_last(rt: HostRuntime) {
+    let mut store = left_after(&rt, &formatted(&rt, &[]), END, None);
+    for i in 0..11 {
+        harm_store(&rt, &mut store, Harm::Move(17 + i, 28 + i));
+    }
+    harm_store(&rt, &mut store, Harm::Seal(28, 0, LAST, 8));
+    harm_store(&rt, &mut store, Harm::Stamp(7, 0, LAST, 8));
+    harm_store(&rt, &mut store, Harm::Open(8));
+    let mut input = source_of(&rt, lines_of(&rt, PUT).as_bytes(), &[]);
+    let mut output = sink_of(&rt, WIDE, &[]);
+    let mut trace = Some(sink_of(&rt, WIDE, &[]));
+    let words = "run S K --trace T";
+    let status = call_on(&rt, &mut store, words, &mut input, &mut output, &mut trace);
+    assert!(&rt; status == 8 && output.written() == lines_of(&rt, WORN).as_bytes());
+    let trace = trace.expect(&rt, "a trace");
+    assert!(&rt; trace.written() == lines_of(&rt, SHOWN).as_bytes());
+}
