@@ -206,16 +206,25 @@ fn drawn(row: &mut u64, below: usize) -> usize {
     (*row >> 33).checked_rem(below as u64).unwrap_or(0) as usize
 }
 
-// Of the images of a run 30 are drawn, and ten crashes of each one's next run.
+// Ten crashes are drawn of the next run behind an image that is drawn.
+fn expect_drawn<R: AllocGlobal + Threads + Wait + Sync + Abort>(
+    rt: &R,
+    ran: &MemStore,
+    row: &mut u64,
+) {
+    let next = behind_crash(rt, ran, drawn(row, IMAGES));
+    for _crash in 0..10 {
+        let moment = drawn(row, next.all.saturating_add(1));
+        expect_third(rt, &next, moment, filling_of(drawn(row, 3)));
+    }
+}
+
+// Of the images of a run 30 are drawn.
 #[test]
 fn a_second_crash_loses_no_epoch(rt: HostRuntime) {
     let ran = ran(&rt);
     let mut row = 59;
     for _image in 0..30 {
-        let next = behind_crash(&rt, &ran, drawn(&mut row, IMAGES));
-        for _crash in 0..10 {
-            let moment = drawn(&mut row, next.all.saturating_add(1));
-            expect_third(&rt, &next, moment, filling_of(drawn(&mut row, 3)));
-        }
+        expect_drawn(&rt, &ran, &mut row);
     }
 }

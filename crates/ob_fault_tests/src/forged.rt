@@ -5,7 +5,7 @@ ghost use Rattle.ob_mem.specs.Memory.{disk_of_store};
 
 use crate::harms::Harm::{Seal, Stamp};
 use crate::harms::Told::Damaged;
-use crate::harms::{Harm, Told, harm_store, words_of};
+use crate::harms::{Harm, Told, expect_told, harm_store};
 use crate::playing::{END, RUN, blank, expect, left_after};
 use ob_base::Check::{Epoch, Form};
 use ob_mem::MemStore;
@@ -13,18 +13,8 @@ use std::process::Abort;
 use std::sync::Wait;
 use std::thread::Threads;
 
-// The words of a format, and how many cells it makes.
-type Size = (&'static str, usize);
-
-// A store of 8 keys; one of 4, whose stash may keep one row; and one of one key and two places.
-const SMALL: Size = ("format S K 8 2 2 3 2 2 2 2 8", 109);
-
-const NARROW: Size = ("format S K 4 1 2 1 1 1 4 1 1", 37);
-
-const SINGLE: Size = ("format S K 1 1 1 1 1 2 1 1 1", 29);
-
-// Which store it is: a new one of each size; a small one and the one of one key where a record is
-// open; a small one behind an epoch that put key 5.
+// Which store it is: a new one of 8 keys; a new one of 4, whose stash may keep one row; one of 8 and
+// one of a single key where a record is open; and one behind an epoch that put key 5.
 #[derive(Clone, Copy)]
 enum Base {
     New,
@@ -34,33 +24,66 @@ enum Base {
     Ended,
 }
 
-// Its size, and behind how many writes and syncs of a run a crash comes: an opening makes five, a
-// record four.
-fn parts_of(base: Base) -> (Size, usize, &'static str) {
+// A store's cells, its format and what is told of it, the script of a run and what is told of it,
+// and behind how many of the run's writes and syncs a crash comes: its opening makes five, a record
+// four.
+#[derive(Clone, Copy)]
+struct Life {
+    cells: usize,
+    format: &'static str,
+    formatted: &'static str,
+    script: &'static str,
+    ran: &'static str,
+    moment: usize,
+}
+
+const NEW: Life = Life {
+    cells: 109,
+    format: "format S K 8 2 2 3 2 2 2 2 8",
+    formatted: "store of 109 cells/",
+    script: "client 1/begin/put 5 hi/commit",
+    ran: "epoch 1/txn 1 client 1 committed/put 5 hi/",
+    moment: 0,
+};
+
+const NEW_NARROW: Life = Life {
+    cells: 37,
+    format: "format S K 4 1 2 1 1 1 4 1 1",
+    formatted: "store of 37 cells/",
+    script: "client 1/begin/commit",
+    ran: "epoch 1/txn 1 client 1 committed/",
+    moment: 0,
+};
+
+const RECORDED_SINGLE: Life = Life {
+    cells: 29,
+    format: "format S K 1 1 1 1 1 2 1 1 1",
+    formatted: "store of 29 cells/",
+    script: "client 1/begin/commit",
+    ran: "epoch 1/txn 1 client 1 committed/",
+    moment: 9,
+};
+
+fn life_of(base: Base) -> Life {
     match base {
-        Base::New => (SMALL, 0, ""),
-        Base::NewNarrow => (NARROW, 0, ""),
-        Base::Recorded => (SMALL, 9, ""),
-        Base::RecordedSingle => (SINGLE, 9, ""),
-        Base::Ended => (SMALL, END, "put 5 hi/"),
+        Base::New => NEW,
+        Base::NewNarrow => NEW_NARROW,
+        Base::Recorded => Life { moment: 9, ..NEW },
+        Base::RecordedSingle => RECORDED_SINGLE,
+        Base::Ended => Life { moment: END, ..NEW },
     }
 }
 
-// What a crash left.
+// What the crash left.
 fn base_of<R: AllocGlobal + Threads + Wait + Sync + Abort>(rt: &R, base: Base) -> MemStore
     ensures { (disk_of_store result).out ≡ 0 }
 {
-    let ((words, cells), moment, put) = parts_of(base);
-    let mut store = blank(rt, cells, &[]);
-    let told = format!(in rt.alloc(); "store of {cells} cells/").expect(rt, "memory");
-    expect(rt, &mut store, words, "", 0, told.as_str());
-    let mut ran = left_after(rt, &store, END, None);
-    let script = format!(in rt.alloc(); "client 1/begin/{put}commit").expect(rt, "memory");
-    let told = format!(in rt.alloc(); "epoch 1/txn 1 client 1 committed/{put}").expect(
-        rt, "memory",
-    );
-    expect(rt, &mut ran, RUN, script.as_str(), 0, told.as_str());
-    left_after(rt, &ran, moment, None)
+    let life = life_of(base);
+    let mut store = blank(rt, life.cells, &[]);
+    expect(rt, &mut store, life.format, "", 0, life.formatted);
+    let mut store = left_after(rt, &store, END, None);
+    expect(rt, &mut store, RUN, life.script, 0, life.ran);
+    left_after(rt, &store, life.moment, None)
 }
 
 // A base, what is done to it, and what a run is told that gets key 5, or nothing where there is no
@@ -86,8 +109,7 @@ fn play<R: AllocGlobal + Threads + Wait + Sync + Abort>(rt: &R, row: &Row) {
         Base::NewNarrow | Base::RecordedSingle => "client 1/begin/get 0/commit",
         _ => "client 1/begin/get 5/commit",
     };
-    let (status, text) = words_of(rt, told, "");
-    expect(rt, &mut store, RUN, script, status, text.as_str());
+    expect_told(rt, &mut store, (RUN, script), told, "");
 }
 
 // Heads: each number out of its range, then two versions that are none.

@@ -4,11 +4,14 @@
 ghost use Rattle.std.specs.Prelude.{◌≡◌};
 ghost use Rattle.ob_mem.specs.Memory.{disk_of_store};
 
+use crate::playing::expect;
 use ob_base::Check;
 use ob_mem::MemStore;
 use ob_seal::{Keys, Sealer};
 use ob_store::Store;
 use std::process::Abort;
+use std::sync::Wait;
+use std::thread::Threads;
 
 /// What is done to a cell.
 #[derive(Clone, Copy)]
@@ -93,32 +96,12 @@ fn stamped<R: Abort>(
     sealer_of(0).stamp(cell, &plain)
 }
 
-// The cell that is written, and its bytes.
-fn harmed<R: Abort>(rt: &R, store: &mut MemStore, harm: Harm) -> Option<(u64, [u8; 128])>
+// Writes a cell.
+fn write<R: Abort>(rt: &R, store: &mut MemStore, cell: u64, bytes: &[u8; 128])
     requires { (disk_of_store store.old).out ≡ 0 }
     ensures { (disk_of_store store.new).out ≡ 0 }
 {
-    match harm {
-        Harm::None => None,
-        Harm::Flip(cell) => {
-            let mut bytes = cell_of(rt, store, cell);
-            bytes[20] ^= 1;
-            Some((cell, bytes))
-        }
-        Harm::Open(cell) => Some((cell, [0xA5; 128])),
-        Harm::Seal(cell, place, number, many) => {
-            let bytes = cell_of(rt, store, cell);
-            Some((cell, sealed(rt, &bytes, cell, cell, (place, number, many))))
-        }
-        Harm::Stamp(cell, place, number, many) => {
-            let bytes = cell_of(rt, store, cell);
-            Some((cell, stamped(rt, &bytes, cell, (place, number, many))))
-        }
-        Harm::Move(cell, to) => {
-            let bytes = cell_of(rt, store, cell);
-            Some((to, sealed(rt, &bytes, cell, to, (0, 0, 0))))
-        }
-    }
+    assert!(rt; store.write(cell, bytes).is_ok());
 }
 
 /// Does it to a store.
@@ -126,8 +109,29 @@ pub fn harm_store<R: Abort>(rt: &R, store: &mut MemStore, harm: Harm)
     requires { (disk_of_store store.old).out ≡ 0 }
     ensures { (disk_of_store store.new).out ≡ 0 }
 {
-    if let Some((cell, bytes)) = harmed(rt, store, harm) {
-        assert!(rt; store.write(cell, &bytes).is_ok());
+    match harm {
+        Harm::None => {}
+        Harm::Flip(cell) => {
+            let mut bytes = cell_of(rt, store, cell);
+            bytes[20] ^= 1;
+            write(rt, store, cell, &bytes);
+        }
+        Harm::Open(cell) => write(rt, store, cell, &[0xA5; 128]),
+        Harm::Seal(cell, place, number, many) => {
+            let bytes = cell_of(rt, store, cell);
+            let bytes = sealed(rt, &bytes, cell, cell, (place, number, many));
+            write(rt, store, cell, &bytes);
+        }
+        Harm::Stamp(cell, place, number, many) => {
+            let bytes = cell_of(rt, store, cell);
+            let bytes = stamped(rt, &bytes, cell, (place, number, many));
+            write(rt, store, cell, &bytes);
+        }
+        Harm::Move(cell, to) => {
+            let bytes = cell_of(rt, store, cell);
+            let bytes = sealed(rt, &bytes, cell, to, (0, 0, 0));
+            write(rt, store, to, &bytes);
+        }
     }
 }
 
@@ -141,21 +145,33 @@ fn name_of(check: Check) -> &'static str {
     }
 }
 
-// A text of one's own.
-fn text_of<R: AllocGlobal + Abort>(rt: &R, text: &str) -> String {
-    format!(in rt.alloc(); "{text}").expect(rt, "memory")
-}
-
-/// The status of a run, and what it tells, where it would tell this of its epoch.
-pub fn words_of<R: AllocGlobal + Abort>(rt: &R, told: Told, done: &str) -> (u8, String) {
+/// Makes a run with this script, of which this is told; where it is none of these faults, this.
+pub fn expect_told<R: AllocGlobal + Threads + Wait + Sync + Abort>(
+    rt: &R,
+    store: &mut MemStore,
+    ask: (&str, &str),
+    told: Told,
+    done: &str,
+)
+    requires { (disk_of_store store.old).out ≡ 0 }
+    ensures { (disk_of_store store.new).out ≡ 0 }
+{
+    let (words, script) = ask;
     match told {
-        Told::Done => (0, text_of(rt, done)),
+        Told::Done => expect(rt, store, words, script, 0, done),
         Told::Damaged(cell, check) => {
             let check = name_of(check);
             let text = format!(in rt.alloc(); "fault: damaged cell {cell} {check}/");
-            (4, text.expect(rt, "memory"))
+            expect(
+                rt,
+                store,
+                words,
+                script,
+                4,
+                text.expect(rt, "memory").as_str(),
+            )
         }
-        Told::NotStore => (3, text_of(rt, "fault: not a store/")),
-        Told::Store => (5, text_of(rt, "fault: store/")),
+        Told::NotStore => expect(rt, store, words, script, 3, "fault: not a store/"),
+        Told::Store => expect(rt, store, words, script, 5, "fault: store/"),
     }
 }

@@ -41,7 +41,7 @@ fn is_told<R: AllocGlobal + Threads + Wait + Sync + Abort>(
         return false;
     }
     assert!(rt; status == 5 && output.written() == b"fault: store\n".as_slice());
-    assert!(rt; store.moments() == 72 + steps, "{steps}");
+    assert!(rt; store.moments() == steps.saturating_add(72), "{steps}");
     expect_not_ended(rt, &store);
     true
 }
@@ -80,46 +80,55 @@ fn each_lane_that_cannot_be_had_is_told(rt: HostRuntime) {
     expect_lanes(&rt, BY_LANES[1], 4);
 }
 
-// The failing reads of the input, the failing writes of the output and its room; the status, what
-// is written, how many writes and syncs are made, and the last epoch.
-type Ends = (
-    &'static [u64],
-    &'static [u64],
-    usize,
-    u8,
-    &'static str,
-    usize,
-    u64,
-);
+// The read of the input that fails, the write of the output that does, and its room; the status,
+// what is written, how many writes and syncs are made, and whether the epoch has ended.
+type Ends = (u64, u64, usize, u8, &'static str, usize, bool);
+
+// No call comes to this number.
+const NEVER: u64 = u64::MAX;
 
 static ENDS: [Ends; 3] = [
-    (&[], &[0], WIDE, 7, "", STEPS, 1),
-    (&[], &[], 3, 7, "epo", STEPS, 1),
-    (&[0], &[], WIDE, 7, "fault: source/", 0, 0),
+    (NEVER, 0, WIDE, 7, "", STEPS, true),
+    (NEVER, NEVER, 3, 7, "epo", STEPS, true),
+    (0, NEVER, WIDE, 7, "fault: source/", 0, false),
 ];
+
+// A run that ends so.
+fn expect_end<R: AllocGlobal + Threads + Wait + Sync + Abort>(rt: &R, row: &Ends) {
+    let (read, write, room, wanted, told, steps, ended) = *row;
+    let mut store = formatted(rt, &[]);
+    let mut input = source_of(rt, lines_of(rt, PUT).as_bytes(), &[read]);
+    let mut output = sink_of(rt, room, &[write]);
+    let mut trace: Option<MemSink> = None;
+    let status = call_on(rt, &mut store, RUN, &mut input, &mut output, &mut trace);
+    assert!(rt; status == wanted && output.written() == lines_of(rt, told).as_bytes());
+    assert!(rt; store.moments() == steps.saturating_add(72), "{told}");
+    expect_next(rt, &mut store, 1 + ended as u64, ended);
+}
 
 #[test]
 fn a_failing_output_or_input_is_told(rt: HostRuntime) {
-    for &(reads, writes, room, wanted, told, steps, epoch) in &ENDS {
-        let mut store = formatted(&rt, &[]);
-        let mut input = source_of(&rt, lines_of(&rt, PUT).as_bytes(), reads);
-        let mut output = sink_of(&rt, room, writes);
-        let mut trace: Option<MemSink> = None;
-        let status = call_on(&rt, &mut store, RUN, &mut input, &mut output, &mut trace);
-        assert!(&rt; status == wanted && output.written() == lines_of(&rt, told).as_bytes());
-        assert!(&rt; store.moments() == 72 + steps, "{told}");
-        expect_next(&rt, &mut store, epoch + 1, epoch == 1);
+    for row in &ENDS {
+        expect_end(&rt, row);
     }
+}
+
+// A run with a script of so many line ends.
+fn expect_lines<R: AllocGlobal + Threads + Wait + Sync + Abort>(
+    rt: &R,
+    lines: usize,
+    status: u8,
+    told: &str,
+) {
+    let mut store = formatted(rt, &[]);
+    let text = vec![in rt.alloc(); b'\n'; lines].expect(rt, "memory");
+    let text = str::from_utf8(&text).ok().expect(rt, "a text");
+    expect(rt, &mut store, RUN, text, status, told);
 }
 
 // A script of as many lines as there may be, and one of a line more.
 #[test]
 fn a_script_has_so_many_lines(rt: HostRuntime) {
-    let mut store = formatted(&rt, &[]);
-    let lines = vec![in rt.alloc(); b'\n'; 1_048_576].expect(&rt, "memory");
-    let text = str::from_utf8(&lines).ok().expect(&rt, "a text");
-    expect(&rt, &mut store, RUN, text, 0, "");
-    let more = vec![in rt.alloc(); b'\n'; 1_048_577].expect(&rt, "memory");
-    let text = str::from_utf8(&more).ok().expect(&rt, "a text");
-    expect(&rt, &mut store, RUN, text, 2, "fault: script line 1048577/");
+    expect_lines(&rt, 1_048_576, 0, "");
+    expect_lines(&rt, 1_048_577, 2, "fault: script line 1048577/");
 }
