@@ -20,12 +20,20 @@ pub fn expect_next<R: AllocGlobal + Threads + Wait + Sync + Abort>(
     ensures { (disk_of_store store.new).out ≡ 0 }
 {
     let script = "client 1/begin/commit/begin/get 5/commit/";
-    let value = if found { "= hi" } else { "absent" };
+    let (txn, value) = (
+        "txn 1 client 1 committed/",
+        if found { "= hi" } else { "absent" },
+    );
     let next = epoch.saturating_add(1);
-    let told = format!(in rt.alloc();
-        "epoch {epoch}/txn 1 client 1 committed/epoch {next}/txn 1 client 1 committed/get 5 {value}/"
-    ).expect(rt, "memory");
-    expect(rt, store, RUN, script, 0, told.as_str());
+    let told = format!(in rt.alloc(); "epoch {epoch}/{txn}epoch {next}/{txn}get 5 {value}/");
+    expect(
+        rt,
+        store,
+        RUN,
+        script,
+        0,
+        told.expect(rt, "memory").as_str(),
+    );
 }
 
 // Whether an epoch has ended that makes so many writes and syncs, the last two of which are its
@@ -55,9 +63,8 @@ fn steps_of<R: AllocGlobal + Threads + Wait + Sync + Abort>(
     epoch: u64,
 ) -> usize {
     let mut copy = left_after(rt, store, END, None);
-    let told = format!(in rt.alloc(); "epoch {epoch}/txn 1 client 1 committed/").expect(
-        rt, "memory",
-    );
+    let told = format!(in rt.alloc(); "epoch {epoch}/txn 1 client 1 committed/");
+    let told = told.expect(rt, "memory");
     expect(
         rt,
         &mut copy,
@@ -168,8 +175,8 @@ pub fn behind_crash<R: AllocGlobal + Threads + Wait + Sync + Abort>(
     next_of(rt, left, 1 + ended as u64, ended, false)
 }
 
-/// Tries the crashes of a next run at each moment with each filling, but for as many as are left
-/// out between two; and counts those that it comes by, from this number on.
+/// Tries the crashes of a next run, at each moment with each filling: those before all of it, and
+/// of the others each time the one behind so many. Counts all, from this number on.
 pub fn expect_thirds<R: AllocGlobal + Threads + Wait + Sync + Abort>(
     rt: &R,
     next: &Next,
@@ -179,7 +186,7 @@ pub fn expect_thirds<R: AllocGlobal + Threads + Wait + Sync + Abort>(
     let mut cases = from;
     for moment in 0..next.all.saturating_add(1) {
         for n in 0..3 {
-            if cases.checked_rem(every) == Some(0) {
+            if moment == 0 || cases.checked_rem(every).unwrap_or(0) == 0 {
                 expect_third(rt, next, moment, filling_of(n));
             }
             cases = cases.wrapping_add(1);
@@ -188,14 +195,23 @@ pub fn expect_thirds<R: AllocGlobal + Threads + Wait + Sync + Abort>(
     cases
 }
 
-// Behind each failing call every eleventh crash of the next run.
+// Behind each failing write and sync what a crash leaves at once, and every eleventh crash of the
+// next run.
 #[test]
-fn a_crash_behind_a_failing_call_loses_no_epoch(rt: HostRuntime) {
+fn each_failing_call_is_told_and_no_epoch_lost(rt: HostRuntime) {
     let mut cases: u64 = 0;
     for call in 0..CALLS {
         cases = expect_thirds(&rt, &behind_call(&rt, call), 11, cases);
     }
     assert!(&rt; cases > 18_000);
+}
+
+#[test]
+fn a_crash_at_each_moment_leaves_one_of_two_epochs(rt: HostRuntime) {
+    let ran = ran(&rt);
+    for image in 0..IMAGES {
+        behind_crash(&rt, &ran, image);
+    }
 }
 
 // The next number of a row, below this one.

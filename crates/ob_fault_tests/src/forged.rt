@@ -13,8 +13,8 @@ use std::process::Abort;
 use std::sync::Wait;
 use std::thread::Threads;
 
-// Which store it is: a new one of 8 keys; a new one of 4, whose stash may keep one row; one of 8 and
-// one of a single key where a record is open; and one behind an epoch that put key 5.
+// Which store it is: a new one of 8 keys; a new one of 4, whose stash may keep one row; one of 8
+// and one of a single key where a record is open; and one behind an epoch that put key 5.
 #[derive(Clone, Copy)]
 enum Base {
     New,
@@ -134,9 +134,9 @@ fn a_head_keeps_to_its_ranges(rt: HostRuntime) {
     }
 }
 
-// Cells of a checkpoint: its epoch; its counter; whether a key is present, and its leaf; a bucket's
-// home, key, rank, mark of a key and of none, and three marks; how many rows, in three ways; a row's
-// key and length.
+// Cells of a checkpoint: its epoch; its counter; whether a key is present, and its leaf; a
+// bucket's home, key, rank, mark of a key and of none, and three marks; how many rows, in three
+// ways; a row's key and length.
 static CHECKPOINTS: [Row; 15] = [
     (Base::Ended, Seal(28, 0, 9, 8), N, N, N, Damaged(28, Epoch)),
     (Base::Ended, Seal(28, 8, 4, 8), N, N, N, Damaged(28, Form)),
