@@ -2,19 +2,17 @@
 
 /// Events by their names, in the order in which they come: a `/` stands for the end of a line.
 ///
-/// A format; the reads of an opening; an opening, and one behind another. Then an epoch of two
-/// batches of pads, on a tape of zeros: the record of its first batch up to the write of its gate,
-/// and whole; that batch; the record of the second one; that batch and the final lifts. What is
-/// written at the epoch's end: its first slot, and all. The epoch's register: its body; a sync
-/// behind that; its gate; a sync behind that. Then the epoch behind it, whose first batch asks for
-/// key 5, which was put at the end of the first; and the same where the put's word was 1.
+/// A format; an opening, and one behind another. Then an epoch of two batches of pads, on a tape
+/// of zeros: the record of its first batch up to the write of its gate, and whole; that batch; the
+/// record of the second one; that batch and the final lifts. What is written at the epoch's end:
+/// its first slot, and all. The epoch's register: its body; a sync behind that; its gate; a sync
+/// behind that. Then the epoch behind it, whose first batch asks for key 5, which was put at the end
+/// of the first; and the same where the put's word was 1.
 pub static EVENTS: &str = "\
     format: W 0/S/W 2/W 4/W 6/W 8/W 10/W 12/W 14/W 16/S/W 4/S/W 3/S/W 4/S/W 39/W 40/W 41/W 42/\
     W 43/W 44/W 45/W 46/W 47/W 48/W 49/W 50/W 51/W 52/W 53/W 54/W 55/W 56/W 57/W 58/W 59/W 60/\
     W 61/W 62/W 63/W 64/W 65/W 66/W 67/W 68/W 69/W 70/W 71/W 72/W 73/W 17/W 18/W 19/W 20/W 21/\
     W 22/W 23/W 24/W 25/W 26/W 27/S/W 6/S/W 5/S/W 6/S/W 0/S/\n\
-    reads: R 0/R 1/R 2/R 3/R 4/R 5/R 6/R 7/R 8/R 17/R 18/R 19/R 20/R 21/R 22/R 23/R 24/R 25/\
-    R 26/R 27/R 13/R 14/R 15/R 16/\n\
     opening: R 0/R 1/R 2/R 3/R 4/R 5/R 6/R 7/R 8/R 17/R 18/R 19/R 20/R 21/R 22/R 23/R 24/R 25/\
     R 26/R 27/R 13/R 14/R 15/R 16/S/W 1/S/W 2/S/\n\
     again: R 0/R 1/R 2/R 3/R 4/R 5/R 6/R 7/R 8/R 17/R 18/R 19/R 20/R 21/R 22/R 23/R 24/R 25/\

@@ -1,5 +1,4 @@
-//! Lives of ring stores, call by call of the top: outputs, statuses and events, faults, damage and
-//! crashes.
+//! Lives of ring stores, call by call of the top: outputs, statuses and events.
 #![tactic(auto)]
 
 #[cfg(test)]
@@ -9,8 +8,6 @@ mod drills;
 #[cfg(test)]
 mod events;
 #[cfg(test)]
-mod faults;
-#[cfg(test)]
 mod lanes;
 #[cfg(test)]
 mod noting;
@@ -18,6 +15,8 @@ mod noting;
 mod playing;
 #[cfg(test)]
 mod shown;
+#[cfg(test)]
+mod stash;
 #[cfg(test)]
 mod two_epochs;
 #[cfg(test)]

@@ -25,8 +25,8 @@ const KEYS: &str = "\
 /// Room for each output.
 pub const WIDE: usize = 1000;
 
-/// The moment behind all calls.
-pub const END: usize = 1000;
+// The moment behind all calls.
+const END: usize = 1000;
 
 /// The cells of a store of 8 keys.
 pub const CELLS: usize = 109;
@@ -101,9 +101,9 @@ pub fn expect<R: AllocGlobal + Threads + Wait + Sync + Abort, S: Lanes>(
     assert!(rt; told.written() == lines_of(rt, output).as_bytes(), "{call}");
 }
 
-/// What a crash at this moment leaves of a store of at most 109 cells: in those that aren't sure
-/// what they got last, or this byte throughout.
-pub fn left_after<R: AllocGlobal + Abort>(
+// What a crash at this moment leaves of a store of at most 109 cells: in those that aren't sure
+// what they got last, or this byte throughout.
+fn left_after<R: AllocGlobal + Abort>(
     rt: &R,
     store: &Noting,
     moment: usize,

@@ -128,13 +128,7 @@ fn a_refused_run_shows_what_its_fault_allows(rt: HostRuntime) {
     }
 }
 
-// A row of the checkpoint is damaged, a slot of the first batch, or one of the lifts; and two slots
-// of one batch, of which that is told which is read first.
-const DAMAGED_ROW: &str = "\
-    format S K 8 2 2 3 2 2 2 2 8 <  -> 0 store of 109 cells/\n\
-    flip 17\n\
-    run S K < client 1/begin/commit -> 4 fault: damaged cell 17 tag/";
-
+// A slot of the first batch is damaged, or one of the lifts: the other reads of its phase are made.
 const DAMAGED: &str = "\
     format S K 8 2 2 3 2 2 2 2 8 <  -> 0 store of 109 cells/\n\
     flip 41\n\
@@ -147,14 +141,7 @@ const DAMAGED_LIFT: &str = "\
     run S K < client 1/begin/commit -> 4 fault: damaged cell 49 tag/\n\
     asked format opening record batch second lifts";
 
-const DAMAGED_TWICE: &str = "\
-    format S K 8 2 2 3 2 2 2 2 8 <  -> 0 store of 109 cells/\n\
-    flip 42\n\
-    flip 56\n\
-    run S K < client 1/begin/commit -> 4 fault: damaged cell 56 tag/\n\
-    asked format opening record batch";
-
 #[test]
-fn what_is_read_first_of_what_is_damaged_is_told(rt: HostRuntime) {
-    play_all(&rt, &[DAMAGED_ROW, DAMAGED, DAMAGED_LIFT, DAMAGED_TWICE]);
+fn a_phase_is_read_whole_where_a_cell_is_damaged(rt: HostRuntime) {
+    play_all(&rt, &[DAMAGED, DAMAGED_LIFT]);
 }
