@@ -1,0 +1,6 @@
+pub mod Rows
+pub mod Tape
+pub mod Agree
+pub mod Free
+pub mod Both
+pub mod Denied

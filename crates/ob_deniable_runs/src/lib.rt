@@ -1,0 +1,9 @@
+//! Whatever other work of the same public shape had been done over all runs of a store, one tape
+//! could have shown just this. Laws over lives of a ring store; nothing here runs.
+#![tactic(auto)]
+
+mod runs;
+mod tapes;
+
+pub use runs::runs_are_deniable;
+pub use tapes::tapes_exchange;
