@@ -1,14 +1,14 @@
 -- Two tapes that agree in the words of records and of puts have the same lives, in which the same holes are filled with the same.
-use Rattle.std.specs.Prelude.{◌≡◌, ℕ, ◌+◌, ◌-◌, ◌^◌, ◌%◌, ◌==◌, Bool, true, false, cond, List, [], ◌∷◌, ◌++◌, map, Option, ⊤}
+use Rattle.std.specs.Prelude.{◌≡◌, ℕ, ◌+◌, ◌-◌, ◌^◌, ◌%◌, ◌==◌, false, cond, List, [], ◌∷◌, ◌++◌, map, Option, ⊤}
 use Rattle.std.specs.declared.option.Option.TheVariants.{None, Some}
 use Rattle.std.proofs.Common.{zero, suc, refl, sym, ap, subst, ◌∙◌, inl, inr}
 use Rattle.ob_base.specs.declared.params.Params.{Params}
 use Rattle.ob_ring.specs.FlatTable.{FlatTable, FinalLifts, Writes, Refill, after, after_batch, after_label, asks_for, batch_shown, final_shown, shown_label}
 use Rattle.ob_schedule.specs.Paths.{eviction_path}
-use Rattle.ob_recover.specs.Life.{WordId, LifeAct, LifeBatch, LifeContent, LifeState, Open, Append, ShowBatch, ShowLifts, End, LabelFill, SlotFill, IsActAllowed, IsLife, batch_places, book_after, book_after_log, book_now, book_written, is_table_lifted, labels_of, labels_shown, leaf_of_put, leaf_of_word, leaf_write, leaves, life_step}
-use Rattle.ob_recover.specs.Life.{lift_slots, log_labels, log_slots, phase_labels, phase_slots, planned_labels, planned_slots, slots_of, slots_shown, table_after, table_now}
+use Rattle.ob_recover.specs.Life.{WordId, LifeAct, LifeBatch, LifeContent, LifeState, Open, Append, ShowBatch, ShowLifts, End, LabelFill, SlotFill, IsActAllowed, IsLife, batch_places, book_after, book_after_log, book_now, book_written, labels_of, labels_shown, leaf_of_put, leaf_write, leaves, life_step}
+use Rattle.ob_recover.specs.Life.{lift_slots, log_labels, log_slots, phase_labels, phase_slots, planned_slots, slots_of, slots_shown, table_after, table_now}
 use Rattle.ob_recover.proofs.LabelLaws.{label_from, put_from, rebound_from}
-use Rattle.ob_deniable.specs.Telling.{ActFills, LeafFill, fills_of_acts, leaf_fill}
+use Rattle.ob_deniable.specs.Telling.{ActFills, fills_of_acts, leaf_fill}
 use Rattle.ob_deniable.proofs.Shapes.{drawn_any}
 
 module _ (p : Params) (w w' : WordId → ℕ) where

@@ -1,17 +1,14 @@
 -- Both works side by side: the other draws its words in turn, and the slots of its versions are the ranks of words that moved.
-use Rattle.std.specs.Prelude.{◌≡◌, ℕ, ◌+◌, ◌*◌, ◌<◌, ◌≤◌, ◌==◌, Bool, true, cond, List, [], ◌∷◌, ◌++◌, filter, length, map, slice_index, Option}
+use Rattle.std.specs.Prelude.{◌≡◌, ℕ, ◌+◌, ◌*◌, ◌<◌, ◌==◌, Bool, true, cond, List, [], ◌∷◌, filter, length, map, slice_index, Option}
 use Rattle.std.specs.List.{position_or_len}
 use Rattle.std.proofs.Common.{arith, refl, sym, ap, subst, ◌∙◌, inr}
-use Rattle.std.proofs.lemmas.List.{length-map}
 use Rattle.std.proofs.lemmas.List.FromFn.{get_or-map-range_with_len, length-map-range_with_len}
 use Rattle.ob_base.specs.declared.params.Params.{Params}
 use Rattle.ob_base.specs.Repeats.{Has}
-use Rattle.ob_base.specs.Tree.{buckets, width}
+use Rattle.ob_base.specs.Tree.{width}
 use Rattle.ob_tables.specs.Rank.{rank, ranks_of}
-use Rattle.ob_ring.specs.FlatTable.{FinalLifts, after}
 use Rattle.ob_schedule.specs.Paths.{by_falling_level}
 use Rattle.ob_recover.specs.Life.{WordId, LifeBatch, LifeState, Open, Append, ShowBatch, ShowLifts, End, LabelFill, IsLife, book_now, is_table_lifted, labels_shown, life_step, table_now}
-use Rattle.ob_recover.proofs.LifeSlots.{AreSlotsSound}
 use Rattle.ob_deniable.specs.Moved.{AreMoved, HasNoTie, PermutesBelow}
 use Rattle.ob_deniable.specs.Telling.{ActFills, LeafFill, fills_of_acts, leaf_fill}
 use Rattle.ob_deniable.specs.Works.{LifeWork, Opens, Logs, Shows, Lifts, Ends, VersionSlots, SameShape, acts_of, slots_moved}

@@ -17,10 +17,10 @@ use Rattle.ob_deniable_runs.proofs.Both.{both, version_ranked, version_untied}
 use Rattle.ob_deniable_runs.proofs.Free.{acts_agree, first_writes, other_writes}
 use Rattle.ob_deniable_runs.proofs.Rows.{Keeps, all_apart, all_blocks, all_has, at_format, formatted, formatted_has}
 use Rattle.ob_deniable_runs.proofs.Tape.{block_word, free_base, some_word, tape_by}
-use Rattle.ob_fresh.specs.Drawn.{AreRanksFrom, AreWordsInTurn, AllDrawNext, formatted_words, words_on}
-use Rattle.ob_fresh.proofs.Blocks.{AreApart, Block, IsFree}
+use Rattle.ob_fresh.specs.Drawn.{AreWordsInTurn, AllDrawNext, formatted_words, words_on}
+use Rattle.ob_fresh.proofs.Blocks.{AreApart, Block}
 use Rattle.ob_tables.specs.Rank.{IsRanking}
-use Rattle.ob_recover.specs.Life.{WordId, IsLife, LifeAct, LifeState, Open, Append, ShowBatch, ShowLifts, End, formatted_life}
+use Rattle.ob_recover.specs.Life.{WordId, IsLife, LifeAct, LifeState, formatted_life}
 use Rattle.ob_store.specs.Disk.{Disk}
 
 module _ (p : Params) (tape : WordId → ℕ) (slots : VersionSlots) (one other : List LifeWork) (some : 0 < p.dummies) (done : IsDoneOn p tape slots one) (sh : SameShape one other) (puts : ArePutsInTurn p other) where

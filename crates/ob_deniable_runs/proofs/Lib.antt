@@ -4,3 +4,4 @@ pub mod Agree
 pub mod Free
 pub mod Both
 pub mod Denied
+pub mod Sampling

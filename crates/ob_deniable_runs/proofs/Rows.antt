@@ -1,8 +1,7 @@
 -- The words of all versions that a life fills: apart, and free of each word that is drawn for anything else.
-use Rattle.std.specs.Prelude.{◌≡◌, ℕ, ◌+◌, ◌*◌, ◌-◌, ◌^◌, ◌<◌, ◌≤◌, nat_le, Bool, true, false, ◌||◌, List, [], ◌∷◌, ◌++◌, map, length, Option}
+use Rattle.std.specs.Prelude.{◌≡◌, ℕ, ◌+◌, ◌*◌, ◌-◌, ◌^◌, ◌<◌, ◌≤◌, nat_le, true, false, ◌||◌, List, [], ◌∷◌, ◌++◌, map, length, Option}
 use Rattle.std.proofs.Common.{arith, refl, sym, ap, subst, ◌∙◌, inl, inr}
 use Rattle.std.proofs.lemmas.Bool.{cases_lt, or_cases, leb-true}
-use Rattle.std.proofs.lemmas.Nat.{pow_pos}
 use Rattle.ob_base.specs.declared.params.Params.{Params}
 use Rattle.ob_base.specs.Repeats.{Has}
 use Rattle.ob_base.specs.Tree.{below, buckets, width}
@@ -17,7 +16,7 @@ use Rattle.ob_recover.proofs.FreshLaws.{labels_formatted, slots_formatted}
 use Rattle.ob_recover.proofs.LabelLaws.{IsOlder, not_older, older_yet}
 use Rattle.ob_recover.proofs.LifeLabels.{AreLabelsApart, labels_step, newer}
 use Rattle.ob_recover.proofs.LifeSlots.{AreSlotsSound, slots_keep}
-use Rattle.ob_fresh.specs.Drawn.{WordsKept, AllDrawNext, AreRanksFrom, AreWordsInTurn, DrawsNext, formatted_words, refilled, words_on, words_step}
+use Rattle.ob_fresh.specs.Drawn.{WordsKept, AllDrawNext, AreRanksFrom, DrawsNext, formatted_words, refilled, words_on, words_step}
 use Rattle.ob_fresh.proofs.Blocks.{AreApart, AreBlocksOf, Block, IsFree}
 use Rattle.ob_fresh.proofs.Listed.{has_mapped, has_range, mapped_has, range_has, row_within, rows_apart}
 use Rattle.ob_fresh.proofs.Moves.{block_anew, blocks_keep, blocks_stay, blocks_step}

@@ -1,5 +1,5 @@
 -- Whatever other work had been done over a row of runs, the store could have seen just this.
-use Rattle.std.specs.Prelude.{◌≡◌, ℕ, ◌<◌, List, map}
+use Rattle.std.specs.Prelude.{ℕ, ◌<◌, List, map}
 use Rattle.ob_base.specs.declared.params.Params.{Params}
 use Rattle.ob_deniable.specs.Telling.{fills_of_acts}
 use Rattle.ob_deniable.specs.Works.{LifeWork, Opens, Logs, Shows, Lifts, Ends, SameShape}

@@ -6,4 +6,4 @@ mod runs;
 mod tapes;
 
 pub use runs::runs_are_deniable;
-pub use tapes::tapes_exchange;
+pub use tapes::{sampled, tapes_exchange};
