@@ -4,4 +4,5 @@ pub mod Agree
 pub mod Free
 pub mod Both
 pub mod Denied
+pub mod Calling
 pub mod Sampling

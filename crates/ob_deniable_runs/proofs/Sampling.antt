@@ -46,9 +46,9 @@ rising_ranks first j low =
     below_it j low
     ∙ count_same (λ i. nat_lt i j) (λ i. comes_before (slice_index (version_words p0 rising first) i) i (slice_index (version_words p0 rising first) j) j) (range_with_len 0 5)
     (λ i h. (
-        let in' = range_has 0 5 i h in
-        let here : i < 5 = omega (arith, in'.1) in
-        sym (before_rising (first.generation * 101 + first.place) i j) ∙ (λ t. comes_before (sym (word_in first i here) t) i (sym (word_in first j low) t) j)))
+    let in' = range_has 0 5 i h in
+    let here : i < 5 = omega (arith, in'.1) in
+    sym (before_rising (first.generation * 101 + first.place) i j) ∙ (λ t. comes_before (sym (word_in first i here) t) i (sym (word_in first j low) t) j)))
 
 -- ---- a key beside pads
 

@@ -1,3 +1,4 @@
 pub mod Tapes
 pub mod RunsDenied
+pub mod OtherCalls
 pub mod Samples

@@ -5,5 +5,5 @@
 mod runs;
 mod tapes;
 
-pub use runs::runs_are_deniable;
+pub use runs::{calls_are_deniable, runs_are_deniable};
 pub use tapes::{sampled, tapes_exchange};
