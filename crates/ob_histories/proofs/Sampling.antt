@@ -82,6 +82,10 @@ next_slot : (slot : ℕ → ℕ → ℕ → ℕ) → drop 38 (run_notes small (s
 unfolding log_cells record_cells checkpoint_cells checkpoint_len buckets home_cells
 next_slot slot = let e : 39 + (20 + slot 4 0 1) ≡ 59 + slot 4 0 1 = omega arith in ap (λ (c : ℕ). Read c ∷ []) e
 
+root_slot : (slot : ℕ → ℕ → ℕ → ℕ) → take 1 (drop 36 (run_notes small (s.one_leaf slot) s.next_slot_run)) ≡ Read (74 + slot 0 1 0) ∷ []
+unfolding log_cells record_cells checkpoint_cells checkpoint_len buckets home_cells
+root_slot slot = let e : 74 + (0 + slot 0 1 0) ≡ 74 + slot 0 1 0 = omega arith in ap (λ (c : ℕ). Read c ∷ []) e
+
 found : AreRunsBehind small s.sample_fills None (s.first_run ∷ s.second_run ∷ [])
 unfolding log_cells record_cells checkpoint_cells checkpoint_len buckets home_cells
 found = (refl, ((refl, refl, (refl, refl, refl)), tt))
@@ -142,5 +146,6 @@ sampled = record {
   no_other_leaf = no_other_leaf;
   first_slot = first_slot;
   next_slot = next_slot;
+  root_slot = root_slot;
   no_slot_twice = λ slot all same. (let twice : 0 ≡ 1 = all.apart 4 0 0 1 (omega arith) (omega arith) same in omega (arith, twice));
 }

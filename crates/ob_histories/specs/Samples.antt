@@ -92,7 +92,7 @@ found_batch = record { epoch = 0; generation = 2; records = 1; generation_gate =
 abbrev pub again_run : HistoryRun
 again_run = record { found = found_batch; steps = 1; shown = 1 }
 
--- each epoch's first place shows leaf 1, whose path has bucket 4
+-- each epoch's first place shows leaf 1, whose path has buckets 0, 1 and 4
 abbrev pub one_leaf : (ℕ → ℕ → ℕ → ℕ) → AllFills
 one_leaf slot = record { leaf = λ epoch batch place. cond (batch + place == 0) 1 0; slot = slot }
 
@@ -123,4 +123,6 @@ pub record Sampled : Type 0 where
   -- a bucket that no epoch filled shows another slot in the next one
   pub first_slot : (slot : ℕ → ℕ → ℕ → ℕ) → drop 36 (run_notes p (one_leaf slot) slot_run) ≡ Read (59 + slot 4 0 0) ∷ []
   pub next_slot : (slot : ℕ → ℕ → ℕ → ℕ) → drop 38 (run_notes p (one_leaf slot) next_slot_run) ≡ Read (59 + slot 4 0 1) ∷ []
+  -- the root, which each end fills anew, has its new version's first slot
+  pub root_slot : (slot : ℕ → ℕ → ℕ → ℕ) → take 1 (drop 36 (run_notes p (one_leaf slot) next_slot_run)) ≡ Read (74 + slot 0 1 0) ∷ []
   pub no_slot_twice : (slot : ℕ → ℕ → ℕ → ℕ) → AreAllFills p (one_leaf slot) → slot 4 0 0 ≡ slot 4 0 1 → ⊥
