@@ -96,7 +96,7 @@ module _ (p : Params) (f : AllFills) (all : AreAllFills p f) where
 
 -- ---- a format
 
-abbrev formatting : Params → Bool → List Want → Follow
+abbrev pub formatting : Params → Bool → List Want → Follow
 formatting p formatted wants =
     record { params = p; formatted = formatted; runs = false; stands = standing_formatted; newer = None; chosen = false; batch = 0; leaves = []; holes = []; wants = wants }
 
@@ -128,7 +128,7 @@ format_taken p [] some = absurd (omega (arith, some))
 format_taken p (note ∷ notes) some = format_whole p note notes
 
 -- a whole format is found as it is
-formatted_stands : (p : Params) (f : AllFills) → Stands p f found_formatted standing_formatted
+pub formatted_stands : (p : Params) (f : AllFills) → Stands p f found_formatted standing_formatted
 formatted_stands p f = (
   record {
     side = refl;
@@ -147,7 +147,7 @@ format_found : (p : Params) (f : AllFills) (y : RunFound) → y ≡ found_format
 format_found p f y is = (refl, (refl, subst (λ (x : RunFound). Stands p f x standing_formatted) (sym is) (formatted_stands p f)))
 
 -- runs behind a cut format read the head at most
-cut_opened : (h : Follow) → h.formatted ≡ false → (g : Follow) → opened h ≡ record h { runs = false; holes = []; wants = kept head_notes }
+pub cut_opened : (h : Follow) → h.formatted ≡ false → (g : Follow) → opened h ≡ record h { runs = false; holes = []; wants = kept head_notes }
 cut_opened h cut g = λ i. cond (cut i)
     (record h { runs = true; chosen = false; batch = 0; leaves = []; holes = []; wants = opened_wants h.params h.stands h.newer }) (record h { runs = false; holes = []; wants = kept head_notes })
 
@@ -156,7 +156,7 @@ head_taken h zero cut = (record h { runs = false; holes = []; wants = kept head_
 head_taken h (suc zero) cut = (record h { runs = false; holes = []; wants = [] }, ((record h { runs = false; holes = []; wants = [] }, (refl, refl), refl), cut))
 head_taken h (suc (suc n)) cut = (record h { runs = false; holes = []; wants = [] }, ((record h { runs = false; holes = []; wants = [] }, (refl, refl), refl), cut))
 
-abbrev head_lines : ℕ → List Line
+abbrev pub head_lines : ℕ → List Line
 head_lines head = L.Open ∷ lines_of_notes (take head head_notes)
 
 heads_taken : (h : Follow) (heads : List ℕ) → h.formatted ≡ false → (g : Follow) × TakesLines h (flat_map head_lines heads) g

@@ -61,7 +61,7 @@ abbrev pub before : Params → AllFills → HistoryTurn → StandingKnown → Fo
 before p f t s = taken_up (at p s t.batch (leaves_of_batches p f (suc t.epoch) t.batch) [] [])
 
 -- wants that are there
-up_some : (p : Params) (s : StandingKnown) (c : ℕ) (ls : List ℕ) (wants ws : List Want) (w : Want) → wants ≡ w ∷ ws → at p s c ls [] wants ≡ taken_up (at p s c ls [] wants)
+pub up_some : (p : Params) (s : StandingKnown) (c : ℕ) (ls : List ℕ) (wants ws : List Want) (w : Want) → wants ≡ w ∷ ws → at p s c ls [] wants ≡ taken_up (at p s c ls [] wants)
 up_some p s c ls wants ws w is = ap (λ (xs : List Want). at p s c ls [] xs) is ∙ ap (λ (xs : List Want). taken_up (at p s c ls [] xs)) (sym is)
 
 less_one : (n : ℕ) → 1 ≤ n → n ≡ suc (n - 1)
@@ -74,13 +74,13 @@ none_open batch (suc zero) records two left = absurd (omega (arith, two))
 none_open batch (suc (suc n)) records two left = left
 
 module _ (p : Params) (f : AllFills) (all : AreAllFills p f) (t : HistoryTurn) (generation : ℕ) (low : t.batch < p.batches) where
-  abbrev leaves_before : List ℕ
+  abbrev pub leaves_before : List ℕ
   leaves_before = leaves_of_batches p f (suc t.epoch) t.batch
 
-  abbrev leaves_now : List ℕ
+  abbrev pub leaves_now : List ℕ
   leaves_now = batch_leaves p (fills_at p f t.epoch) t.batch
 
-  abbrev phase : List Note
+  abbrev pub phase : List Note
   phase = phase_notes p (public_after p f t.epoch t.batch) (fills_at p f t.epoch) leaves_now
 
   abbrev Rest : Type 0
@@ -107,30 +107,30 @@ module _ (p : Params) (f : AllFills) (all : AreAllFills p f) (t : HistoryTurn) (
       (stops.0, (stops.1.0, subst (λ (o : Option StandingKnown). Allows p f y h.stands o) (sym stops.1.1.0) (is_there r y h.stands same is may few stops.1.1.1)))
 
   -- the step's wants are taken up
-  loaded : (s : StandingKnown) (wants : List Want)
+  pub loaded : (s : StandingKnown) (wants : List Want)
       → cond (nat_lt t.batch s.logged) (places p t.batch) (cond ((t.batch == s.logged) && s.maybe) (Record t.batch ∷ []) (record_wants p (other s.epoch) t.batch ++ places p t.batch)) ≡ wants
       → before p f t s ≡ at p s (t.batch + 1) leaves_before [] wants
   loaded s wants are = λ i. cond (lt-ltb t.batch p.batches low i) (at p s (t.batch + 1) leaves_before [] (are i)) (at p s t.batch leaves_before (end_holes p s leaves_before) (end_wants p s leaves_before))
 
-  abbrev many : ℕ
+  abbrev pub many : ℕ
   many = p.places - 1
 
-  all_places : p.places ≡ suc many
+  pub all_places : p.places ≡ suc many
   all_places = less_one p.places p.in_range.some_places
 
-  abbrev first_places : List Want
+  abbrev pub first_places : List Want
   first_places = map (λ j. Place t.batch j) (range_with_len 0 (suc many))
 
-  are_places : places p t.batch ≡ first_places
+  pub are_places : places p t.batch ≡ first_places
   are_places = ap (λ (n : ℕ). map (λ j. Place t.batch j) (range_with_len 0 n)) all_places
 
-  abbrev place_lists : Rest → List Note
+  abbrev pub place_lists : Rest → List Note
   place_lists r = flat_map (place_notes p f all t.epoch r t.batch) (range_with_len 0 (suc many))
 
-  are_notes : (r : Rest) → place_lists r ≡ phase
+  pub are_notes : (r : Rest) → place_lists r ≡ phase
   are_notes r = sym (ap (λ (n : ℕ). flat_map (place_notes p f all t.epoch r t.batch) (range_with_len 0 n)) (length-map-range_with_len (f.leaf (suc t.epoch) t.batch) 0 p.places ∙ all_places))
 
-  begun : leaves_before ≡ leaves_before ++ take 0 leaves_now
+  pub begun : leaves_before ≡ leaves_before ++ take 0 leaves_now
   begun = sym (append-nil leaves_before)
 
   -- the batch's places, from a state in which they are wanted
@@ -238,40 +238,40 @@ module _ (p : Params) (f : AllFills) (all : AreAllFills p f) (t : HistoryTurn) (
 
   -- ---- a batch that is begun
 
-  abbrev area : StandingKnown → ℕ
+  abbrev pub area : StandingKnown → ℕ
   area s = side_number (other s.epoch)
 
   abbrev cells : ℕ → ℕ → List Note
   cells from n = writes_of (map (log_cell p 0 t.batch) (range_with_len from n))
 
-  abbrev some_writes : StandingKnown → ℕ → ℕ → List Note
+  abbrev pub some_writes : StandingKnown → ℕ → ℕ → List Note
   some_writes s from n = writes_of (map (log_cell p (area s) t.batch) (range_with_len from n))
 
-  abbrev parts : ℕ
+  abbrev pub parts : ℕ
   parts = record_cells p - 1
 
   all_parts : record_cells p ≡ suc parts
   all_parts = less_one (record_cells p) (some_cells p)
 
-  abbrev gate_wants : StandingKnown → List Want
+  abbrev pub gate_wants : StandingKnown → List Want
   gate_wants s = Fixed Sync Keeps ∷ Fixed (Write (log_gate p (area s) t.batch)) MayLog ∷ Fixed Sync Logs ∷ []
 
-  abbrev gate_notes : StandingKnown → List Note
+  abbrev pub gate_notes : StandingKnown → List Note
   gate_notes s = Sync ∷ Write (log_gate p (area s) t.batch) ∷ Sync ∷ []
 
   -- what is wanted behind the record's first cell
-  abbrev more_wants : StandingKnown → List Want
+  abbrev pub more_wants : StandingKnown → List Want
   more_wants s = kept (some_writes s 1 parts) ++ (gate_wants s ++ places p t.batch)
 
-  split_wants : (s : StandingKnown) → record_wants p (other s.epoch) t.batch ++ places p t.batch ≡ Fixed (Write (log_cell p (area s) t.batch 0)) Keeps ∷ more_wants s
+  pub split_wants : (s : StandingKnown) → record_wants p (other s.epoch) t.batch ++ places p t.batch ≡ Fixed (Write (log_cell p (area s) t.batch 0)) Keeps ∷ more_wants s
   split_wants s =
       ap (λ (n : ℕ). (kept (some_writes s 0 n) ++ gate_wants s) ++ places p t.batch) all_parts
       ∙ append_assoc (kept (some_writes s 0 (suc parts))) (gate_wants s) (places p t.batch)
 
-  abbrev record_lists : StandingKnown → List Note
+  abbrev pub record_lists : StandingKnown → List Note
   record_lists s = Write (log_cell p (area s) t.batch 0) ∷ (some_writes s 1 parts ++ gate_notes s)
 
-  are_record : (s : StandingKnown) → record_lists s ≡ record_notes p (area s) t.batch
+  pub are_record : (s : StandingKnown) → record_lists s ≡ record_notes p (area s) t.batch
   are_record s = sym (ap (λ (n : ℕ). some_writes s 0 n ++ gate_notes s) all_parts)
 
   -- by what the record lacks
@@ -279,7 +279,7 @@ module _ (p : Params) (f : AllFills) (all : AreAllFills p f) (t : HistoryTurn) (
   Begun k h = (y : RunFound) → IsThere t generation y → AreRecordsLeft t.batch k y.records → Stops p (Allows p f y) h
 
   -- the record's standing: so many are sure, and one more may be open
-  abbrev logs : StandingKnown → ℕ → Bool → StandingKnown
+  abbrev pub logs : StandingKnown → ℕ → Bool → StandingKnown
   logs s logged maybe = record s { logged = logged; maybe = maybe }
 
   begun_stop : (s : StandingKnown) (logged : ℕ) (maybe : Bool) (wants : List Want) (y : RunFound) → Holds p f s t.epoch → IsSame (rest_of s) → IsThere t generation y → RecordsMay logged maybe y.records → y.records ≤ p.batches
@@ -341,7 +341,7 @@ module _ (p : Params) (f : AllFills) (all : AreAllFills p f) (t : HistoryTurn) (
   abbrev record_end : StandingKnown → Follow
   record_end s = taken_up (at p (logs s (t.batch + 1) false) (t.batch + 1) leaves_before [] (places p t.batch))
 
-  abbrev record_next : StandingKnown → Follow
+  abbrev pub record_next : StandingKnown → Follow
   record_next s = taken_up (at p (logs s t.batch false) (t.batch + 1) leaves_before [] (more_wants s))
 
   record_stop : (s : StandingKnown) (wants : List Want) → AtTurn p f t generation s → s.logged ≡ t.batch → Begun (suc (length (rest_notes s))) (at p s (t.batch + 1) leaves_before [] wants)
@@ -349,7 +349,7 @@ module _ (p : Params) (f : AllFills) (all : AreAllFills p f) (t : HistoryTurn) (
       let none : y.records ≡ t.batch = none_open t.batch (suc (length (rest_notes s))) y.records (omega (arith, length-append (some_writes s 1 parts) (gate_notes s))) left in
       (refl, (refl, is_there (rest_of s) y s (is.side, (is.generation_gate, is.epoch_gate)) there (inl (none ∙ sym logged)) (omega (arith, none, low)) (is.holds, refl)))
 
-  record_wants_of : (s : StandingKnown) (maybe : Bool) → s.logged ≡ t.batch → s.maybe ≡ maybe
+  pub record_wants_of : (s : StandingKnown) (maybe : Bool) → s.logged ≡ t.batch → s.maybe ≡ maybe
       → cond (nat_lt t.batch s.logged) (places p t.batch) (cond ((t.batch == s.logged) && s.maybe) (Record t.batch ∷ []) (record_wants p (other s.epoch) t.batch ++ places p t.batch))
       ≡ cond maybe (Record t.batch ∷ []) (Fixed (Write (log_cell p (area s) t.batch 0)) Keeps ∷ more_wants s)
   record_wants_of s maybe logged is =
@@ -376,7 +376,7 @@ module _ (p : Params) (f : AllFills) (all : AreAllFills p f) (t : HistoryTurn) (
   abbrev BatchBegun : ℕ → Follow → Type 0
   BatchBegun k h = (y : RunFound) → IsThere t generation y → AreRecordsLeft t.batch (k - length phase) y.records → Stops p (Allows p f y) h
 
-  same_area : (s : StandingKnown) → Holds p f s t.epoch → area s ≡ ((public_at p f t.epoch).epoch + 1) % 2
+  pub same_area : (s : StandingKnown) → Holds p f s t.epoch → area s ≡ ((public_at p f t.epoch).epoch + 1) % 2
   same_area s holds = (let next : side_number (other s.epoch) ≡ suc t.epoch % 2 = other_side s.epoch t.epoch holds.side in next ∙ ap (λ (n : ℕ). n % 2) (sym (add-one t.epoch) ∙ ap (λ (n : ℕ). n + 1) (sym (epoch_at p f t.epoch))))
 
   pub walk_begin : (s : StandingKnown) → AtTurn p f t generation s → t.records ≤ t.batch → s.logged ≡ t.batch

@@ -12,4 +12,10 @@ pub mod Batches
 pub mod Turns
 pub mod Openings
 pub mod Admitting
+pub mod Fronts
+pub mod FrontsSets
+pub mod FrontsTurns
+pub mod FrontsEnds
+pub mod FrontsOpenings
+pub mod FrontsRuns
 pub mod Written

@@ -35,19 +35,19 @@ use Rattle.ob_histories.proofs.Batches.{AtTurn, before}
 some_parts : (x : ℕ) → 0 < x → 0 < div_ceil x 96
 some_parts x some = omega arith
 
-some_checks : (p : Params) → 0 < checkpoint_cells p
+pub some_checks : (p : Params) → 0 < checkpoint_cells p
 unfolding checkpoint_cells checkpoint_len
 some_checks p = some_parts (checkpoint_len p) (omega arith)
 
-less_one : (n : ℕ) → 0 < n → n ≡ suc (n - 1)
+pub less_one : (n : ℕ) → 0 < n → n ≡ suc (n - 1)
 less_one n some = omega (arith, some)
 
 module _ (p : Params) (f : AllFills) (x : RunFound) (h : Follow) (params : h.params ≡ p) (formatted : h.formatted ≡ true) where
   -- an opening before its sync
-  abbrev op : Bool → List Want → Follow
+  abbrev pub op : Bool → List Want → Follow
   op chosen wants = record { params = p; formatted = true; runs = true; stands = h.stands; newer = h.newer; chosen = chosen; batch = 0; leaves = []; holes = []; wants = wants }
 
-  opened_is : opened h ≡ op false (opened_wants p h.stands h.newer)
+  pub opened_is : opened h ≡ op false (opened_wants p h.stands h.newer)
   opened_is = λ i. cond (formatted i)
       (record { params = params i; formatted = formatted i; runs = true; stands = h.stands; newer = h.newer; chosen = false; batch = 0; leaves = []; holes = []; wants = opened_wants (params i) h.stands h.newer })
       (record { params = params i; formatted = formatted i; runs = false; stands = h.stands; newer = h.newer; chosen = h.chosen; batch = h.batch; leaves = h.leaves; holes = []; wants = kept head_notes })

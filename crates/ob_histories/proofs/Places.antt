@@ -44,7 +44,7 @@ InEpoch p f epoch rest s newer = (newer ≡ None) × Known p f epoch rest s
 abbrev pub Keeps : Params → AllFills → ℕ → Side × (Gate × (Gate × (ℕ × Bool))) → ℕ → Follow → Type 0
 Keeps p f epoch rest = λ lacking. Stops p (InEpoch p f epoch rest)
 
-slot_rest : (s : StandingKnown) (h : Hole) (slot : ℕ) → rest_of (with_slot s h slot) ≡ rest_of s
+pub slot_rest : (s : StandingKnown) (h : Hole) (slot : ℕ) → rest_of (with_slot s h slot) ≡ rest_of s
 slot_rest s h slot = go (s.slots h)
   where
     go : (o : Option ℕ) → rest_of (elim o [
@@ -134,7 +134,7 @@ module _ (p : Params) (f : AllFills) (all : AreAllFills p f) (epoch : ℕ) (rest
       ap (λ (xs : List ℕ). xs ++ slice_index leaves i ∷ []) is ∙ append_assoc (leaves_of_batches p f (suc epoch) b) (take i leaves) (slice_index leaves i ∷ [])
       ∙ ap (λ (xs : List ℕ). leaves_of_batches p f (suc epoch) b ++ xs) (sym (take_more leaves i 0 (omega (arith, low, many))))
 
-  all_shown : (b i : ℕ) (ls : List ℕ) → p.places ≤ i → ls ≡ leaves_of_batches p f (suc epoch) b ++ take i (batch_leaves p (fills_at p f epoch) b) → ls ≡ leaves_of_batches p f (suc epoch) (suc b)
+  pub all_shown : (b i : ℕ) (ls : List ℕ) → p.places ≤ i → ls ≡ leaves_of_batches p f (suc epoch) b ++ take i (batch_leaves p (fills_at p f epoch) b) → ls ≡ leaves_of_batches p f (suc epoch) (suc b)
   all_shown b i ls whole is =
       let leaves : List ℕ = batch_leaves p (fills_at p f epoch) b in
       let many : length leaves ≡ p.places = length-map-range_with_len (f.leaf (suc epoch) b) 0 p.places in

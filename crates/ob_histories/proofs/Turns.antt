@@ -35,7 +35,7 @@ use Rattle.ob_histories.proofs.Finding.{GateMay, RecordsMay, Fits, Stands, Allow
 use Rattle.ob_histories.proofs.Sets.{IsOf, found_at, walk_epoch}
 use Rattle.ob_histories.proofs.Batches.{AtTurn, before, walk_repeat, walk_begin}
 
-same_side : (a b : Side) → side_number a ≡ side_number b → a ≡ b
+pub same_side : (a b : Side) → side_number a ≡ side_number b → a ≡ b
 same_side Even Even same = refl
 same_side Even Odd same = absurd (omega (arith, same))
 same_side Odd Even same = absurd (omega (arith, same))
@@ -49,7 +49,7 @@ own_side : (side : Side) (n m : ℕ) → side_number side ≡ n % 2 → m ≡ n 
 own_side side n m is next = omega (arith, is, next)
 
 -- the notes of a setting
-set_long : (p : Params) (number : ℕ) (was : Bool) → (was ≡ true → 6 ≤ length (set_twin p EpochTwin number was)) × (4 ≤ length (set_twin p EpochTwin number was))
+pub set_long : (p : Params) (number : ℕ) (was : Bool) → (was ≡ true → 6 ≤ length (set_twin p EpochTwin number was)) × (4 ≤ length (set_twin p EpochTwin number was))
 set_long p number true = (λ is. omega arith, omega arith)
 set_long p number false = (λ is. (let never : false ≡ true = is in cc), omega arith)
 
@@ -60,7 +60,7 @@ end_still p t y (suc zero) six four left = absurd (omega (arith, four))
 end_still p t y (suc (suc n)) six four left = (left.0, (gate_still t.gate y.epoch_gate (suc (suc n)) six four left.1, left.2))
 
 -- wants that end with a sync's, and more
-wants_some : (xs : List Note) (ws : List Want) (p : Params) (s : StandingKnown) (c : ℕ) (ls : List ℕ) (hs : List Hole) → at p s c ls hs (kept (xs ++ Sync ∷ []) ++ ws) ≡ taken_up (at p s c ls hs (kept (xs ++ Sync ∷ []) ++ ws))
+pub wants_some : (xs : List Note) (ws : List Want) (p : Params) (s : StandingKnown) (c : ℕ) (ls : List ℕ) (hs : List Hole) → at p s c ls hs (kept (xs ++ Sync ∷ []) ++ ws) ≡ taken_up (at p s c ls hs (kept (xs ++ Sync ∷ []) ++ ws))
 wants_some [] ws p s c ls [] = refl
 wants_some (x ∷ xs) ws p s c ls [] = refl
 wants_some [] ws p s c ls (h ∷ hs) = refl
@@ -73,20 +73,20 @@ module _ (p : Params) (f : AllFills) (all : AreAllFills p f) (t : HistoryTurn) (
   abbrev EndTurn : ℕ → Follow → Type 0
   EndTurn k h = (y : RunFound) → IsOf generation y → IsEndLeft p t k y → Stops p (Allows p f y) h
 
-  abbrev public : Public
+  abbrev pub public : Public
   public = public_after p f t.epoch p.batches
 
-  abbrev number : ℕ
+  abbrev pub number : ℕ
   number = (public_at p f t.epoch).epoch + 1
 
-  abbrev ends : List Note
+  abbrev pub ends : List Note
   ends = set_twin p EpochTwin number t.gate
 
-  abbrev lifts : List Hole
+  abbrev pub lifts : List Hole
   lifts = final_holes p (counts_now p public) (public_at p f t.epoch).counter
 
   -- what an end writes before it sets the epoch
-  abbrev writes : List Note
+  abbrev pub writes : List Note
   writes =
       bucket_writes p (λ u. 1 - (public_at p f t.epoch).homes u) (filter (is_lifted_by_end p public) (by_falling_level (p.levels + 1)))
       ++ writes_of (check_cells p (number % 2)) ++ writes_of (log_gates p ((number + 1) % 2)) ++ (Sync ∷ [])
@@ -117,13 +117,13 @@ module _ (p : Params) (f : AllFills) (all : AreAllFills p f) (t : HistoryTurn) (
       (stops.0, (stops.1.0, subst (λ (o : Option StandingKnown). Allows p f y h.stands o) (sym stops.1.1.0) stands))
 
   -- the wants' writes are the schedule's
-  abbrev known_writes : StandingKnown → List ℕ → List Note
+  abbrev pub known_writes : StandingKnown → List ℕ → List Note
   known_writes s ls = writes_anew p s ls (by_falling_level (p.levels + 1)) ++ writes_of (check_cells p (side_number (other s.epoch))) ++ writes_of (log_gates p (side_number s.epoch)) ++ (Sync ∷ [])
 
-  next_number : number % 2 ≡ suc t.epoch % 2
+  pub next_number : number % 2 ≡ suc t.epoch % 2
   next_number = ap (λ (n : ℕ). n % 2) (ap (λ (n : ℕ). n + 1) (epoch_at p f t.epoch) ∙ add-one t.epoch)
 
-  same_writes : (s : StandingKnown) (ls : List ℕ) → Holds p f s t.epoch → ls ≡ leaves_of_batches p f (suc t.epoch) p.batches → known_writes s ls ≡ writes
+  pub same_writes : (s : StandingKnown) (ls : List ℕ) → Holds p f s t.epoch → ls ≡ leaves_of_batches p f (suc t.epoch) p.batches → known_writes s ls ≡ writes
   same_writes s ls holds shown =
       let check : side_number (other s.epoch) ≡ number % 2 = other_side s.epoch t.epoch holds.side ∙ sym next_number in
       let log : side_number s.epoch ≡ (number + 1) % 2 = own_side s.epoch t.epoch (number + 1) holds.side (omega (arith, epoch_at p f t.epoch)) in
@@ -131,11 +131,11 @@ module _ (p : Params) (f : AllFills) (all : AreAllFills p f) (t : HistoryTurn) (
       (λ i. bucket_writes p (λ u. other_home (s.homes u) ((public_at p f t.epoch).homes u) (holds.homes u) i) (filter (λ u. same_lifted p f s t.epoch all holds ls shown u i) (by_falling_level (p.levels + 1)))) in
       λ i. buckets i ++ writes_of (check_cells p (check i)) ++ writes_of (log_gates p (log i)) ++ (Sync ∷ [])
 
-  same_lifts : (s : StandingKnown) (ls : List ℕ) → Holds p f s t.epoch → ls ≡ leaves_of_batches p f (suc t.epoch) p.batches → end_holes p s ls ≡ lifts
+  pub same_lifts : (s : StandingKnown) (ls : List ℕ) → Holds p f s t.epoch → ls ≡ leaves_of_batches p f (suc t.epoch) p.batches → end_holes p s ls ≡ lifts
   same_lifts s ls holds shown = λ i. final_holes p (λ u. same_counts p f s t.epoch all holds ls shown u i) (holds.counter i)
 
   -- the end's wants are taken up
-  loaded_end : (s : StandingKnown) (ls : List ℕ) → t.batch ≡ p.batches → leaves_of_batches p f (suc t.epoch) t.batch ≡ ls → before p f t s ≡ at p s t.batch ls (end_holes p s ls) (end_wants p s ls)
+  pub loaded_end : (s : StandingKnown) (ls : List ℕ) → t.batch ≡ p.batches → leaves_of_batches p f (suc t.epoch) t.batch ≡ ls → before p f t s ≡ at p s t.batch ls (end_holes p s ls) (end_wants p s ls)
   loaded_end s ls last shown =
       (λ i. cond (le-ltb t.batch p.batches (omega (arith, last)) i)
       (at p s (t.batch + 1) (leaves_of_batches p f (suc t.epoch) t.batch) [] (cond (nat_lt t.batch s.logged) (places p t.batch) (cond ((t.batch == s.logged) && s.maybe) (Record t.batch ∷ []) (record_wants p (other s.epoch) t.batch ++ places p t.batch))))
@@ -194,7 +194,7 @@ module _ (p : Params) (f : AllFills) (all : AreAllFills p f) (t : HistoryTurn) (
 
   -- ---- a batch or an end
 
-  record_long : (a b : ℕ) → length (record_notes p a t.batch) ≡ length (record_notes p b t.batch)
+  pub record_long : (a b : ℕ) → length (record_notes p a t.batch) ≡ length (record_notes p b t.batch)
   record_long a b = long a ∙ sym (long b)
     where
       long : (a : ℕ) → length (record_notes p a t.batch) ≡ record_cells p + 3

@@ -1,10 +1,13 @@
 -- What is said of histories.
-use Rattle.std.specs.Prelude.{◌≡◌, List, [], ◌∷◌}
+use Rattle.std.specs.Prelude.{◌≡◌, ◌⊎◌, List, [], ◌∷◌}
 use Rattle.std.specs.List.{flat_map}
+use Rattle.ob_base.specs.declared.params.Params.{Params}
 use Rattle.ob_schedule.specs.declared.line.Line.{Line}
 use Rattle.ob_schedule.specs.declared.line.Line.TheVariants as L
 use Rattle.ob_schedule.specs.Follow.{Follow, TakesLine, started}
-use Rattle.ob_histories.specs.Histories.{AreHistories}
+use Rattle.ob_histories.specs.Fills.{AllFills, AreAllFills}
+use Rattle.ob_histories.specs.Histories.{IsHistory, IsCutHistory, AreHistories}
+use Rattle.ob_histories.specs.Filled.{TakesFilled}
 
 -- each line may stand behind those before it; what is known at the end
 abbrev pub TakesLines : Follow → List Line → Follow → Type 0
@@ -21,3 +24,9 @@ AreAdmitted (L.Bad ∷ lines) = ⊥
 
 abbrev pub HistoriesAreAdmitted : Type 0
 HistoriesAreAdmitted = (histories : List (List Line)) → AreHistories histories → AreAdmitted (flat_map (λ lines. lines) histories)
+
+-- What fits behind a format, with labels and slots that these fills have, is a history with just these; or the format was cut short.
+abbrev pub FilledAreHistories : Type 0
+FilledAreHistories =
+    (p : Params) (f : AllFills) (lines : List Line) → AreAllFills p f → TakesFilled p f 0 (started p) lines
+    → ((h : IsHistory p (L.Start p ∷ lines)) × (h.fills ≡ f)) ⊎ IsCutHistory p (L.Start p ∷ lines)

@@ -1,8 +1,15 @@
 //! Histories and lines that are admitted.
 
-ghost use Rattle.ob_histories.specs.Laws.{HistoriesAreAdmitted};
+ghost use Rattle.ob_histories.specs.Laws.{HistoriesAreAdmitted, FilledAreHistories};
 
 /// The lines of histories, one behind the other, are admitted.
 pub fn histories_are_admitted()
     ensures { HistoriesAreAdmitted }
+{}
+
+/// Lines that are admitted behind one format's, each label and each slot one that these fills
+/// have, are those of a history with these fills: there are runs, of each what it found and how far
+/// it came.
+pub fn filled_are_histories()
+    ensures { FilledAreHistories }
 {}

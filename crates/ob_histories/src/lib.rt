@@ -6,6 +6,6 @@ mod laws;
 mod samples;
 mod texts;
 
-pub use laws::histories_are_admitted;
+pub use laws::{filled_are_histories, histories_are_admitted};
 pub use samples::sampled;
 pub use texts::lines_are_admitted;
