@@ -24,7 +24,7 @@ use Rattle.ob_schedule.specs.Holes.{Hole, place_holes}
 use Rattle.ob_schedule.specs.Standing.{StandingKnown, public_known, with_label}
 use Rattle.ob_schedule.specs.Wants.{kept, record_wants, places, end_holes, end_wants}
 use Rattle.ob_schedule.specs.Follow.{Follow, TakesLine, taken_up}
-use Rattle.ob_histories.specs.Fills.{AllFills, AreAllFills, public_at, public_after, fills_at, leaves_of_batches}
+use Rattle.ob_histories.specs.Fills.{AllFills, AreAllFills, public_at, public_in_epoch, fills_at, leaves_of_batches}
 use Rattle.ob_histories.specs.Runs.{RunFound, HistoryTurn, notes_of_batch}
 use Rattle.ob_histories.specs.Histories.{AreRecordsLeft, IsBatchLeft}
 use Rattle.ob_histories.proofs.Lists.{take_whole}
@@ -81,7 +81,7 @@ module _ (p : Params) (f : AllFills) (all : AreAllFills p f) (t : HistoryTurn) (
   leaves_now = batch_leaves p (fills_at p f t.epoch) t.batch
 
   abbrev pub phase : List Note
-  phase = phase_notes p (public_after p f t.epoch t.batch) (fills_at p f t.epoch) leaves_now
+  phase = phase_notes p (public_in_epoch p f t.epoch t.batch) (fills_at p f t.epoch) leaves_now
 
   abbrev Rest : Type 0
   Rest = Side × (Gate × (Gate × (ℕ × Bool)))
@@ -380,7 +380,7 @@ module _ (p : Params) (f : AllFills) (all : AreAllFills p f) (t : HistoryTurn) (
   same_area s holds = (let next : side_number (other s.epoch) ≡ suc t.epoch % 2 = other_side s.epoch t.epoch holds.side in next ∙ ap (λ (n : ℕ). n % 2) (sym (add-one t.epoch) ∙ ap (λ (n : ℕ). n + 1) (sym (epoch_at p f t.epoch))))
 
   pub walk_begin : (s : StandingKnown) → AtTurn p f t generation s → t.records ≤ t.batch → s.logged ≡ t.batch
-      → Stepped BatchBegun (before p f t s) (batch_notes p (public_after p f t.epoch t.batch) (fills_at p f t.epoch) t.batch)
+      → Stepped BatchBegun (before p f t s) (batch_notes p (public_in_epoch p f t.epoch t.batch) (fills_at p f t.epoch) t.batch)
   walk_begin s is new logged =
       let c : ℕ = t.batch + 1 in
       let s2 : StandingKnown = logs s c false in

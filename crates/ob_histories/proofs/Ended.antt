@@ -12,7 +12,7 @@ use Rattle.ob_schedule.specs.declared.want.Side.{Side}
 use Rattle.ob_schedule.specs.declared.want.Side.TheVariants.{Even, Odd}
 use Rattle.ob_schedule.specs.Sides.{other, side_number}
 use Rattle.ob_schedule.specs.Standing.{StandingKnown, public_known, is_lifted, standing_ended, home_after, count_after, used_after}
-use Rattle.ob_histories.specs.Fills.{AllFills, AreAllFills, public_at, public_after, version_filled, leaves_of_batches}
+use Rattle.ob_histories.specs.Fills.{AllFills, AreAllFills, public_at, public_in_epoch, version_filled, leaves_of_batches}
 use Rattle.ob_histories.proofs.Standing.{Holds, WasShown, GoesBelow, outside}
 
 pub other_side : (side : Side) (n : ℕ) → side_number side ≡ n % 2 → side_number (other side) ≡ suc n % 2
@@ -30,10 +30,10 @@ used_parts true false w h = (refl, h)
 used_parts false l w h = cc
 
 module _ (p : Params) (f : AllFills) (s : StandingKnown) (epoch : ℕ) (all : AreAllFills p f) (holds : Holds p f s epoch) (leaves : List ℕ) (shown : leaves ≡ leaves_of_batches p f (suc epoch) p.batches) where
-  pub same_lifted : (u : ℕ) → is_lifted p s leaves u ≡ is_lifted_by_end p (public_after p f epoch p.batches) u
+  pub same_lifted : (u : ℕ) → is_lifted p s leaves u ≡ is_lifted_by_end p (public_in_epoch p f epoch p.batches) u
   same_lifted u = λ i. is_one_of (eviction_path p (holds.counter i)) u || nat_le p.dummies (holds.counts u i + count_by (passes p u) (shown i))
 
-  pub same_counts : (u : ℕ) → counts_now p (public_known p s leaves) u ≡ counts_now p (public_after p f epoch p.batches) u
+  pub same_counts : (u : ℕ) → counts_now p (public_known p s leaves) u ≡ counts_now p (public_in_epoch p f epoch p.batches) u
   same_counts u = λ i. holds.counts u i + count_by (passes p u) (shown i)
 
   ended_home : (u : ℕ) → side_number (home_after p s leaves u) ≡ (public_at p f (suc epoch)).homes u
@@ -63,9 +63,9 @@ module _ (p : Params) (f : AllFills) (s : StandingKnown) (epoch : ℕ) (all : Ar
   ended_used u x used =
       let parts = used_parts (nat_lt u (buckets p)) (is_lifted p s leaves u) (s.used u x) used in
       let was = holds.used u x parts.1 in
-      let stays : is_lifted_by_end p (public_after p f epoch p.batches) u ≡ false = sym (same_lifted u) ∙ parts.0 in
-      let count : count_after p s leaves u ≡ counts_now p (public_after p f epoch p.batches) u =
-      ended_count u ∙ ap (λ (l : Bool). cond l 0 (counts_now p (public_after p f epoch p.batches) u)) stays in
+      let stays : is_lifted_by_end p (public_in_epoch p f epoch p.batches) u ≡ false = sym (same_lifted u) ∙ parts.0 in
+      let count : count_after p s leaves u ≡ counts_now p (public_in_epoch p f epoch p.batches) u =
+      ended_count u ∙ ap (λ (l : Bool). cond l 0 (counts_now p (public_in_epoch p f epoch p.batches) u)) stays in
       record {
         number = was.number;
         small = was.small;
@@ -73,12 +73,12 @@ module _ (p : Params) (f : AllFills) (s : StandingKnown) (epoch : ℕ) (all : Ar
         when = inl (subst (λ (n : ℕ). was.number < n) (sym count) (counted was.number stays was.when));
       }
     where
-      counted : (number : ℕ) → is_lifted_by_end p (public_after p f epoch p.batches) u ≡ false → ((number < s.counts u) ⊎ (s.slots (record { bucket = u; number = number }) ≡ Some x))
-          → number < counts_now p (public_after p f epoch p.batches) u
+      counted : (number : ℕ) → is_lifted_by_end p (public_in_epoch p f epoch p.batches) u ≡ false → ((number < s.counts u) ⊎ (s.slots (record { bucket = u; number = number }) ≡ Some x))
+          → number < counts_now p (public_in_epoch p f epoch p.batches) u
       counted number stays (inl before) = omega (arith, before, holds.counts u)
       counted number stays (inr now) = go (holds.below (record { bucket = u; number = number }) x now)
         where
-          go : GoesBelow p f epoch (record { bucket = u; number = number }) → number < counts_now p (public_after p f epoch p.batches) u
+          go : GoesBelow p f epoch (record { bucket = u; number = number }) → number < counts_now p (public_in_epoch p f epoch p.batches) u
           go (inl lifted) = absurd (true≢false (sym lifted ∙ stays))
           go (inr low) = low
 

@@ -19,9 +19,9 @@ use Rattle.ob_schedule.specs.Sides.{other, side_number}
 use Rattle.ob_schedule.specs.Standing.{StandingKnown, public_known, with_label, with_slot}
 use Rattle.ob_schedule.specs.Wants.{kept}
 use Rattle.ob_schedule.specs.Follow.{Follow, TakesLine, TakesSlot, TakesLabel, taken_up}
-use Rattle.ob_histories.specs.Fills.{AllFills, AreAllFills, public_at, public_after, fills_at, leaves_of_batches, version_filled}
+use Rattle.ob_histories.specs.Fills.{AllFills, AreAllFills, public_at, public_in_epoch, fills_at, leaves_of_batches, version_filled}
 use Rattle.ob_histories.specs.Runs.{RunFound}
-use Rattle.ob_histories.specs.Filled.{IsFilled, epoch_behind}
+use Rattle.ob_histories.specs.Filled.{IsOfFills, epoch_behind}
 use Rattle.ob_histories.proofs.Lists.{take_whole}
 use Rattle.ob_histories.proofs.Standing.{Holds, filled_slot, slot_holds, label_holds}
 use Rattle.ob_histories.proofs.Holes.{AreHoles, count_before, place_are}
@@ -99,7 +99,7 @@ module _ (p : Params) (f : AllFills) where
   abbrev pub Takes : ℕ → Follow → List Note → Follow → ℕ → Type 0
   Takes epoch known [] last then = (last ≡ known) × (then ≡ epoch)
   Takes epoch known (note ∷ notes) last then =
-      (next : Follow) × (TakesLine known (L.Note note) next × (IsFilled p f epoch known.stands known.holes known.wants note × Takes (epoch_behind known epoch) next notes last then))
+      (next : Follow) × (TakesLine known (L.Note note) next × (IsOfFills p f epoch known.stands known.holes known.wants note × Takes (epoch_behind known epoch) next notes last then))
 
   -- of all that is taken from a state on, fewer notes than so many
   abbrev pub Conv : ℕ → ℕ → Follow → Shown → Type 0
@@ -109,7 +109,7 @@ module _ (p : Params) (f : AllFills) where
   conv_weak most epoch g P conv ms k then few = conv ms k then (omega (arith, few))
 
   abbrev pub Alone : ℕ → Follow → Note → Follow → Type 0
-  Alone epoch g note next = (given : Note) (k : Follow) → TakesLine g (L.Note given) k → IsFilled p f epoch g.stands g.holes g.wants given → (given ≡ note) × (k ≡ next)
+  Alone epoch g note next = (given : Note) (k : Follow) → TakesLine g (L.Note given) k → IsOfFills p f epoch g.stands g.holes g.wants given → (given ≡ note) × (k ≡ next)
 
   -- one note, and then the rest
   pub conv_strict : (most epoch : ℕ) (g next : Follow) (note : Note) (P : Shown) → Alone epoch g note next → Result epoch g P [] → Conv most (epoch_behind g epoch) next (λ ms y z. P (note ∷ ms) y z) → Conv (suc most) epoch g P
@@ -134,7 +134,7 @@ module _ (p : Params) (f : AllFills) where
 
   -- one of two notes, and then what follows on it
   abbrev pub OneOf : ℕ → Follow → Note → Follow → Note → Follow → Type 0
-  OneOf epoch g x one y two = (given : Note) (k : Follow) → TakesLine g (L.Note given) k → IsFilled p f epoch g.stands g.holes g.wants given → ((given ≡ x) × (k ≡ one)) ⊎ ((given ≡ y) × (k ≡ two))
+  OneOf epoch g x one y two = (given : Note) (k : Follow) → TakesLine g (L.Note given) k → IsOfFills p f epoch g.stands g.holes g.wants given → ((given ≡ x) × (k ≡ one)) ⊎ ((given ≡ y) × (k ≡ two))
 
   pub conv_either_strict : (most epoch : ℕ) (g one two : Follow) (x y : Note) (P : Shown) → OneOf epoch g x one y two → Result epoch g P []
       → Conv most (epoch_behind g epoch) one (λ ms v w. P (x ∷ ms) v w) → Conv most (epoch_behind g epoch) two (λ ms v w. P (y ∷ ms) v w) → Conv (suc most) epoch g P

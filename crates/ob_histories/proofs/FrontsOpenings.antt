@@ -25,7 +25,7 @@ use Rattle.ob_schedule.specs.Follow.{Follow, TakesLine, taken_up, opened, opened
 use Rattle.ob_histories.specs.Fills.{AllFills, AreAllFills, public_at}
 use Rattle.ob_histories.specs.Runs.{RunFound, first_turn, opening_reads, opening_step, notes_shown, is_settled}
 use Rattle.ob_histories.specs.Histories.{IsOpeningLeft, RunLeaves, found_formatted}
-use Rattle.ob_histories.specs.Filled.{IsFilled, epoch_behind}
+use Rattle.ob_histories.specs.Filled.{IsOfFills, epoch_behind}
 use Rattle.ob_histories.proofs.Ended.{other_side}
 use Rattle.ob_histories.proofs.Places.{at, rest_of}
 use Rattle.ob_histories.proofs.Finding.{GateMay, RecordsMay, holds_rest, epoch_at}

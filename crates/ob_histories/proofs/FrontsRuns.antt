@@ -19,7 +19,7 @@ use Rattle.ob_histories.specs.Fills.{AllFills, AreAllFills}
 use Rattle.ob_histories.specs.Runs.{RunFound, HistoryRun, notes_shown, run_notes, is_settled}
 use Rattle.ob_histories.specs.Histories.{RunLeaves, MayFind, AreRunsBehind, found_formatted, lines_of_notes, run_lines, IsHistory, IsCutHistory}
 use Rattle.ob_histories.specs.Laws.{FilledAreHistories}
-use Rattle.ob_histories.specs.Filled.{IsFilled, epoch_behind, TakesFilled}
+use Rattle.ob_histories.specs.Filled.{IsOfFills, epoch_behind, TakesFilled}
 use Rattle.ob_histories.proofs.Places.{rest_of}
 use Rattle.ob_histories.proofs.Finding.{GateMay, RecordsMay}
 use Rattle.ob_histories.proofs.Admitting.{formatting, formatted_stands, cut_opened, head_lines}

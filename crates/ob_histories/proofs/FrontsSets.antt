@@ -21,7 +21,7 @@ use Rattle.ob_schedule.specs.Follow.{Follow, TakesLine, taken_up}
 use Rattle.ob_histories.specs.Fills.{AllFills, AreAllFills, leaves_of_batches}
 use Rattle.ob_histories.specs.Runs.{RunFound}
 use Rattle.ob_histories.specs.Histories.{IsGateLeft}
-use Rattle.ob_histories.specs.Filled.{IsFilled}
+use Rattle.ob_histories.specs.Filled.{IsOfFills}
 use Rattle.ob_histories.proofs.Standing.{Holds}
 use Rattle.ob_histories.proofs.Ended.{other_side, ended_holds}
 use Rattle.ob_histories.proofs.Places.{at, rest_of}
@@ -165,7 +165,7 @@ module _ (p : Params) (f : AllFills) (epoch generation : ℕ) (s : StandingKnown
       (conv_5 most (λ ms y z. P (gate ∷ ms) y z) (lacks_more gate last_5 (Left true P) (stops true tt)) (more true tt))
       (conv_3 most false (λ ms y z. P (body ∷ ms) y z) (lacks_more body last_3 (Left false P) (stops false tt)) (more false tt))
     where
-      either : (given : Note) (k : Follow) → TakesLine (known Unsure (Setting Generation ∷ [])) (L.Note given) k → IsFilled p f epoch (record s { generation_gate = Unsure }) [] (Setting Generation ∷ []) given
+      either : (given : Note) (k : Follow) → TakesLine (known Unsure (Setting Generation ∷ [])) (L.Note given) k → IsOfFills p f epoch (record s { generation_gate = Unsure }) [] (Setting Generation ∷ []) given
           → ((given ≡ gate) × (k ≡ known Unsure wants_5)) ⊎ ((given ≡ body) × (k ≡ known Closed wants_3))
       either given k (inl is) filled = inl (is.is ∙ same_gate, is.then)
       either given k (inr is) filled = inr (is.is ∙ same_body, is.then)
@@ -358,7 +358,7 @@ module _ (p : Params) (f : AllFills) (all : AreAllFills p f) (epoch generation n
       (ends_5 most (λ ms y z. P (gate_then ∷ ms) y z) (lacks_more gate_then end_5 (EndLeft true P) (stops true tt)) (more true tt))
       (ends_3 most false (λ ms y z. P (body_then ∷ ms) y z) (lacks_more body_then end_3 (EndLeft false P) (stops false tt)) (more false tt))
     where
-      either : (given : Note) (k : Follow) → TakesLine (known_then Unsure (Setting Epoch ∷ [])) (L.Note given) k → IsFilled p f epoch (record s { epoch_gate = Unsure }) [] (Setting Epoch ∷ []) given
+      either : (given : Note) (k : Follow) → TakesLine (known_then Unsure (Setting Epoch ∷ [])) (L.Note given) k → IsOfFills p f epoch (record s { epoch_gate = Unsure }) [] (Setting Epoch ∷ []) given
           → ((given ≡ gate_then) × (k ≡ known_then Unsure then_5)) ⊎ ((given ≡ body_then) × (k ≡ known_then Closed then_3))
       either given k (inl is) filled = inl (is.is ∙ same_gate_then, is.then)
       either given k (inr is) filled = inr (is.is ∙ same_body_then, is.then)

@@ -22,10 +22,10 @@ use Rattle.ob_schedule.specs.Sides.{other, side_number}
 use Rattle.ob_schedule.specs.Standing.{StandingKnown, public_known, with_label, standing_ended}
 use Rattle.ob_schedule.specs.Wants.{kept, places, record_wants, sets, end_wants}
 use Rattle.ob_schedule.specs.Follow.{Follow, TakesLine, taken_up}
-use Rattle.ob_histories.specs.Fills.{AllFills, AreAllFills, public_at, public_after, fills_at, leaves_of_batches}
+use Rattle.ob_histories.specs.Fills.{AllFills, AreAllFills, public_at, public_in_epoch, fills_at, leaves_of_batches}
 use Rattle.ob_histories.specs.Runs.{RunFound, HistoryTurn, next_turn, turn_behind, notes_of_batch, notes_of_end, notes_of_turn, notes_from}
 use Rattle.ob_histories.specs.Histories.{AreRecordsLeft, IsBatchLeft, IsEndLeft, IsTurnLeft, IsGateLeft}
-use Rattle.ob_histories.specs.Filled.{IsFilled}
+use Rattle.ob_histories.specs.Filled.{IsOfFills}
 use Rattle.ob_histories.proofs.Standing.{Holds}
 use Rattle.ob_histories.proofs.Holes.{end_are}
 use Rattle.ob_histories.proofs.Places.{at, rest_of, leaf_at, one_more}
@@ -199,7 +199,7 @@ module _ (p : Params) (f : AllFills) (all : AreAllFills p f) (generation : ℕ) 
     ls = leaves_of_batches p f (suc epoch) b
 
     abbrev shows : List Note
-    shows = phase_notes p (public_after p f epoch b) (fills_at p f epoch) (batch_leaves p (fills_at p f epoch) b)
+    shows = phase_notes p (public_in_epoch p f epoch b) (fills_at p f epoch) (batch_leaves p (fills_at p f epoch) b)
 
     abbrev records_all : List Note
     records_all = record_notes p (((public_at p f epoch).epoch + 1) % 2) b

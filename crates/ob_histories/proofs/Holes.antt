@@ -10,7 +10,7 @@ use Rattle.ob_base.specs.Tree.{width, below, path, passes}
 use Rattle.ob_schedule.specs.Holes.{Hole, lift_holes, visit_holes, place_holes, passes_before, firsts, final_holes}
 use Rattle.ob_schedule.specs.Paths.{is_one_of, eviction_path}
 use Rattle.ob_schedule.specs.Schedule.{Public, counts_now, is_lifted_by_end, batch_leaves}
-use Rattle.ob_histories.specs.Fills.{AllFills, AreAllFills, public_at, public_after, fills_at, leaves_of_batches}
+use Rattle.ob_histories.specs.Fills.{AllFills, AreAllFills, public_at, public_in_epoch, fills_at, leaves_of_batches}
 use Rattle.ob_histories.proofs.Lists.{count_one, count_more}
 use Rattle.ob_histories.proofs.Standing.{IsHole, GoesBelow}
 
@@ -48,23 +48,23 @@ firsts_among all (u ∷ us) are = (are.0, filtered_among all (λ v. not (v == u)
 
 -- ---- a lift, and a visit
 
-lift_range : (p : Params) (f : AllFills) (epoch u a n : ℕ) → is_lifted_by_end p (public_after p f epoch p.batches) u ≡ true → (public_at p f epoch).counts u ≤ a → a + n ≤ width p
+lift_range : (p : Params) (f : AllFills) (epoch u a n : ℕ) → is_lifted_by_end p (public_in_epoch p f epoch p.batches) u ≡ true → (public_at p f epoch).counts u ≤ a → a + n ≤ width p
     → AreHoles p f epoch (map (λ i. record { bucket = u; number = i }) (range_with_len a n))
 lift_range p f epoch u a zero lifted new small = tt
 lift_range p f epoch u a (suc n) lifted new small =
     (record { small = omega (arith, small); new = new; below = inl lifted }, lift_range p f epoch u (a + 1) n lifted (omega (arith, new)) (omega (arith, small)))
 
-visit_are : (p : Params) (f : AllFills) (epoch u n : ℕ) → (public_at p f epoch).counts u ≤ n → n < counts_now p (public_after p f epoch p.batches) u → AreHoles p f epoch (visit_holes p u n)
+visit_are : (p : Params) (f : AllFills) (epoch u n : ℕ) → (public_at p f epoch).counts u ≤ n → n < counts_now p (public_in_epoch p f epoch p.batches) u → AreHoles p f epoch (visit_holes p u n)
 visit_are p f epoch u n new more = go (nat_lt n p.dummies) refl
   where
     total : ℕ
-    total = counts_now p (public_after p f epoch p.batches) u
+    total = counts_now p (public_in_epoch p f epoch p.batches) u
 
     lift : (b : Bool) → (n + 1 == p.dummies) ≡ b → AreHoles p f epoch (cond b (lift_holes p u (n + 1)) [])
     lift true last =
         (let is : n + 1 ≡ p.dummies = eqb-true (n + 1) p.dummies last in
-        let many : p.dummies ≤ counts_now p (public_after p f epoch p.batches) u = omega (arith, is, more) in
-        let limit : nat_le p.dummies (counts_now p (public_after p f epoch p.batches) u) ≡ true = le-leb p.dummies (counts_now p (public_after p f epoch p.batches) u) many in
+        let many : p.dummies ≤ counts_now p (public_in_epoch p f epoch p.batches) u = omega (arith, is, more) in
+        let limit : nat_le p.dummies (counts_now p (public_in_epoch p f epoch p.batches) u) ≡ true = le-leb p.dummies (counts_now p (public_in_epoch p f epoch p.batches) u) many in
         lift_range p f epoch u (n + 1) p.real (or_right (is_one_of (eviction_path p (public_at p f epoch).counter) u) _ limit) (omega (arith, new)) (omega (arith, is)))
     lift false other = tt
 
@@ -73,7 +73,7 @@ visit_are p f epoch u n new more = go (nat_lt n p.dummies) refl
     go false high = tt
 
 visits_are : (p : Params) (f : AllFills) (epoch leaf : ℕ) (count : ℕ → ℕ) (us : List ℕ) → AllAmong (path p leaf) us → ((u : ℕ) → (public_at p f epoch).counts u ≤ count u)
-    → ((u : ℕ) → passes p u leaf ≡ true → count u < counts_now p (public_after p f epoch p.batches) u) → AreHoles p f epoch (flat_map (λ u. visit_holes p u (count u)) us)
+    → ((u : ℕ) → passes p u leaf ≡ true → count u < counts_now p (public_in_epoch p f epoch p.batches) u) → AreHoles p f epoch (flat_map (λ u. visit_holes p u (count u)) us)
 visits_are p f epoch leaf count [] are new more = tt
 visits_are p f epoch leaf count (u ∷ us) are new more =
     holes_joined p f epoch (visit_holes p u (count u)) _ (visit_are p f epoch u (count u) (new u) (more u are.0)) (visits_are p f epoch leaf count us are.1 new more)
@@ -97,10 +97,10 @@ batches_more p f epoch t b (suc n) =
 
 -- what a place's buckets were read before it
 abbrev pub count_before : Params → AllFills → ℕ → ℕ → ℕ → ℕ → ℕ
-count_before p f epoch b i u = counts_now p (public_after p f epoch b) u + passes_before p (batch_leaves p (fills_at p f epoch) b) i u
+count_before p f epoch b i u = counts_now p (public_in_epoch p f epoch b) u + passes_before p (batch_leaves p (fills_at p f epoch) b) i u
 
 place_more : (p : Params) (f : AllFills) (epoch b i u : ℕ) → b < p.batches → i < p.places → passes p u (slice_index (batch_leaves p (fills_at p f epoch) b) i) ≡ true
-    → count_before p f epoch b i u < counts_now p (public_after p f epoch p.batches) u
+    → count_before p f epoch b i u < counts_now p (public_in_epoch p f epoch p.batches) u
 place_more p f epoch b i u few low here =
     let leaves : List ℕ = batch_leaves p (fills_at p f epoch) b in
     let t : ℕ → Bool = passes p u in
@@ -121,17 +121,17 @@ place_are p f epoch b i few low =
 -- ---- an end
 
 ends_are : (p : Params) (f : AllFills) (epoch : ℕ) (us : List ℕ) → AllAmong (eviction_path p (public_at p f epoch).counter) us
-    → AreHoles p f epoch (flat_map (λ u. cond (nat_lt (counts_now p (public_after p f epoch p.batches) u) p.dummies) (lift_holes p u (counts_now p (public_after p f epoch p.batches) u)) []) us)
+    → AreHoles p f epoch (flat_map (λ u. cond (nat_lt (counts_now p (public_in_epoch p f epoch p.batches) u) p.dummies) (lift_holes p u (counts_now p (public_in_epoch p f epoch p.batches) u)) []) us)
 ends_are p f epoch [] are = tt
-ends_are p f epoch (u ∷ us) are = holes_joined p f epoch (cond (nat_lt (counts_now p (public_after p f epoch p.batches) u) p.dummies) (lift_holes p u (counts_now p (public_after p f epoch p.batches) u)) []) _
-    (go (nat_lt (counts_now p (public_after p f epoch p.batches) u) p.dummies) refl) (ends_are p f epoch us are.1)
+ends_are p f epoch (u ∷ us) are = holes_joined p f epoch (cond (nat_lt (counts_now p (public_in_epoch p f epoch p.batches) u) p.dummies) (lift_holes p u (counts_now p (public_in_epoch p f epoch p.batches) u)) []) _
+    (go (nat_lt (counts_now p (public_in_epoch p f epoch p.batches) u) p.dummies) refl) (ends_are p f epoch us are.1)
   where
-    go : (b : Bool) → nat_lt (counts_now p (public_after p f epoch p.batches) u) p.dummies ≡ b → AreHoles p f epoch (cond b (lift_holes p u (counts_now p (public_after p f epoch p.batches) u)) [])
-    go true low = (let few : counts_now p (public_after p f epoch p.batches) u < p.dummies = ltb-true (counts_now p (public_after p f epoch p.batches) u) p.dummies low in
-        lift_range p f epoch u (counts_now p (public_after p f epoch p.batches) u) p.real (or_left (is_one_of (eviction_path p (public_at p f epoch).counter) u) _ are.0) (omega arith) (omega (arith, few)))
+    go : (b : Bool) → nat_lt (counts_now p (public_in_epoch p f epoch p.batches) u) p.dummies ≡ b → AreHoles p f epoch (cond b (lift_holes p u (counts_now p (public_in_epoch p f epoch p.batches) u)) [])
+    go true low = (let few : counts_now p (public_in_epoch p f epoch p.batches) u < p.dummies = ltb-true (counts_now p (public_in_epoch p f epoch p.batches) u) p.dummies low in
+        lift_range p f epoch u (counts_now p (public_in_epoch p f epoch p.batches) u) p.real (or_left (is_one_of (eviction_path p (public_at p f epoch).counter) u) _ are.0) (omega arith) (omega (arith, few)))
     go false high = tt
 
-pub end_are : (p : Params) (f : AllFills) (epoch : ℕ) → AreHoles p f epoch (final_holes p (counts_now p (public_after p f epoch p.batches)) (public_at p f epoch).counter)
+pub end_are : (p : Params) (f : AllFills) (epoch : ℕ) → AreHoles p f epoch (final_holes p (counts_now p (public_in_epoch p f epoch p.batches)) (public_at p f epoch).counter)
 end_are p f epoch =
     let all : List ℕ = eviction_path p (public_at p f epoch).counter in
     ends_are p f epoch (firsts all) (firsts_among all all (all_among [] all))

@@ -19,7 +19,7 @@ use Rattle.ob_schedule.specs.declared.want.Want.TheVariants.{Place}
 use Rattle.ob_schedule.specs.Sides.{side_number}
 use Rattle.ob_schedule.specs.Standing.{StandingKnown, public_known, with_label, with_slot}
 use Rattle.ob_schedule.specs.Follow.{Follow, TakesLine, taken_up, MayShow, MayLabel, ShowsSlot, ShowsLabel}
-use Rattle.ob_histories.specs.Fills.{AllFills, AreAllFills, public_at, public_after, fills_at, leaves_of_batches, version_filled}
+use Rattle.ob_histories.specs.Fills.{AllFills, AreAllFills, public_at, public_in_epoch, fills_at, leaves_of_batches, version_filled}
 use Rattle.ob_histories.proofs.Lists.{count_more, take_whole}
 use Rattle.ob_histories.proofs.Standing.{Holds, IsKnown, IsHole, filled_slot, slot_holds, slot_new, label_holds}
 use Rattle.ob_histories.proofs.Holes.{AreHoles, count_before, place_are}

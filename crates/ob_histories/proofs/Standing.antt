@@ -14,7 +14,7 @@ use Rattle.ob_schedule.specs.declared.want.Gate.{Gate}
 use Rattle.ob_schedule.specs.declared.want.Gate.TheVariants.{Open, Closed, Unsure}
 use Rattle.ob_schedule.specs.Sides.{other, side_number}
 use Rattle.ob_schedule.specs.Standing.{StandingKnown, public_known, with_label, with_slot, is_lifted, standing_ended, home_after, count_after, used_after}
-use Rattle.ob_histories.specs.Fills.{AllFills, AreAllFills, public_at, public_after, version_filled, leaves_of_batches}
+use Rattle.ob_histories.specs.Fills.{AllFills, AreAllFills, public_at, public_in_epoch, version_filled, leaves_of_batches}
 use Rattle.ob_histories.specs.Runs.{RunFound}
 use Rattle.ob_histories.proofs.Trees.{AreLeaves, leaves_joined, lifted_never, passed_never}
 
@@ -31,7 +31,7 @@ pub record WasShown (p : Params) (f : AllFills) (s : StandingKnown) (epoch bucke
 
 -- at the epoch's end its bucket is lifted, or the reads that are counted then go beyond it
 abbrev pub GoesBelow : Params → AllFills → ℕ → Hole → Type 0
-GoesBelow p f epoch h = (is_lifted_by_end p (public_after p f epoch p.batches) h.bucket ≡ true) ⊎ (h.number < counts_now p (public_after p f epoch p.batches) h.bucket)
+GoesBelow p f epoch h = (is_lifted_by_end p (public_in_epoch p f epoch p.batches) h.bucket ≡ true) ⊎ (h.number < counts_now p (public_in_epoch p f epoch p.batches) h.bucket)
 
 -- What the epoch shows so far is the fills', and what is counted is public.
 pub record Holds (p : Params) (f : AllFills) (s : StandingKnown) (epoch : ℕ) : Type 0 where
@@ -194,17 +194,17 @@ shown_are_leaves p f epoch (suc batches) all = leaves_joined p (leaves_of_batche
 pub record IsOutside (p : Params) (f : AllFills) (epoch u : ℕ) : Type 0 where
   pub counts : (public_at p f epoch).counts u ≡ 0
   pub homes : (public_at p f epoch).homes u ≡ 0
-  pub stays : is_lifted_by_end p (public_after p f epoch p.batches) u ≡ false
+  pub stays : is_lifted_by_end p (public_in_epoch p f epoch p.batches) u ≡ false
 
 outside_by : (p : Params) (f : AllFills) (epoch u : ℕ) → AreAllFills p f → buckets p ≤ u → (public_at p f epoch).counts u ≡ 0 → (public_at p f epoch).homes u ≡ 0 → IsOutside p f epoch u
 outside_by p f epoch u all out counts homes =
-    record { counts = counts; homes = homes; stays = lifted_never p (public_after p f epoch p.batches) u out counts (shown_are_leaves p f (suc epoch) p.batches all) }
+    record { counts = counts; homes = homes; stays = lifted_never p (public_in_epoch p f epoch p.batches) u out counts (shown_are_leaves p f (suc epoch) p.batches all) }
 
 pub outside : (p : Params) (f : AllFills) (epoch u : ℕ) → AreAllFills p f → buckets p ≤ u → IsOutside p f epoch u
 outside p f zero u all out = outside_by p f zero u all out refl refl
 outside p f (suc epoch) u all out =
     let was = outside p f epoch u all out in
-    let q : Public = public_after p f epoch p.batches in
+    let q : Public = public_in_epoch p f epoch p.batches in
     let passed : count_by (passes p u) q.leaves ≡ 0 = passed_never p u q.leaves out (shown_are_leaves p f (suc epoch) p.batches all) in
     let now : counts_now p q u ≡ 0 = λ i. was.counts i + passed i in
     outside_by p f (suc epoch) u all out (λ i. cond (was.stays i) 0 (now i)) (λ i. cond (was.stays i) (1 - q.homes u) (was.homes i))

@@ -23,7 +23,7 @@ use Rattle.ob_schedule.specs.Standing.{StandingKnown, public_known, standing_end
 use Rattle.ob_schedule.specs.Wants.{kept, places, record_wants, sets, writes_anew, end_holes, end_wants}
 use Rattle.ob_schedule.specs.declared.want.Want.TheVariants.{Record}
 use Rattle.ob_schedule.specs.Follow.{Follow, taken_up}
-use Rattle.ob_histories.specs.Fills.{AllFills, AreAllFills, public_at, public_after, fills_at, leaves_of_batches}
+use Rattle.ob_histories.specs.Fills.{AllFills, AreAllFills, public_at, public_in_epoch, fills_at, leaves_of_batches}
 use Rattle.ob_histories.specs.Runs.{RunFound, HistoryTurn, next_turn, notes_of_batch, notes_of_end, notes_of_turn}
 use Rattle.ob_histories.specs.Histories.{AreRecordsLeft, IsBatchLeft, IsEndLeft, EpochStays, IsTurnLeft}
 use Rattle.ob_histories.proofs.Standing.{Holds}
@@ -74,7 +74,7 @@ module _ (p : Params) (f : AllFills) (all : AreAllFills p f) (t : HistoryTurn) (
   EndTurn k h = (y : RunFound) → IsOf generation y → IsEndLeft p t k y → Stops p (Allows p f y) h
 
   abbrev pub public : Public
-  public = public_after p f t.epoch p.batches
+  public = public_in_epoch p f t.epoch p.batches
 
   abbrev pub number : ℕ
   number = (public_at p f t.epoch).epoch + 1
@@ -223,7 +223,7 @@ module _ (p : Params) (f : AllFills) (all : AreAllFills p f) (t : HistoryTurn) (
   repeats s is low more =
       let step = walk_repeat p f all t generation low s is more in
       let yes_more : nat_lt t.batch t.records ≡ true = lt-ltb t.batch t.records more in
-      let same : notes_of_batch p f t ≡ phase_of = (λ i. cond (yes_more i) phase_of (batch_notes p (public_after p f t.epoch t.batch) (fills_at p f t.epoch) t.batch)) in (
+      let same : notes_of_batch p f t ≡ phase_of = (λ i. cond (yes_more i) phase_of (batch_notes p (public_in_epoch p f t.epoch t.batch) (fills_at p f t.epoch) t.batch)) in (
         step.0,
         (
           step.1.0,
@@ -241,13 +241,13 @@ module _ (p : Params) (f : AllFills) (all : AreAllFills p f) (t : HistoryTurn) (
       )
     where
       phase_of : List Note
-      phase_of = phase_notes p (public_after p f t.epoch t.batch) (fills_at p f t.epoch) (batch_leaves p (fills_at p f t.epoch) t.batch)
+      phase_of = phase_notes p (public_in_epoch p f t.epoch t.batch) (fills_at p f t.epoch) (batch_leaves p (fills_at p f t.epoch) t.batch)
 
   begins : (s : StandingKnown) → AtTurn p f t generation s → (low : t.batch < p.batches) → t.records ≤ t.batch → s.logged ≡ t.batch → Stepped s (record t { batch = suc t.batch }) (notes_of_batch p f t) true
   begins s is low new logged =
       let step = walk_begin p f all t generation low s is new logged in
       let no_more : nat_lt t.batch t.records ≡ false = le-ltb t.batch t.records new in
-      let phase : List Note = phase_notes p (public_after p f t.epoch t.batch) (fills_at p f t.epoch) (batch_leaves p (fills_at p f t.epoch) t.batch) in
+      let phase : List Note = phase_notes p (public_in_epoch p f t.epoch t.batch) (fills_at p f t.epoch) (batch_leaves p (fills_at p f t.epoch) t.batch) in
       let record_part : List Note = record_notes p (((public_at p f t.epoch).epoch + 1) % 2) t.batch in
       let same : notes_of_batch p f t ≡ record_part ++ phase = (λ i. cond (no_more i) phase (record_part ++ phase)) in (
         step.0,

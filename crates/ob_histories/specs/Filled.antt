@@ -18,14 +18,14 @@ use Rattle.ob_schedule.specs.Follow.{Follow, TakesLine, opened}
 use Rattle.ob_histories.specs.Fills.{AllFills, version_filled}
 
 -- the note's label, or its slot, is the fills' of the epoch that runs behind so many durable ones
-abbrev pub IsFilled : Params → AllFills → ℕ → StandingKnown → List Hole → List Want → Note → Type 0
-IsFilled p f epoch s (h ∷ holes) wants note = note ≡ Read (slot_cell p (side_number (s.homes h.bucket)) h.bucket (f.slot h.bucket (version_filled p f epoch h.bucket) h.number))
-IsFilled p f epoch s [] (Place batch place ∷ wants) note = note ≡ Label (f.leaf (suc epoch) batch place)
-IsFilled p f epoch s [] (Record batch ∷ wants) note = (leaf : ℕ) → note ≡ Label leaf → leaf ≡ f.leaf (suc epoch) batch 0
-IsFilled p f epoch s [] (Fixed wanted change ∷ wants) note = Unit {0}
-IsFilled p f epoch s [] (Setting r ∷ wants) note = Unit {0}
-IsFilled p f epoch s [] (Checkpoint ∷ wants) note = Unit {0}
-IsFilled p f epoch s [] [] note = Unit {0}
+abbrev pub IsOfFills : Params → AllFills → ℕ → StandingKnown → List Hole → List Want → Note → Type 0
+IsOfFills p f epoch s (h ∷ holes) wants note = note ≡ Read (slot_cell p (side_number (s.homes h.bucket)) h.bucket (f.slot h.bucket (version_filled p f epoch h.bucket) h.number))
+IsOfFills p f epoch s [] (Place batch place ∷ wants) note = note ≡ Label (f.leaf (suc epoch) batch place)
+IsOfFills p f epoch s [] (Record batch ∷ wants) note = (leaf : ℕ) → note ≡ Label leaf → leaf ≡ f.leaf (suc epoch) batch 0
+IsOfFills p f epoch s [] (Fixed wanted change ∷ wants) note = Unit {0}
+IsOfFills p f epoch s [] (Setting r ∷ wants) note = Unit {0}
+IsOfFills p f epoch s [] (Checkpoint ∷ wants) note = Unit {0}
+IsOfFills p f epoch s [] [] note = Unit {0}
 
 -- the sync that settles an epoch's end makes one more durable
 abbrev pub settled_by : Change → Follow → ℕ → ℕ
@@ -43,7 +43,7 @@ epoch_behind known epoch = settled_next known.holes known.wants known epoch
 abbrev pub TakesFilled : Params → AllFills → ℕ → Follow → List Line → Type 0
 TakesFilled p f epoch known [] = Unit {0}
 TakesFilled p f epoch known (L.Note note ∷ lines) =
-    (next : Follow) × TakesLine known (L.Note note) next × IsFilled p f epoch known.stands known.holes known.wants note × TakesFilled p f (epoch_behind known epoch) next lines
+    (next : Follow) × TakesLine known (L.Note note) next × IsOfFills p f epoch known.stands known.holes known.wants note × TakesFilled p f (epoch_behind known epoch) next lines
 TakesFilled p f epoch known (L.Open ∷ lines) = TakesFilled p f epoch (opened known) lines
 TakesFilled p f epoch known (L.Start q ∷ lines) = ⊥
 TakesFilled p f epoch known (L.Bad ∷ lines) = ⊥

@@ -30,13 +30,13 @@ public_at p f zero = public_formatted p
 public_at p f (suc epoch) = after_end p (behind p f (suc epoch) (public_at p f epoch) p.batches)
 
 -- and behind so many batches of the epoch that runs then
-abbrev pub public_after : Params → AllFills → ℕ → ℕ → Public
-public_after p f epoch batches = behind p f (suc epoch) (public_at p f epoch) batches
+abbrev pub public_in_epoch : Params → AllFills → ℕ → ℕ → Public
+public_in_epoch p f epoch batches = behind p f (suc epoch) (public_at p f epoch) batches
 
 -- the version that a bucket has then
 abbrev pub version_filled : Params → AllFills → ℕ → ℕ → ℕ
 version_filled p f zero bucket = 0
-version_filled p f (suc epoch) bucket = cond (is_lifted_by_end p (public_after p f epoch p.batches) bucket) (suc epoch) (version_filled p f epoch bucket)
+version_filled p f (suc epoch) bucket = cond (is_lifted_by_end p (public_in_epoch p f epoch p.batches) bucket) (suc epoch) (version_filled p f epoch bucket)
 
 -- what fills the holes of the epoch that runs then
 abbrev pub fills_at : Params → AllFills → ℕ → Fills

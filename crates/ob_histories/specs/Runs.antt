@@ -5,7 +5,7 @@ use Rattle.ob_base.specs.declared.params.Params.{Params}
 use Rattle.ob_base.specs.Layout.{GenerationTwin, EpochTwin, LogArea}
 use Rattle.ob_store.specs.declared.watch.Note.{Note}
 use Rattle.ob_schedule.specs.Schedule.{batch_leaves, batch_notes, before_repeats, check_cells, end_notes, head_notes, phase_notes, reads_of, region_cells}
-use Rattle.ob_histories.specs.Fills.{AllFills, public_at, public_after, fills_at}
+use Rattle.ob_histories.specs.Fills.{AllFills, public_at, public_in_epoch, fills_at}
 
 pub record RunFound : Type 0 where
   pub epoch : ℕ  -- the durable one
@@ -43,11 +43,11 @@ turn_behind p t (suc n) = turn_behind p (next_turn p t) n
 abbrev pub notes_of_batch : Params → AllFills → HistoryTurn → List Note
 notes_of_batch p f t =
     cond (nat_lt t.batch t.records)
-    (phase_notes p (public_after p f t.epoch t.batch) (fills_at p f t.epoch) (batch_leaves p (fills_at p f t.epoch) t.batch))
-    (batch_notes p (public_after p f t.epoch t.batch) (fills_at p f t.epoch) t.batch)
+    (phase_notes p (public_in_epoch p f t.epoch t.batch) (fills_at p f t.epoch) (batch_leaves p (fills_at p f t.epoch) t.batch))
+    (batch_notes p (public_in_epoch p f t.epoch t.batch) (fills_at p f t.epoch) t.batch)
 
 abbrev pub notes_of_end : Params → AllFills → HistoryTurn → List Note
-notes_of_end p f t = end_notes p (record (public_after p f t.epoch p.batches) { gates = λ cell. t.gate }) (fills_at p f t.epoch)
+notes_of_end p f t = end_notes p (record (public_in_epoch p f t.epoch p.batches) { gates = λ cell. t.gate }) (fills_at p f t.epoch)
 
 abbrev pub notes_of_turn : Params → AllFills → HistoryTurn → List Note
 notes_of_turn p f t = cond (nat_lt t.batch p.batches) (notes_of_batch p f t) (notes_of_end p f t)
