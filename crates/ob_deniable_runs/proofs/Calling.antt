@@ -8,7 +8,7 @@ use Rattle.ob_deniable.specs.Works.{LifeWork, Opens, Logs, Shows, Lifts, Ends, S
 use Rattle.ob_deniable_runs.specs.OtherCalls.{AreOtherCalls, AreOtherRuns, CallsAreDeniable, IsOtherCall, IsOtherRefused, IsWorkOfCall, IsWorkOfCalls, IsWorkOfOpening, IsWorkOfRefused, IsWorkOfRun, IsWorkOfRuns, OtherRun, shows_again, told_write}
 use Rattle.ob_deniable_runs.specs.RunsDenied.{work_of}
 use Rattle.ob_deniable_runs.specs.Tapes.{ArePutsNext}
-use Rattle.ob_deniable_runs.proofs.Denied.{runs_are_deniable}
+use Rattle.ob_deniable_runs.proofs.Denied.{own_shape, runs_are_deniable}
 use Rattle.ob_fresh.specs.Drawn.{AreNextPuts}
 use Rattle.ob_recover.specs.Calls.{Finds, repeated}
 use Rattle.ob_recover.specs.Life.{WordId, LifeAct, LifeState, formatted_life, next_word, reached}
@@ -22,14 +22,6 @@ use Rattle.ob_vault.specs.Shapes.{Shape}
 use Rattle.ob_vault.specs.Shown.{AreActsOf, AreShownBy}
 
 -- ---- shapes and puts of rows
-
-own_shape : (work : List LifeWork) → SameShape work work
-own_shape [] = tt
-own_shape (Opens g ∷ rest) = (refl, own_shape rest)
-own_shape (Logs asks first ∷ rest) = ((refl, refl), own_shape rest)
-own_shape (Shows ∷ rest) = (tt, own_shape rest)
-own_shape (Lifts ∷ rest) = (tt, own_shape rest)
-own_shape (Ends ws n ∷ rest) = (refl, own_shape rest)
 
 shapes_join : (xs ys us vs : List LifeWork) → SameShape xs us → SameShape ys vs → SameShape (xs ++ ys) (us ++ vs)
 shapes_join [] ys [] vs one two = two

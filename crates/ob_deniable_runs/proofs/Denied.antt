@@ -4,9 +4,9 @@ use Rattle.std.proofs.Common.{arith, refl, sym, ap, subst, ◌∙◌}
 use Rattle.ob_base.specs.declared.params.Params.{Params}
 use Rattle.ob_base.specs.Repeats.{Has}
 use Rattle.ob_base.specs.Tree.{buckets, width}
-use Rattle.ob_deniable.specs.Moved.{PermutesBelow}
+use Rattle.ob_deniable.specs.Moved.{PermutesBelow, Undo}
 use Rattle.ob_deniable.specs.Telling.{ActFills, IsFormatRanked, fills_of_acts, fills_of_work}
-use Rattle.ob_deniable.specs.Works.{LifeWork, Opens, Logs, Shows, Lifts, Ends, VersionSlots, SameShape, AreWritesDrawn, IsLifeOf, Exchange, acts_of, slots_moved, words_moved}
+use Rattle.ob_deniable.specs.Works.{LifeWork, Opens, Logs, Shows, Lifts, Ends, VersionSlots, SameShape, AreWritesDrawn, IsLifeOf, Exchange, acts_of, slots_moved, words_moved, IsShown, own_slots}
 use Rattle.ob_deniable.proofs.AllSeen.{seen_is_all}
 use Rattle.ob_deniable.proofs.EachWork.{lives_are_works}
 use Rattle.ob_deniable.proofs.Exchanging.{at_first, lives_exchange}
@@ -14,14 +14,23 @@ use Rattle.ob_deniable_runs.specs.RunsDenied.{RunsAreDeniable, work_of}
 use Rattle.ob_deniable_runs.specs.Tapes.{ArePutsInTurn, AreVersionsUntied, CouldBeDone, EndsUntied, IsDoneOn, TapesExchange}
 use Rattle.ob_deniable_runs.proofs.Agree.{AreActsAgreed, IsAgreedLife, lives_agree}
 use Rattle.ob_deniable_runs.proofs.Both.{both, version_ranked, version_untied}
-use Rattle.ob_deniable_runs.proofs.Free.{acts_agree, first_writes, other_writes}
+use Rattle.ob_deniable_runs.proofs.Free.{acts_in, first_writes, other_writes, turn_puts}
 use Rattle.ob_deniable_runs.proofs.Rows.{Keeps, all_apart, all_blocks, all_has, at_format, formatted, formatted_has}
-use Rattle.ob_deniable_runs.proofs.Tape.{block_word, free_base, some_word, tape_by}
+use Rattle.ob_deniable_runs.proofs.Tape.{block_led, free_led, led_back, led_by}
+use Rattle.ob_deniable_runs.proofs.Used.{AreActsIn, labels_used, used_agree}
 use Rattle.ob_fresh.specs.Drawn.{AreWordsInTurn, AllDrawNext, formatted_words, words_on}
-use Rattle.ob_fresh.proofs.Blocks.{AreApart, Block}
+use Rattle.ob_fresh.proofs.Blocks.{AreApart, Block, IsFree}
 use Rattle.ob_tables.specs.Rank.{IsRanking}
 use Rattle.ob_recover.specs.Life.{WordId, IsLife, LifeAct, LifeState, formatted_life}
 use Rattle.ob_store.specs.Disk.{Disk}
+
+pub own_shape : (work : List LifeWork) → SameShape work work
+own_shape [] = tt
+own_shape (Opens g ∷ rest) = (refl, own_shape rest)
+own_shape (Logs asks first ∷ rest) = ((refl, refl), own_shape rest)
+own_shape (Shows ∷ rest) = (tt, own_shape rest)
+own_shape (Lifts ∷ rest) = (tt, own_shape rest)
+own_shape (Ends ws n ∷ rest) = (refl, own_shape rest)
 
 module _ (p : Params) (tape : WordId → ℕ) (slots : VersionSlots) (one other : List LifeWork) (some : 0 < p.dummies) (done : IsDoneOn p tape slots one) (sh : SameShape one other) (puts : ArePutsInTurn p other) where
   abbrev start : LifeState
@@ -68,17 +77,58 @@ module _ (p : Params) (tape : WordId → ℕ) (slots : VersionSlots) (one other 
   abbrev move : Block → ℕ → ℕ
   move b j = exchange.indexes_back tape b.version b.bucket j
 
+  abbrev move_to : Block → ℕ → ℕ
+  move_to b j = exchange.indexes tape b.version b.bucket j
+
+  abbrev ids_then : WordId → WordId
+  ids_then = led_by (width p) move_to exchange.ids all
+
+  abbrev back_then : WordId → WordId
+  back_then = led_by (width p) move exchange.ids_back all
+
   abbrev other_tape : WordId → ℕ
-  other_tape = tape_by (width p) move tape moved all
+  other_tape = words_moved back_then tape
 
   each : (b : Block) → Has all b → (j : ℕ) → j < width p → other_tape (words_on b.first j) ≡ tape (words_on b.first (exchange.indexes_back tape b.version b.bucket j))
-  each b h j low = block_word (width p) move tape moved all apart b h j low
+  each b h j low = ap tape (block_led (width p) move exchange.ids_back all apart b h j low)
+
+  -- ---- no word that either work uses for a label is one of a version
+
+  abbrev Free : WordId → Type 0
+  Free v = IsFree (width p) all v
+
+  used : (to_slots : VersionSlots) → AreActsIn Free (acts_of 0 to_slots other)
+  used to_slots = acts_in p tape slots some Free to_slots 0 start (formatted_words p) first_blocks one other 1 (buckets p * width p) sh done.is_life (done.turn).behind keeps puts refl refl (λ v free. free)
+
+  used_first : AreActsIn Free (acts_of 0 own_slots one)
+  used_first = acts_in p tape slots some Free own_slots 0 start (formatted_words p) first_blocks one one 1 (buckets p * width p) (own_shape one) done.is_life (done.turn).behind keeps
+      (turn_puts p tape slots 0 start (formatted_words p) one (done.turn).behind) refl refl (λ v free. free)
+
+  shown_free : (work : List LifeWork) → AreActsIn Free (acts_of 0 own_slots work) → (v : WordId) → IsShown p work v → Free v
+  shown_free work uses v shown = subst Free shown.2 (labels_used Free p (λ w. 0) (formatted_life (own_slots 0)) (acts_of 0 own_slots work) (λ k u e. absurd (cc)) tt uses shown.0 shown.1)
+
+  block_stays : (b : Block) → Has all b → (j : ℕ) → j < width p → exchange.ids (words_on b.first j) ≡ words_on b.first j
+  block_stays b h j low = exchange.ids_stay (words_on b.first j) (λ shown. shown_free one used_first (words_on b.first j) shown b h j low refl) (λ shown. shown_free other (used own_slots) (words_on b.first j) shown b h j low refl)
+
+  back_free : (w : WordId) → Free w → Free (exchange.ids_back w)
+  back_free w free b h j low e = free b h j low (sym ((exchange.ids_undo).back w) ∙ ap exchange.ids e ∙ block_stays b h j low)
+
+  there_free : (w : WordId) → Free w → Free (exchange.ids w)
+  there_free w free b h j low e = free b h j low (sym ((exchange.ids_undo).there w) ∙ ap exchange.ids_back (e ∙ sym (block_stays b h j low)) ∙ (exchange.ids_undo).there (words_on b.first j))
+
+  within : (v u : ℕ) → PermutesBelow (width p) (exchange.indexes tape v u) (exchange.indexes_back tape v u)
+  within v u = exchange.indexes_within tape v u
+
+  undo : Undo ids_then back_then
+  undo = record {
+    there = led_back (width p) all apart move move_to exchange.ids_back exchange.ids (λ b j low. (within b.version b.bucket).to_within j low) (λ b j low. (within b.version b.bucket).there j low) (exchange.ids_undo).there there_free;
+    back = led_back (width p) all apart move_to move exchange.ids exchange.ids_back (λ b j low. (within b.version b.bucket).from_within j low) (λ b j low. (within b.version b.bucket).back j low) (exchange.ids_undo).back back_free;
+  }
 
   -- ---- the life, and what it fills
 
   agreed : AreActsAgreed p moved other_tape (acts_of 0 slots_then other)
-  agreed = acts_agree p tape slots some moved other_tape slots_then 0 start (formatted_words p) first_blocks one other 1 (buckets p * width p) sh done.is_life (done.turn).behind keeps puts refl refl
-      (λ v free. sym (free_base (width p) move tape moved all v free))
+  agreed = used_agree Free p moved other_tape (λ v free. ap tape (sym (free_led (width p) move exchange.ids_back all v free))) (acts_of 0 slots_then other) (used slots_then)
 
   both_lives : IsAgreedLife p moved other_tape (formatted_life (slots_then 0)) (acts_of 0 slots_then other)
   both_lives = lives_agree p moved other_tape (formatted_life (slots_then 0)) (acts_of 0 slots_then other) (λ k v e. absurd (cc)) tt agreed life_then
@@ -88,11 +138,8 @@ module _ (p : Params) (tape : WordId → ℕ) (slots : VersionSlots) (one other 
 
   -- ---- its words in turn
 
-  permutes : (v u : ℕ) → PermutesBelow (width p) (exchange.indexes tape v u) (exchange.indexes_back tape v u)
-  permutes v u = exchange.indexes_within tape v u
-
   walked : AllDrawNext p other_tape (formatted_life (slots_then 0)) (formatted_words p) (acts_of 0 slots_then other) × EndsUntied p other_tape (formatted_life (slots_then 0)) (formatted_words p) (acts_of 0 slots_then other)
-  walked = both p some tape other_tape (exchange.indexes tape) (exchange.indexes_back tape) permutes slots 0 start (formatted_life (slots_then 0)) (formatted_words p) (formatted_words p) first_blocks one other 1 (buckets p * width p) sh
+  walked = both p some tape other_tape (exchange.indexes tape) (exchange.indexes_back tape) within slots 0 start (formatted_life (slots_then 0)) (formatted_words p) (formatted_words p) first_blocks one other 1 (buckets p * width p) sh
       (at_first p some tape other_tape slots slots_then done.ranked ranked_then) refl refl refl refl refl puts done.is_life both_lives.0 (done.turn).behind (done.untied).ends keeps same each
 
   words : (u : ℕ) → u < buckets p → (j : ℕ) → j < width p → other_tape (words_on ((formatted_words p).first u) j) ≡ tape (words_on ((formatted_words p).first u) (exchange.indexes_back tape 0 u j))
@@ -103,18 +150,19 @@ module _ (p : Params) (tape : WordId → ℕ) (slots : VersionSlots) (one other 
 
   could : CouldBeDone p tape other (fills_of_work p tape slots one)
   could = record {
-    other_tape = other_tape;
+    ids = ids_then;
+    ids_back = back_then;
+    ids_undo = undo;
     slots = slots_then;
-    words = some_word (width p) move tape moved (λ w. (exchange.ids_back w, refl)) all;
     done = record {
       ranked = ranked_then;
       is_life = both_lives.0;
       turn = record {
-        format = λ u low. version_ranked p tape other_tape (exchange.indexes tape 0 u) (exchange.indexes_back tape 0 u) (permutes 0 u) ((formatted_words p).first u) (words u low) ((done.untied).format u low) (slots 0 u) ((done.turn).format u low);
+        format = λ u low. version_ranked p tape other_tape (exchange.indexes tape 0 u) (exchange.indexes_back tape 0 u) (within 0 u) ((formatted_words p).first u) (words u low) ((done.untied).format u low) (slots 0 u) ((done.turn).format u low);
         behind = walked.0;
       };
       untied = record {
-        format = λ u low. version_untied p tape other_tape (exchange.indexes tape 0 u) (exchange.indexes_back tape 0 u) (permutes 0 u) ((formatted_words p).first u) (words u low) ((done.untied).format u low);
+        format = λ u low. version_untied p tape other_tape (exchange.indexes tape 0 u) (exchange.indexes_back tape 0 u) (within 0 u) ((formatted_words p).first u) (words u low) ((done.untied).format u low);
         ends = walked.1;
       };
     };

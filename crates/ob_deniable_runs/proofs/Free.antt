@@ -8,31 +8,31 @@ use Rattle.ob_recover.proofs.LabelLaws.{put_is}
 use Rattle.ob_deniable.specs.Works.{LifeWork, Opens, Logs, Shows, Lifts, Ends, VersionSlots, SameShape, AreWritesDrawn, acts_of}
 use Rattle.ob_deniable.proofs.Shapes.{drawn_any}
 use Rattle.ob_deniable_runs.specs.Tapes.{ArePutsNext}
-use Rattle.ob_deniable_runs.proofs.Agree.{AreAgreed, ArePutsAgreed, AreActsAgreed}
+use Rattle.ob_deniable_runs.proofs.Used.{AreActsIn, ArePlacesIn, ArePutsIn}
 use Rattle.ob_deniable_runs.proofs.Rows.{Keeps, all_blocks, keeps_step, record_free, write_free}
 use Rattle.ob_fresh.specs.Drawn.{AllDrawNext, AreNextPuts, WordsKept, words_step}
 use Rattle.ob_fresh.proofs.Blocks.{Block, IsFree}
 use Rattle.ob_fresh.proofs.Moves.{blocks_step}
 
--- ---- where words agree
+-- ---- what holds of the words of a record, or of puts
 
 -- those of so many places from this word on
-abbrev AgreeFrom : (w w' : WordId → ℕ) → WordId → ℕ → Type 0
-AgreeFrom w w' first n = (v : WordId) → v.generation ≡ first.generation → first.place ≤ v.place → v.place < first.place + n → w v ≡ w' v
+abbrev AllFrom : (P : WordId → Type 0) → WordId → ℕ → Type 0
+AllFrom P first n = (v : WordId) → v.generation ≡ first.generation → first.place ≤ v.place → v.place < first.place + n → P v
 
-module _ (p : Params) (w w' : WordId → ℕ) where
-  later : (first : WordId) (n : ℕ) → AgreeFrom w w' first (suc n) → AgreeFrom w w' (next_word first) n
+module _ (P : WordId → Type 0) where
+  later : (first : WordId) (n : ℕ) → AllFrom P first (suc n) → AllFrom P (next_word first) n
   later first n each v g low high = each v g (let x : first.place + 1 ≤ v.place = low in omega arith) (let y : v.place < (first.place + 1) + n = high in omega arith)
 
-  places_agree : (first : WordId) (asks : List (Option ℕ)) → AgreeFrom w w' first (length asks) → AreAgreed p w w' (with_words first asks)
-  places_agree first [] each = tt
-  places_agree first (a ∷ asks) each = (each first refl (omega arith) (omega arith), places_agree (next_word first) asks (later first (length asks) each))
+  places_in : (first : WordId) (asks : List (Option ℕ)) → AllFrom P first (length asks) → ArePlacesIn P (with_words first asks)
+  places_in first [] each = tt
+  places_in first (a ∷ asks) each = (each first refl (omega arith) (omega arith), places_in (next_word first) asks (later first (length asks) each))
 
-  puts_agree : (first : WordId) (ws : List (ℕ × Option WordId)) → AreNextPuts first ws → AgreeFrom w w' first (length ws) → ArePutsAgreed p w w' ws
-  puts_agree first [] puts each = tt
-  puts_agree first (x ∷ ws) puts each = (
-    λ v e. subst (λ (u : WordId). w u ≡ w' u) (sym (put_is x.1 first v puts.0 e)) (each first refl (omega arith) (omega arith)),
-    puts_agree (next_word first) ws puts.1 (later first (length ws) each),
+  puts_in : (first : WordId) (ws : List (ℕ × Option WordId)) → AreNextPuts first ws → AllFrom P first (length ws) → ArePutsIn P ws
+  puts_in first [] puts each = tt
+  puts_in first (x ∷ ws) puts each = (
+    λ v e. subst P (sym (put_is x.1 first v puts.0 e)) (each first refl (omega arith) (omega arith)),
+    puts_in (next_word first) ws puts.1 (later first (length ws) each),
   )
 
 puts_drawn : (p : Params) (w : WordId → ℕ) (g n drawn : ℕ) (first : WordId) (ws : List (ℕ × Option WordId)) → AreNextPuts first ws → first.generation ≡ g → n ≤ first.place → first.place + length ws ≤ drawn → AreDrawn p w g n ws drawn
@@ -74,32 +74,45 @@ module _ (p : Params) (tape : WordId → ℕ) (slots : VersionSlots) where
       )
   other_writes e s k (a ∷ one) (b ∷ other) g n sh next puts gen at m low = absurd sh.0
 
-  -- where two tapes agree in all words that are in no version, they agree in those of its acts
-  pub acts_agree : (some : 0 < p.dummies) (w w' : WordId → ℕ) (slots' : VersionSlots) (e : ℕ) (s : LifeState) (k : WordsKept) (bs : List Block) (one other : List LifeWork) (g n : ℕ) → SameShape one other → IsLife p tape s (acts_of e slots one) → AllDrawNext p tape s k (acts_of e slots one) → Keeps p tape s k bs →
-      ArePutsNext p g n other → g ≡ s.generation → n ≡ k.drawn → ((v : WordId) → IsFree (width p) (all_blocks p tape s k bs (acts_of e slots one)) v → w v ≡ w' v) → AreActsAgreed p w w' (acts_of e slots' other)
-  acts_agree some w w' slots' e s k bs [] [] g n sh life next keeps puts gen at each = tt
-  acts_agree some w w' slots' e s k bs [] (b ∷ other) g n sh life next keeps puts gen at each = absurd sh
-  acts_agree some w w' slots' e s k bs (a ∷ one) [] g n sh life next keeps puts gen at each = absurd sh
-  acts_agree some w w' slots' e s k bs (Opens x ∷ one) (Opens y ∷ other) g n sh life next keeps puts gen at each =
-      (tt, acts_agree some w w' slots' e (life_step p tape s (Open x)) (words_step p tape s k (Open x)) bs one other y 0 sh.1 life.1 next.1 (keeps_step p tape some s k bs (Open x) life.0 next.0 keeps) puts (sym sh.0) refl each)
-  acts_agree some w w' slots' e s k bs (Logs asks first ∷ one) (Logs others start ∷ other) g n sh life next keeps puts gen at each =
+  -- what holds of all words that are in no version holds of those of its acts
+  pub acts_in : (some : 0 < p.dummies) (P : WordId → Type 0) (slots' : VersionSlots) (e : ℕ) (s : LifeState) (k : WordsKept) (bs : List Block) (one other : List LifeWork) (g n : ℕ) → SameShape one other → IsLife p tape s (acts_of e slots one) → AllDrawNext p tape s k (acts_of e slots one) → Keeps p tape s k bs →
+      ArePutsNext p g n other → g ≡ s.generation → n ≡ k.drawn → ((v : WordId) → IsFree (width p) (all_blocks p tape s k bs (acts_of e slots one)) v → P v) → AreActsIn P (acts_of e slots' other)
+  acts_in some P slots' e s k bs [] [] g n sh life next keeps puts gen at each = tt
+  acts_in some P slots' e s k bs [] (b ∷ other) g n sh life next keeps puts gen at each = absurd sh
+  acts_in some P slots' e s k bs (a ∷ one) [] g n sh life next keeps puts gen at each = absurd sh
+  acts_in some P slots' e s k bs (Opens x ∷ one) (Opens y ∷ other) g n sh life next keeps puts gen at each =
+      (tt, acts_in some P slots' e (life_step p tape s (Open x)) (words_step p tape s k (Open x)) bs one other y 0 sh.1 life.1 next.1 (keeps_step p tape some s k bs (Open x) life.0 next.0 keeps) puts (sym sh.0) refl each)
+  acts_in some P slots' e s k bs (Logs asks first ∷ one) (Logs others start ∷ other) g n sh life next keeps puts gen at each =
       let r : LifeBatch = record { asks = asks; first = first } in
       let many : length asks ≡ length others = sh.0.0 in
       let place : start.place ≡ k.drawn = ap (λ (x : WordId). x.place) (sym sh.0.1 ∙ next.0) in
       let from : start.generation ≡ s.generation = ap (λ (x : WordId). x.generation) (sym sh.0.1 ∙ next.0) in (
-        places_agree p w w' start others (λ v now low high. each v (record_free p tape s k bs (Append r) (k.drawn + length asks) (acts_of e slots one) keeps.blocks v (now ∙ from) (omega arith) (omega arith) refl refl refl life.1 next.1)),
-        acts_agree some w w' slots' e (life_step p tape s (Append r)) (words_step p tape s k (Append r)) bs one other g (n + length others) sh.1 life.1 next.1 (keeps_step p tape some s k bs (Append r) life.0 next.0 keeps) puts gen (omega arith) each,
+        places_in P start others (λ v now low high. each v (record_free p tape s k bs (Append r) (k.drawn + length asks) (acts_of e slots one) keeps.blocks v (now ∙ from) (omega arith) (omega arith) refl refl refl life.1 next.1)),
+        acts_in some P slots' e (life_step p tape s (Append r)) (words_step p tape s k (Append r)) bs one other g (n + length others) sh.1 life.1 next.1 (keeps_step p tape some s k bs (Append r) life.0 next.0 keeps) puts gen (omega arith) each,
       )
-  acts_agree some w w' slots' e s k bs (Shows ∷ one) (Shows ∷ other) g n sh life next keeps puts gen at each =
-      (tt, acts_agree some w w' slots' e (life_step p tape s ShowBatch) k bs one other g n sh.1 life.1 next.1 (keeps_step p tape some s k bs ShowBatch life.0 next.0 keeps) puts gen at each)
-  acts_agree some w w' slots' e s k bs (Lifts ∷ one) (Lifts ∷ other) g n sh life next keeps puts gen at each =
-      (tt, acts_agree some w w' slots' e (life_step p tape s ShowLifts) k bs one other g n sh.1 life.1 next.1 (keeps_step p tape some s k bs ShowLifts life.0 next.0 keeps) puts gen at each)
-  acts_agree some w w' slots' e s k bs (Ends ws x ∷ one) (Ends vs y ∷ other) g n sh life next keeps puts gen at each =
+  acts_in some P slots' e s k bs (Shows ∷ one) (Shows ∷ other) g n sh life next keeps puts gen at each =
+      (tt, acts_in some P slots' e (life_step p tape s ShowBatch) k bs one other g n sh.1 life.1 next.1 (keeps_step p tape some s k bs ShowBatch life.0 next.0 keeps) puts gen at each)
+  acts_in some P slots' e s k bs (Lifts ∷ one) (Lifts ∷ other) g n sh life next keeps puts gen at each =
+      (tt, acts_in some P slots' e (life_step p tape s ShowLifts) k bs one other g n sh.1 life.1 next.1 (keeps_step p tape some s k bs ShowLifts life.0 next.0 keeps) puts gen at each)
+  acts_in some P slots' e s k bs (Ends ws x ∷ one) (Ends vs y ∷ other) g n sh life next keeps puts gen at each =
       let same : x ≡ y = sh.0 in
       let many : x ≡ (words_step p tape s k (End ws x (slots (e + 1)))).drawn = next.0.many in
       let few : length vs ≤ p.writes = puts.0 in (
-        puts_agree p w w' (record { generation = g; place = n }) vs puts.1 (λ v now low high. each v (write_free p tape s k bs ws x (slots (e + 1)) (acts_of (e + 1) slots one) keeps.blocks v (now ∙ gen) (omega arith) (omega arith) life.1 next.1)),
-        acts_agree some w w' slots' (e + 1) (life_step p tape s (End ws x (slots (e + 1)))) (words_step p tape s k (End ws x (slots (e + 1)))) (blocks_step p tape s k bs (End ws x (slots (e + 1)))) one other g y sh.1 life.1 next.1
+        puts_in P (record { generation = g; place = n }) vs puts.1 (λ v now low high. each v (write_free p tape s k bs ws x (slots (e + 1)) (acts_of (e + 1) slots one) keeps.blocks v (now ∙ gen) (omega arith) (omega arith) life.1 next.1)),
+        acts_in some P slots' (e + 1) (life_step p tape s (End ws x (slots (e + 1)))) (words_step p tape s k (End ws x (slots (e + 1)))) (blocks_step p tape s k bs (End ws x (slots (e + 1)))) one other g y sh.1 life.1 next.1
             (keeps_step p tape some s k bs (End ws x (slots (e + 1))) life.0 next.0 keeps) puts.2 gen (sym same ∙ many) each,
       )
-  acts_agree some w w' slots' e s k bs (a ∷ one) (b ∷ other) g n sh life next keeps puts gen at each = absurd sh.0
+  acts_in some P slots' e s k bs (a ∷ one) (b ∷ other) g n sh life next keeps puts gen at each = absurd sh.0
+
+  -- a work that draws in turn is of such puts
+  pub turn_puts : (e : ℕ) (s : LifeState) (k : WordsKept) (one : List LifeWork) → AllDrawNext p tape s k (acts_of e slots one) → ArePutsNext p s.generation k.drawn one
+  turn_puts e s k [] next = tt
+  turn_puts e s k (Opens g ∷ one) next = turn_puts e (life_step p tape s (Open g)) (words_step p tape s k (Open g)) one next.1
+  turn_puts e s k (Logs asks first ∷ one) next = turn_puts e (life_step p tape s (Append (record { asks = asks; first = first }))) (words_step p tape s k (Append (record { asks = asks; first = first }))) one next.1
+  turn_puts e s k (Shows ∷ one) next = turn_puts e (life_step p tape s ShowBatch) k one next.1
+  turn_puts e s k (Lifts ∷ one) next = turn_puts e (life_step p tape s ShowLifts) k one next.1
+  turn_puts e s k (Ends ws x ∷ one) next = (
+    next.0.few,
+    next.0.puts,
+    subst (λ (n : ℕ). ArePutsNext p s.generation n one) (sym next.0.many) (turn_puts (e + 1) (life_step p tape s (End ws x (slots (e + 1)))) (words_step p tape s k (End ws x (slots (e + 1)))) one next.1),
+  )

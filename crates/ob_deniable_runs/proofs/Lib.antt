@@ -1,6 +1,7 @@
 pub mod Rows
 pub mod Tape
 pub mod Agree
+pub mod Used
 pub mod Free
 pub mod Both
 pub mod Denied

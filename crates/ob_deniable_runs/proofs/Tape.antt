@@ -1,6 +1,6 @@
--- A tape that gives each word of a version another one of its version, and each other word what another tape gives.
+-- A permutation of words that leads each word of a version within its version.
 use Rattle.std.specs.Prelude.{◌≡◌, ℕ, ◌+◌, ◌-◌, ◌<◌, ◌≤◌, ◌==◌, nat_le, nat_lt, ◌&&◌, Bool, true, cond, List, [], ◌∷◌}
-use Rattle.std.proofs.Common.{arith, refl, sym, subst, ◌∙◌, inl, inr}
+use Rattle.std.proofs.Common.{arith, refl, sym, ap, subst, ◌∙◌, inl, inr, ◌⊎◌}
 use Rattle.std.proofs.lemmas.Bool.{and_from, and_parts, cases_Bool, eq-eqb, eqb-true, false≢true}
 use Rattle.std.proofs.lemmas.Bool.Decides.{nat_tests}
 use Rattle.ob_base.specs.Repeats.{Has}
@@ -37,36 +37,59 @@ of_block n b j low =
     and_from (b.first.generation == b.first.generation) (nat_le b.first.place (b.first.place + j) && nat_lt (b.first.place + j) (b.first.place + n)) (eq-eqb b.first.generation b.first.generation refl)
     (and_from (nat_le b.first.place (b.first.place + j)) (nat_lt (b.first.place + j) (b.first.place + n)) (to_le b.first.place (b.first.place + j) (omega arith)) (to_lt (b.first.place + j) (b.first.place + n) (omega arith)))
 
-module _ (n : ℕ) (move : Block → ℕ → ℕ) (tape base : WordId → ℕ) where
-  abbrev pub tape_by : List Block → WordId → ℕ
-  tape_by [] w = base w
-  tape_by (b ∷ bs) w = cond (is_in n b w) (tape (words_on b.first (move b (w.place - b.first.place)))) (tape_by bs w)
+module _ (n : ℕ) where
+  -- a word of a version goes to another one of its version, each other word as it is led
+  abbrev pub led_by : (move : Block → ℕ → ℕ) (ids : WordId → WordId) → List Block → WordId → WordId
+  led_by move ids [] w = ids w
+  led_by move ids (b ∷ bs) w = cond (is_in n b w) (words_on b.first (move b (w.place - b.first.place))) (led_by move ids bs w)
 
-  pub free_base : (bs : List Block) (w : WordId) → IsFree n bs w → tape_by bs w ≡ base w
-  free_base [] w f = refl
-  free_base (b ∷ bs) w f = elim (cases_Bool (is_in n b w)) [
-    | inl on ↦ absurd (let at = in_block n b w on in f b (inl refl) (w.place - b.first.place) at.0 at.1)
-    | inr off ↦ rw off (free_base bs w (λ c h. f c (inr h)))
-  ]
+  module _ (move : Block → ℕ → ℕ) (ids : WordId → WordId) where
+    pub free_led : (bs : List Block) (w : WordId) → IsFree n bs w → led_by move ids bs w ≡ ids w
+    free_led [] w f = refl
+    free_led (b ∷ bs) w f = elim (cases_Bool (is_in n b w)) [
+      | inl on ↦ absurd (let at = in_block n b w on in f b (inl refl) (w.place - b.first.place) at.0 at.1)
+      | inr off ↦ rw off (free_led bs w (λ c h. f c (inr h)))
+    ]
 
-  pub block_word : (bs : List Block) → AreApart n bs → (b : Block) → Has bs b → (j : ℕ) → j < n → tape_by bs (words_on b.first j) ≡ tape (words_on b.first (move b j))
-  block_word [] apart b h j low = absurd h
-  block_word (c ∷ bs) apart b h j low = elim (cases_Bool (is_in n c (words_on b.first j))) [
-    | inl on ↦ (
-        let at = in_block n c (words_on b.first j) on in
-        let i : ℕ = (words_on b.first j).place - c.first.place in
-        let same = apart b c h (inl refl) j i low at.0 at.1 in
-        rw on (λ t. tape (words_on (sym same.0 t).first (move (sym same.0 t) (sym same.1 t)))))
-    | inr off ↦ elim h [
-      | inl is ↦ absurd (false≢true (sym off ∙ subst (λ (d : Block). is_in n c (words_on d.first j) ≡ true) is (of_block n c j low)))
-      | inr rest ↦ rw off (block_word bs (λ x y f g. apart x y (inr f) (inr g)) b rest j low)
+    pub block_led : (bs : List Block) → AreApart n bs → (b : Block) → Has bs b → (j : ℕ) → j < n → led_by move ids bs (words_on b.first j) ≡ words_on b.first (move b j)
+    block_led [] apart b h j low = absurd h
+    block_led (c ∷ bs) apart b h j low = elim (cases_Bool (is_in n c (words_on b.first j))) [
+      | inl on ↦ (
+          let at = in_block n c (words_on b.first j) on in
+          let i : ℕ = (words_on b.first j).place - c.first.place in
+          let same = apart b c h (inl refl) j i low at.0 at.1 in
+          rw on (λ t. words_on (sym same.0 t).first (move (sym same.0 t) (sym same.1 t))))
+      | inr off ↦ elim h [
+        | inl is ↦ absurd (false≢true (sym off ∙ subst (λ (d : Block). is_in n c (words_on d.first j) ≡ true) is (of_block n c j low)))
+        | inr rest ↦ rw off (block_led bs (λ x y f g. apart x y (inr f) (inr g)) b rest j low)
+      ]
+    ]
+
+  -- a word is one of a block, or free
+  abbrev IsOneOf : List Block → WordId → Type 0
+  IsOneOf bs w = (b : Block) × Has bs b × (j : ℕ) × (j < n) × (w ≡ words_on b.first j)
+
+  one_or_free : (bs : List Block) (w : WordId) → IsOneOf bs w ⊎ IsFree n bs w
+  one_or_free [] w = inr (λ b h. absurd h)
+  one_or_free (b ∷ bs) w = elim (cases_Bool (is_in n b w)) [
+    | inl on ↦ (let at = in_block n b w on in inl (b, inl refl, w.place - b.first.place, at.0, at.1))
+    | inr off ↦ elim (one_or_free bs w) [
+      | inl one ↦ inl (one.0, inr one.1, one.2, one.3, one.4)
+      | inr free ↦ inr (λ c h j low e. elim h [
+        | inl is ↦ false≢true (sym off ∙ subst (λ (v : WordId). is_in n b v ≡ true) (sym e) (subst (λ (d : Block). is_in n b (words_on d.first j) ≡ true) is (of_block n b j low)))
+        | inr rest ↦ free c rest j low e
+      ])
     ]
   ]
 
-  -- each word is one of the tape's, if the base's are
-  pub some_word : ((w : WordId) → (v : WordId) × (base w ≡ tape v)) → (bs : List Block) (w : WordId) → (v : WordId) × (tape_by bs w ≡ tape v)
-  some_word each [] w = each w
-  some_word each (b ∷ bs) w = elim (cases_Bool (is_in n b w)) [
-    | inl on ↦ (words_on b.first (move b (w.place - b.first.place)), rw on refl)
-    | inr off ↦ (let r = some_word each bs w in (r.0, rw off r.1))
+  -- what undoes the moves within versions, and the rest, undoes the whole
+  pub led_back : (bs : List Block) → AreApart n bs → (to from : Block → ℕ → ℕ) (ids ids_back : WordId → WordId) → ((b : Block) (j : ℕ) → j < n → from b j < n) → ((b : Block) (j : ℕ) → j < n → to b (from b j) ≡ j) →
+      ((w : WordId) → ids (ids_back w) ≡ w) → ((w : WordId) → IsFree n bs w → IsFree n bs (ids_back w)) → (w : WordId) → led_by to ids bs (led_by from ids_back bs w) ≡ w
+  led_back bs apart to from ids ids_back low undo back stays w = elim (one_or_free bs w) [
+    | inl one ↦ (
+        let b : Block = one.0 in
+        let j : ℕ = one.2 in
+        ap (led_by to ids bs) (ap (led_by from ids_back bs) one.4 ∙ block_led from ids_back bs apart b one.1 j one.3)
+        ∙ block_led to ids bs apart b one.1 (from b j) (low b j one.3) ∙ ap (λ (i : ℕ). words_on b.first i) (undo b j one.3) ∙ sym one.4)
+    | inr free ↦ ap (led_by to ids bs) (free_led from ids_back bs w free) ∙ free_led to ids bs (ids_back w) (stays w free) ∙ back w
   ]

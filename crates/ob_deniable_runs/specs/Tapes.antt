@@ -2,9 +2,9 @@
 use Rattle.std.specs.Prelude.{◌≡◌, ℕ, ◌+◌, ◌*◌, ◌<◌, ◌≤◌, true, List, [], ◌∷◌, length, ⊤}
 use Rattle.ob_base.specs.declared.params.Params.{Params}
 use Rattle.ob_base.specs.Tree.{buckets, width}
-use Rattle.ob_deniable.specs.Moved.{HasNoTie}
+use Rattle.ob_deniable.specs.Moved.{HasNoTie, Undo}
 use Rattle.ob_deniable.specs.Telling.{ActFills, IsFormatRanked, fills_of_work}
-use Rattle.ob_deniable.specs.Works.{LifeWork, Opens, Logs, Shows, Lifts, Ends, VersionSlots, SameShape, IsLifeOf, acts_of}
+use Rattle.ob_deniable.specs.Works.{LifeWork, Opens, Logs, Shows, Lifts, Ends, VersionSlots, SameShape, IsLifeOf, acts_of, words_moved}
 use Rattle.ob_fresh.specs.Drawn.{AreNextPuts, AreWordsInTurn, WordsKept, formatted_words, version_words, words_step}
 use Rattle.ob_recover.specs.Life.{WordId, LifeAct, Open, Append, ShowBatch, ShowLifts, End, LifeState, formatted_life, is_table_lifted, life_step}
 
@@ -55,13 +55,14 @@ pub record IsDoneOn (p : Params) (tape : WordId → ℕ) (slots : VersionSlots) 
   pub turn : AreWordsInTurn p tape (slots 0) (acts_of 0 slots work)
   pub untied : AreVersionsUntied p tape (slots 0) (acts_of 0 slots work)
 
--- On another tape, each word of which is one of the first, it is done too, and fills the same.
+-- It is done too where the same words stand at other places of the tape, and fills the same.
 pub record CouldBeDone (p : Params) (tape : WordId → ℕ) (work : List LifeWork) (fills : List ActFills) : Type 0 where
-  pub other_tape : WordId → ℕ
+  pub ids : WordId → WordId
+  pub ids_back : WordId → WordId
+  pub ids_undo : Undo ids ids_back
   pub slots : VersionSlots
-  pub words : (w : WordId) → (v : WordId) × (other_tape w ≡ tape v)
-  pub done : IsDoneOn p other_tape slots work
-  pub same : fills ≡ fills_of_work p other_tape slots work
+  pub done : IsDoneOn p (words_moved ids_back tape) slots work
+  pub same : fills ≡ fills_of_work p (words_moved ids_back tape) slots work
 
 abbrev pub TapesExchange : Type 0
 TapesExchange = (p : Params) (tape : WordId → ℕ) (slots : VersionSlots) (one other : List LifeWork) → 0 < p.dummies → IsDoneOn p tape slots one → SameShape one other → ArePutsInTurn p other

@@ -5,8 +5,8 @@ ghost use Rattle.ob_deniable_runs.specs.Tapes.{TapesExchange};
 
 /// Of a life that draws its words in turn from a tape, its slots the ranks of these, no two words
 /// of a version equal: for any other work of its shape, whose puts are of the next words, there is
-/// one tape, each word of which is one of the first tape's, under which the other is a life that
-/// draws in turn, and fills the same holes with the same.
+/// one tape, on which the same words stand at other places, by a permutation of ids; on it the
+/// other is a life that draws in turn, and fills the same holes with the same.
 pub fn tapes_exchange()
     ensures { TapesExchange }
 {}
