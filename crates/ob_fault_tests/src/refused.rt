@@ -57,10 +57,14 @@ fn each_failing_read_is_told(rt: HostRuntime) {
     }
 }
 
-// The lanes of a run: five of the opening, whose reads come one by one, and those of the first
-// batch, of the second one and of the lifts.
-fn expect_lanes<R: AllocGlobal + Threads + Wait + Sync + Abort>(rt: &R, words: &str, many: u64) {
-    let (first, all) = (5 + many, 5 + 3 * many);
+// The lanes of a run: five of the opening, whose reads come one by one, those of the first batch up
+// to this number, and those of the second one and of the lifts up to this.
+fn expect_lanes<R: AllocGlobal + Threads + Wait + Sync + Abort>(
+    rt: &R,
+    words: &str,
+    first: u64,
+    all: u64,
+) {
     for lane in 0..all {
         let steps = if lane < 5 {
             0
@@ -76,8 +80,8 @@ fn expect_lanes<R: AllocGlobal + Threads + Wait + Sync + Abort>(rt: &R, words: &
 
 #[test]
 fn each_lane_that_cannot_be_had_is_told(rt: HostRuntime) {
-    expect_lanes(&rt, BY_LANES[0], 1);
-    expect_lanes(&rt, BY_LANES[1], 4);
+    expect_lanes(&rt, BY_LANES[0], 6, 8);
+    expect_lanes(&rt, BY_LANES[1], 9, 17);
 }
 
 // The read of the input that fails, the write of the output that does, and its room; the status,
