@@ -18,4 +18,5 @@ pub mod FrontsTurns
 pub mod FrontsEnds
 pub mod FrontsOpenings
 pub mod FrontsRuns
+pub mod Labels
 pub mod Written

@@ -47,3 +47,32 @@ TakesFilled p f epoch known (L.Note note ∷ lines) =
 TakesFilled p f epoch known (L.Open ∷ lines) = TakesFilled p f epoch (opened known) lines
 TakesFilled p f epoch known (L.Start q ∷ lines) = ⊥
 TakesFilled p f epoch known (L.Bad ∷ lines) = ⊥
+
+-- ---- labels by themselves
+
+-- the label is the leaf of its place
+abbrev pub IsOfLeaves : ((epoch batch place : ℕ) → ℕ) → ℕ → List Hole → List Want → Note → Type 0
+IsOfLeaves leaf epoch (h ∷ holes) wants note = Unit {0}
+IsOfLeaves leaf epoch [] (Place batch place ∷ wants) note = note ≡ Label (leaf (suc epoch) batch place)
+IsOfLeaves leaf epoch [] (Record batch ∷ wants) note = (x : ℕ) → note ≡ Label x → x ≡ leaf (suc epoch) batch 0
+IsOfLeaves leaf epoch [] (Fixed wanted change ∷ wants) note = Unit {0}
+IsOfLeaves leaf epoch [] (Setting r ∷ wants) note = Unit {0}
+IsOfLeaves leaf epoch [] (Checkpoint ∷ wants) note = Unit {0}
+IsOfLeaves leaf epoch [] [] note = Unit {0}
+
+-- of one format: each line may stand behind those before it, each label the leaf of its place
+abbrev pub TakesLabelled : ((epoch batch place : ℕ) → ℕ) → ℕ → Follow → List Line → Type 0
+TakesLabelled leaf epoch known [] = Unit {0}
+TakesLabelled leaf epoch known (L.Note note ∷ lines) =
+    (next : Follow) × (TakesLine known (L.Note note) next × (IsOfLeaves leaf epoch known.holes known.wants note × TakesLabelled leaf (epoch_behind known epoch) next lines))
+TakesLabelled leaf epoch known (L.Open ∷ lines) = TakesLabelled leaf epoch (opened known) lines
+TakesLabelled leaf epoch known (L.Start q ∷ lines) = ⊥
+TakesLabelled leaf epoch known (L.Bad ∷ lines) = ⊥
+
+-- no other format begins
+abbrev pub HasNoStart : List Line → Type 0
+HasNoStart [] = Unit {0}
+HasNoStart (L.Start q ∷ lines) = ⊥
+HasNoStart (L.Open ∷ lines) = HasNoStart lines
+HasNoStart (L.Note note ∷ lines) = HasNoStart lines
+HasNoStart (L.Bad ∷ lines) = HasNoStart lines

@@ -1,5 +1,5 @@
 -- What is said of histories.
-use Rattle.std.specs.Prelude.{◌≡◌, ◌⊎◌, List, [], ◌∷◌}
+use Rattle.std.specs.Prelude.{◌≡◌, ◌<◌, ◌⊎◌, ℕ, ◌^◌, List, [], ◌∷◌}
 use Rattle.std.specs.List.{flat_map}
 use Rattle.ob_base.specs.declared.params.Params.{Params}
 use Rattle.ob_schedule.specs.declared.line.Line.{Line}
@@ -7,7 +7,7 @@ use Rattle.ob_schedule.specs.declared.line.Line.TheVariants as L
 use Rattle.ob_schedule.specs.Follow.{Follow, TakesLine, started}
 use Rattle.ob_histories.specs.Fills.{AllFills, AreAllFills}
 use Rattle.ob_histories.specs.Histories.{IsHistory, IsCutHistory, AreHistories}
-use Rattle.ob_histories.specs.Filled.{TakesFilled}
+use Rattle.ob_histories.specs.Filled.{TakesFilled, TakesLabelled, HasNoStart}
 
 -- each line may stand behind those before it; what is known at the end
 abbrev pub TakesLines : Follow → List Line → Follow → Type 0
@@ -30,3 +30,9 @@ abbrev pub FilledAreHistories : Type 0
 FilledAreHistories =
     (p : Params) (f : AllFills) (lines : List Line) → AreAllFills p f → TakesFilled p f 0 (started p) lines
     → ((h : IsHistory p (L.Start p ∷ lines)) × (h.fills ≡ f)) ⊎ IsCutHistory p (L.Start p ∷ lines)
+
+-- what fits behind a format has leaves: whichever runs show a place of an epoch, it shows one leaf
+abbrev pub LabelsAreLeaves : Type 0
+LabelsAreLeaves =
+    (p : Params) (lines : List Line) (last : Follow) → HasNoStart lines → TakesLines (started p) lines last
+    → (leaf : (epoch batch place : ℕ) → ℕ) × ((epoch batch place : ℕ) → leaf epoch batch place < 2 ^ p.levels) × TakesLabelled leaf 0 (started p) lines

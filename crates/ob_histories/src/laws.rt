@@ -1,6 +1,6 @@
 //! Histories and lines that are admitted.
 
-ghost use Rattle.ob_histories.specs.Laws.{HistoriesAreAdmitted, FilledAreHistories};
+ghost use Rattle.ob_histories.specs.Laws.{HistoriesAreAdmitted, FilledAreHistories, LabelsAreLeaves};
 
 /// The lines of histories, one behind the other, are admitted.
 pub fn histories_are_admitted()
@@ -12,4 +12,10 @@ pub fn histories_are_admitted()
 /// it came.
 pub fn filled_are_histories()
     ensures { FilledAreHistories }
+{}
+
+/// Lines that are admitted behind one format's have leaves: a place of an epoch shows one leaf,
+/// whichever runs show it.
+pub fn labels_are_leaves()
+    ensures { LabelsAreLeaves }
 {}
