@@ -148,7 +148,8 @@ step_labelled p leaf epoch k is = go (nat_lt k.batch k.params.batches)
     go : (low : Bool) → Labelled p leaf epoch (cond low
         (record k { batch = k.batch + 1; wants = cond (nat_lt k.batch k.stands.logged) (places k.params k.batch) (cond ((k.batch == k.stands.logged) && k.stands.maybe) (Record k.batch ∷ []) (record_wants k.params (other k.stands.epoch) k.batch ++ places k.params k.batch)) })
         (record k { holes = end_holes k.params k.stands k.leaves; wants = end_wants k.params k.stands k.leaves }))
-    go true = rewanted p leaf epoch k k.holes (cond (nat_lt k.batch k.stands.logged) (places k.params k.batch) (cond ((k.batch == k.stands.logged) && k.stands.maybe) (Record k.batch ∷ []) (record_wants k.params (other k.stands.epoch) k.batch ++ places k.params k.batch))) (k.batch + 1) is (batch_wants k.params k.stands k.batch (nat_lt k.batch k.stands.logged) ((k.batch == k.stands.logged) && k.stands.maybe) refl refl)
+    go true = rewanted p leaf epoch k k.holes (cond (nat_lt k.batch k.stands.logged) (places k.params k.batch) (cond ((k.batch == k.stands.logged) && k.stands.maybe) (Record k.batch ∷ []) (record_wants k.params (other k.stands.epoch) k.batch ++ places k.params k.batch)))
+        (k.batch + 1) is (batch_wants k.params k.stands k.batch (nat_lt k.batch k.stands.logged) ((k.batch == k.stands.logged) && k.stands.maybe) refl refl)
     go false = rewanted p leaf epoch k (end_holes k.params k.stands k.leaves) (end_wants k.params k.stands k.leaves) k.batch is (kept_ok k.batch k.stands.logged
         (writes_anew k.params k.stands k.leaves (by_falling_level (k.params.levels + 1)) ++ writes_of (check_cells k.params (side_number (other k.stands.epoch))) ++ writes_of (log_gates k.params (side_number k.stands.epoch)) ++ (Sync ∷ []))
         (sets k.params Epoch (other k.stands.epoch) k.stands.epoch_gate) (epoch_ok k.batch k.stands.logged k.params (other k.stands.epoch) k.stands.epoch_gate))
@@ -448,7 +449,8 @@ module _ (p : Params) where
     found_dropped : (q : Params) (s : StandingKnown) (logged : ℕ) → WantsOk k.batch logged (drop 1 (found_wants q s))
     found_dropped q s logged =
         let plain : Plain (sets q Generation (other s.generation) s.generation_gate) = generation_plain q (other s.generation) s.generation_gate in
-        dropped_ok k.batch logged (reads_of (check_cells q (side_number s.epoch)) ++ reads_of (region_cells q (LogArea (side_number (other s.epoch))))) (Fixed Sync Settles) (sets q Generation (other s.generation) s.generation_gate) plain (plain_ok k.batch logged (sets q Generation (other s.generation) s.generation_gate) plain)
+        dropped_ok k.batch logged (reads_of (check_cells q (side_number s.epoch)) ++ reads_of (region_cells q (LogArea (side_number (other s.epoch))))) (Fixed Sync Settles)
+        (sets q Generation (other s.generation) s.generation_gate) plain (plain_ok k.batch logged (sets q Generation (other s.generation) s.generation_gate) plain)
 
     by_checkpoint : (wants : List Want) → wants ≡ [] → TakesWant k Checkpoint wants note next → Step p leaf epoch k [] (Checkpoint ∷ wants) note next
     by_checkpoint wants none (inl older) =
@@ -489,7 +491,9 @@ module _ (p : Params) where
     where
       all_wants : (o : Option StandingKnown) → WantsOk 0 k.stands.logged (opened_wants k.params k.stands o)
       all_wants (Some newer) = kept_ok 0 k.stands.logged (head_notes ++ reads_of (region_cells k.params GenerationTwin ++ region_cells k.params EpochTwin)) (Checkpoint ∷ []) refl
-      all_wants None = kept_ok 0 k.stands.logged (head_notes ++ reads_of (region_cells k.params GenerationTwin ++ region_cells k.params EpochTwin)) (found_wants k.params k.stands) (kept_ok 0 k.stands.logged (reads_of (check_cells k.params (side_number k.stands.epoch)) ++ reads_of (region_cells k.params (LogArea (side_number (other k.stands.epoch))))) (Fixed Sync Settles ∷ sets k.params Generation (other k.stands.generation) k.stands.generation_gate) (generation_plain k.params (other k.stands.generation) k.stands.generation_gate))
+      all_wants None = kept_ok 0 k.stands.logged (head_notes ++ reads_of (region_cells k.params GenerationTwin ++ region_cells k.params EpochTwin)) (found_wants k.params k.stands)
+          (kept_ok 0 k.stands.logged (reads_of (check_cells k.params (side_number k.stands.epoch)) ++ reads_of (region_cells k.params (LogArea (side_number (other k.stands.epoch)))))
+          (Fixed Sync Settles ∷ sets k.params Generation (other k.stands.generation) k.stands.generation_gate) (generation_plain k.params (other k.stands.generation) k.stands.generation_gate))
 
       go : (b : Bool) → Labelled p leaf epoch (cond b (record k { runs = true; chosen = false; batch = 0; leaves = []; holes = []; wants = opened_wants k.params k.stands k.newer }) (record k { runs = false; holes = []; wants = kept head_notes }))
       go true = record { params = is.params; known = is.known; logged = is.logged; newer = is.newer; wants = all_wants k.newer }
