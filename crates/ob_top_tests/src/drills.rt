@@ -90,8 +90,8 @@ impl Tape for Counted {
     }
 }
 
-// A self-test of so many transactions beside a store, a tape, an input and a trace, none of which it
-// touches: its status.
+// A self-test of so many transactions beside a store, a tape, an input and a trace, none of which
+// it touches: its status.
 fn drill_beside<R: AllocGlobal + Threads + Wait + Sync + Abort>(rt: &R, count: &str) -> u8 {
     let made = MemStore::new(rt.alloc(), SMALL, Vec::new(rt.alloc()));
     let mut store = noted(rt, made.expect(rt, "memory"));
