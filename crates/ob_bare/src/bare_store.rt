@@ -7,7 +7,7 @@ ghost use Rattle.ob_bare.specs.Cells.{cell_of, zeros};
 
 use crate::cells::blank;
 use ob_base::{Failed, Memory};
-use ob_lanes::{Hand, Lanes, read_hands};
+use ob_lanes::{Hand, Lanes, read_hands_in_turn};
 use ob_store::Store;
 use std::alloc::Global;
 use std::thread::Threads;
@@ -103,7 +103,7 @@ impl Store for BareStore {
 }
 
 impl Lanes for BareStore {
-    fn read_parts<R: Threads + Sync>(&self, rt: &R, hands: &mut [Option<Hand<BareLane>>]) {
-        read_hands(rt, self, hands);
+    fn read_parts<R: Threads + Sync>(&self, _rt: &R, hands: &mut [Option<Hand<BareLane>>]) {
+        read_hands_in_turn(self, hands);
     }
 }

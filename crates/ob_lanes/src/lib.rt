@@ -10,4 +10,4 @@ mod round;
 pub use dealt::read_dealt;
 pub use hand::{Hand, Slot};
 pub use lanes::Lanes;
-pub use reading::read_hands;
+pub use reading::{read_hands, read_hands_in_turn};

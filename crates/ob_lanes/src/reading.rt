@@ -60,3 +60,16 @@ where
     let threads = hands.len().max(1);
     thread::for_each_mut(rt, hands, threads, &|_, place| read_place(store, place));
 }
+
+/// The same by the calling thread alone, hand by hand: for a store whose reads wait for nothing, so
+/// that to start a thread takes longer than they do.
+pub fn read_hands_in_turn<S: Store>(store: &S, hands: &mut [Option<Hand<S::Lane>>])
+    ensures many { length hands.new ≡ length hands.old }
+    ensures each { (i : ℕ) → i < length hands.old
+        → IsPlaceRead (S.disk store.now) S.lane_seen S.lane_faults (hand_at hands.old i)
+        (hand_at hands.new i) }
+{
+    for i in 0..hands.len() {
+        read_place(store, &mut hands[i]);
+    }
+}
