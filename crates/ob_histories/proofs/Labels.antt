@@ -164,7 +164,7 @@ up_labelled p leaf epoch k is = go k.holes k.wants k.runs
     go [] [] false = is
 
 -- labels and the epoch don't change with what is taken up
-up_stands : (k : Follow) → (taken_up k).stands ≡ k.stands
+pub up_stands : (k : Follow) → (taken_up k).stands ≡ k.stands
 up_stands k = go k.holes k.wants k.runs
   where
     step : (low : Bool) (g h : Follow) → g.stands ≡ k.stands → h.stands ≡ k.stands → (cond low g h).stands ≡ k.stands
@@ -499,7 +499,7 @@ module _ (p : Params) where
       go true = record { params = is.params; known = is.known; logged = is.logged; newer = is.newer; wants = all_wants k.newer }
       go false = record { params = is.params; known = is.known; logged = is.logged; newer = is.newer; wants = tt }
 
-  opening_stands : (k : Follow) → (opened k).stands ≡ k.stands
+  pub opening_stands : (k : Follow) → (opened k).stands ≡ k.stands
   opening_stands k = go k.formatted
     where
       go : (b : Bool) → (cond b (record k { runs = true; chosen = false; batch = 0; leaves = []; holes = []; wants = opened_wants k.params k.stands k.newer }) (record k { runs = false; holes = []; wants = kept head_notes })).stands ≡ k.stands

@@ -19,4 +19,9 @@ pub mod FrontsEnds
 pub mod FrontsOpenings
 pub mod FrontsRuns
 pub mod Labels
+pub mod Slots
+pub mod SlotsAt
+pub mod SlotsKnown
+pub mod SlotsSteps
+pub mod SlotsLines
 pub mod Written

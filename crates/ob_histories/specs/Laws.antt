@@ -25,6 +25,10 @@ AreAdmitted (L.Bad ∷ lines) = ⊥
 abbrev pub HistoriesAreAdmitted : Type 0
 HistoriesAreAdmitted = (histories : List (List Line)) → AreHistories histories → AreAdmitted (flat_map (λ lines. lines) histories)
 
+-- and lines that are admitted are those of histories, one behind the other
+abbrev pub AdmittedAreHistories : Type 0
+AdmittedAreHistories = (lines : List Line) → AreAdmitted lines → (histories : List (List Line)) × ((lines ≡ flat_map (λ history. history) histories) × AreHistories histories)
+
 -- What fits behind a format, with labels and slots that these fills have, is a history with just these; or the format was cut short.
 abbrev pub FilledAreHistories : Type 0
 FilledAreHistories =

@@ -1,10 +1,22 @@
 //! Histories and lines that are admitted.
 
-ghost use Rattle.ob_histories.specs.Laws.{HistoriesAreAdmitted, FilledAreHistories, LabelsAreLeaves};
+ghost use Rattle.ob_histories.specs.Laws.{
+  HistoriesAreAdmitted,
+  AdmittedAreHistories,
+  FilledAreHistories,
+  LabelsAreLeaves,
+};
 
 /// The lines of histories, one behind the other, are admitted.
 pub fn histories_are_admitted()
     ensures { HistoriesAreAdmitted }
+{}
+
+/// Lines that are admitted are the lines of histories, one behind the other: each from its format
+/// on, with fills of all epochs, and of each run what it found and how far it came. So lines are
+/// admitted exactly where they are histories'.
+pub fn admitted_are_histories()
+    ensures { AdmittedAreHistories }
 {}
 
 /// Lines that are admitted behind one format's, each label and each slot one that these fills

@@ -6,6 +6,8 @@ mod laws;
 mod samples;
 mod texts;
 
-pub use laws::{filled_are_histories, histories_are_admitted};
+pub use laws::{
+    admitted_are_histories, filled_are_histories, histories_are_admitted, labels_are_leaves,
+};
 pub use samples::sampled;
 pub use texts::lines_are_admitted;
