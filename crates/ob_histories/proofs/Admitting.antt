@@ -1,25 +1,23 @@
 -- The lines of a history are admitted.
-use Rattle.std.specs.Prelude.{◌≡◌, ◌<◌, ◌≤◌, ◌⊎◌, ℕ, ◌+◌, ◌-◌, ◌%◌, nat_lt, Bool, true, false, cond, List, [], ◌∷◌, ◌++◌, map, take, length, Option, Some, None}
+use Rattle.std.specs.Prelude.{◌≡◌, ◌<◌, ◌≤◌, ◌⊎◌, ℕ, ◌+◌, ◌%◌, Bool, true, false, cond, List, [], ◌∷◌, ◌++◌, take, length, Option, Some, None}
 use Rattle.std.specs.List.{flat_map}
-use Rattle.std.proofs.Common.{zero, suc, refl, sym, ap, ◌∙◌, subst, inl, inr, arith, append_assoc}
+use Rattle.std.proofs.Common.{zero, suc, refl, sym, subst, inl, inr, arith}
 use Rattle.std.proofs.lemmas.List.{length-append}
-use Rattle.std.proofs.lemmas.Bool.{ltb-true, ltb-false, cases_Bool}
+use Rattle.std.proofs.lemmas.Bool.{ltb-true, ltb-false}
 use Rattle.ob_base.specs.declared.params.Params.{Params}
 use Rattle.ob_base.specs.Layout.{GenerationTwin, EpochTwin, LogArea}
 use Rattle.ob_store.specs.declared.watch.Note.{Note}
-use Rattle.ob_store.specs.declared.watch.Note.TheVariants.{Read, Sync}
+use Rattle.ob_store.specs.declared.watch.Note.TheVariants.{Sync}
 use Rattle.ob_schedule.specs.Schedule.{check_cells, format_notes, head_notes, reads_of, region_cells, set_twin}
 use Rattle.ob_schedule.specs.declared.line.Line.{Line}
 use Rattle.ob_schedule.specs.declared.line.Line.TheVariants as L
-use Rattle.ob_schedule.specs.declared.want.Change.TheVariants.{Keeps, Formats}
 use Rattle.ob_schedule.specs.declared.want.Want.{Want}
-use Rattle.ob_schedule.specs.declared.want.Want.TheVariants.{Fixed}
 use Rattle.ob_schedule.specs.Standing.{StandingKnown, standing_formatted}
 use Rattle.ob_schedule.specs.Wants.{kept}
 use Rattle.ob_schedule.specs.Follow.{Follow, taken_up, started, opened, opened_wants, format_wants}
 use Rattle.ob_histories.specs.Fills.{AllFills, AreAllFills, public_at}
-use Rattle.ob_histories.specs.Runs.{RunFound, HistoryRun, HistoryTurn, first_turn, next_turn, turn_behind, notes_of_turn, opening_reads, opening_step, notes_from, run_notes, notes_shown, is_settled}
-use Rattle.ob_histories.specs.Histories.{IsOpeningLeft, IsTurnLeft, RunLeaves, MayFind, AreRunsBehind, found_formatted, lines_of_notes, run_lines, IsHistory, IsCutHistory, AreHistories}
+use Rattle.ob_histories.specs.Runs.{RunFound, HistoryRun, HistoryTurn, first_turn, next_turn, turn_behind, notes_of_turn, opening_reads, opening_step, notes_from, notes_shown, is_settled}
+use Rattle.ob_histories.specs.Histories.{IsTurnLeft, RunLeaves, MayFind, AreRunsBehind, found_formatted, lines_of_notes, run_lines, IsHistory, IsCutHistory, AreHistories}
 use Rattle.ob_histories.specs.Laws.{TakesLines, AreAdmitted, HistoriesAreAdmitted}
 use Rattle.ob_histories.proofs.Walks.{Reach, reach_join, taken_join, Stops}
 use Rattle.ob_histories.proofs.Finding.{Stands, Allows}

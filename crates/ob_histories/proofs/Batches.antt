@@ -1,20 +1,18 @@
 -- A batch is begun, or repeated, and what it leaves is allowed.
-use Rattle.std.specs.Prelude.{◌≡◌, ◌<◌, ◌≤◌, ◌⊎◌, ℕ, ◌+◌, ◌-◌, ◌%◌, ◌==◌, ◌&&◌, ◌^◌, nat_lt, Bool, true, false, cond, List, [], ◌∷◌, ◌++◌, map, take, drop, slice_index, length, Option, Some, None}
+use Rattle.std.specs.Prelude.{◌≡◌, ◌<◌, ◌≤◌, ◌⊎◌, ℕ, ◌+◌, ◌-◌, ◌%◌, ◌==◌, ◌&&◌, ◌^◌, nat_lt, Bool, true, false, cond, List, [], ◌∷◌, ◌++◌, map, take, drop, slice_index, length, Option, None}
 use Rattle.std.specs.List.{flat_map, range_with_len}
 use Rattle.std.specs.Int.{div_ceil}
 use Rattle.std.proofs.Common.{zero, suc, refl, sym, ap, ◌∙◌, subst, subst₂, inl, inr, arith, append_assoc, add-one}
-use Rattle.std.proofs.lemmas.List.{append-nil, length-append, length-map}
-use Rattle.std.proofs.lemmas.List.FromFn.{length-map-range_with_len, length-range_with_len}
+use Rattle.std.proofs.lemmas.List.{append-nil, length-append}
+use Rattle.std.proofs.lemmas.List.FromFn.{length-map-range_with_len}
 use Rattle.std.proofs.lemmas.Bool.{lt-ltb, le-ltb, eq-eqb, cases_lt}
 use Rattle.ob_base.specs.declared.params.Params.{Params}
-use Rattle.ob_base.specs.Tree.{below}
 use Rattle.ob_base.specs.Layout.{log_cell, log_gate, record_cells, record_len}
 use Rattle.ob_store.specs.declared.watch.Note.{Note}
 use Rattle.ob_store.specs.declared.watch.Note.TheVariants.{Label, Write, Sync}
 use Rattle.ob_schedule.specs.Schedule.{counts_now, hole_reads, batch_leaves, batch_notes, phase_notes, record_notes, writes_of}
 use Rattle.ob_schedule.specs.declared.line.Line.TheVariants as L
 use Rattle.ob_schedule.specs.declared.want.Side.{Side}
-use Rattle.ob_schedule.specs.declared.want.Side.TheVariants.{Even, Odd}
 use Rattle.ob_schedule.specs.declared.want.Gate.{Gate}
 use Rattle.ob_schedule.specs.declared.want.Change.TheVariants.{Keeps, MayLog, Logs}
 use Rattle.ob_schedule.specs.declared.want.Want.{Want}
@@ -25,16 +23,15 @@ use Rattle.ob_schedule.specs.Standing.{StandingKnown, public_known, with_label}
 use Rattle.ob_schedule.specs.Wants.{kept, record_wants, places, end_holes, end_wants}
 use Rattle.ob_schedule.specs.Follow.{Follow, TakesLine, taken_up}
 use Rattle.ob_histories.specs.Fills.{AllFills, AreAllFills, public_at, public_in_epoch, fills_at, leaves_of_batches}
-use Rattle.ob_histories.specs.Runs.{RunFound, HistoryTurn, notes_of_batch}
-use Rattle.ob_histories.specs.Histories.{AreRecordsLeft, IsBatchLeft}
-use Rattle.ob_histories.proofs.Lists.{take_whole}
+use Rattle.ob_histories.specs.Runs.{RunFound, HistoryTurn}
+use Rattle.ob_histories.specs.Histories.{AreRecordsLeft}
 use Rattle.ob_histories.proofs.Standing.{Holds, label_holds}
 use Rattle.ob_histories.proofs.Ended.{other_side}
 use Rattle.ob_histories.proofs.Holes.{count_before, place_are}
 use Rattle.ob_histories.proofs.Walks.{Walk, walk_none, walk_note, walk_join, walk_weaker, walk_within, walk_kept, Stops, up_stops}
-use Rattle.ob_histories.proofs.Places.{at, rest_of, Known, InEpoch, Keeps as InPlaces, place_notes, walk_holes, walk_places, may_label, label_rest, leaf_at, same_before, one_more}
+use Rattle.ob_histories.proofs.Places.{at, rest_of, Known, InEpoch, Keeps as InPlaces, place_notes, walk_holes, walk_places, label_rest, leaf_at, same_before, one_more}
 use Rattle.ob_histories.proofs.Finding.{GateMay, RecordsMay, Fits, Stands, Allows, holds_rest, epoch_at}
-use Rattle.ob_histories.proofs.Sets.{IsOf, found_at}
+use Rattle.ob_histories.proofs.Sets.{IsOf}
 
 -- what a batch's record or its places may leave
 abbrev pub IsThere : HistoryTurn → ℕ → RunFound → Type 0

@@ -1,13 +1,12 @@
 -- What is known stands for what is public once an epoch has ended.
-use Rattle.std.specs.Prelude.{◌≡◌, ◌<◌, ◌≤◌, ◌⊎◌, ℕ, ◌+◌, ◌-◌, ◌%◌, ◌^◌, nat_lt, nat_le, Bool, true, false, not, ◌&&◌, ◌||◌, cond, List, Option, Some, None}
+use Rattle.std.specs.Prelude.{◌≡◌, ◌<◌, ◌≤◌, ◌⊎◌, ℕ, ◌+◌, ◌-◌, ◌%◌, ◌^◌, nat_lt, nat_le, Bool, true, false, not, ◌&&◌, ◌||◌, cond, List, Some}
 use Rattle.std.specs.List.{count_by}
-use Rattle.std.proofs.Common.{zero, suc, refl, sym, ap, ◌∙◌, subst, inl, inr, arith, true≢false}
+use Rattle.std.proofs.Common.{suc, refl, sym, ap, ◌∙◌, subst, inl, inr, arith, true≢false}
 use Rattle.std.proofs.lemmas.Bool.{lt-ltb, le-ltb, cases_lt}
 use Rattle.ob_base.specs.declared.params.Params.{Params}
 use Rattle.ob_base.specs.Tree.{buckets, passes}
-use Rattle.ob_schedule.specs.Holes.{Hole}
 use Rattle.ob_schedule.specs.Paths.{is_one_of, eviction_path}
-use Rattle.ob_schedule.specs.Schedule.{Public, counts_now, is_lifted_by_end, after_end}
+use Rattle.ob_schedule.specs.Schedule.{counts_now, is_lifted_by_end}
 use Rattle.ob_schedule.specs.declared.want.Side.{Side}
 use Rattle.ob_schedule.specs.declared.want.Side.TheVariants.{Even, Odd}
 use Rattle.ob_schedule.specs.Sides.{other, side_number}

@@ -1,6 +1,6 @@
 -- What a stop allows to be found.
-use Rattle.std.specs.Prelude.{◌≡◌, ◌≤◌, ◌⊎◌, ℕ, ◌+◌, ◌-◌, ◌%◌, Bool, true, false, List, [], ◌∷◌, ◌++◌, length, Option, Some, None}
-use Rattle.std.proofs.Common.{zero, suc, refl, sym, ap, ◌∙◌, subst, inl, inr, arith, add-one, true≢false}
+use Rattle.std.specs.Prelude.{◌≡◌, ◌≤◌, ◌⊎◌, ℕ, ◌+◌, ◌%◌, Bool, true, false, Option, Some, None}
+use Rattle.std.proofs.Common.{zero, suc, refl, sym, ap, ◌∙◌, subst, arith, add-one}
 use Rattle.ob_base.specs.declared.params.Params.{Params}
 use Rattle.ob_schedule.specs.declared.want.Side.{Side}
 use Rattle.ob_schedule.specs.declared.want.Gate.{Gate}
@@ -10,8 +10,7 @@ use Rattle.ob_schedule.specs.Standing.{StandingKnown}
 use Rattle.ob_histories.specs.Fills.{AllFills, public_at}
 use Rattle.ob_histories.specs.Runs.{RunFound}
 use Rattle.ob_histories.specs.Histories.{IsGateLeft}
-use Rattle.ob_histories.proofs.Standing.{Holds, WasShown}
-use Rattle.ob_histories.proofs.Ended.{other_side}
+use Rattle.ob_histories.proofs.Standing.{Holds}
 use Rattle.ob_histories.proofs.Places.{rest_of}
 
 abbrev pub GateMay : Gate → Bool → Type 0

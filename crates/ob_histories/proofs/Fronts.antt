@@ -1,9 +1,8 @@
 -- Notes that are taken with the fills' labels and slots: what they are, by what is wanted on the way.
-use Rattle.std.specs.Prelude.{◌≡◌, ◌<◌, ◌≤◌, ◌⊎◌, ℕ, ◌+◌, ◌-◌, ◌%◌, Bool, true, false, cond, List, [], ◌∷◌, ◌++◌, map, take, slice_index, length, Option, Some, None}
+use Rattle.std.specs.Prelude.{◌≡◌, ◌<◌, ◌≤◌, ◌⊎◌, ℕ, ◌+◌, ◌%◌, Bool, true, List, [], ◌∷◌, ◌++◌, map, take, slice_index, length, Option, Some, None}
 use Rattle.std.specs.List.{flat_map, range_with_len}
 use Rattle.std.proofs.Common.{zero, suc, refl, sym, ap, ◌∙◌, subst, subst₂, inl, inr, arith, append_assoc}
-use Rattle.std.proofs.lemmas.List.{length-append, append-nil}
-use Rattle.std.proofs.lemmas.List.FromFn.{length-map-range_with_len}
+use Rattle.std.proofs.lemmas.List.{length-append}
 use Rattle.ob_base.specs.declared.params.Params.{Params}
 use Rattle.ob_base.specs.Layout.{slot_cell}
 use Rattle.ob_store.specs.declared.watch.Note.{Note}
@@ -14,15 +13,14 @@ use Rattle.ob_schedule.specs.declared.line.Line.TheVariants as L
 use Rattle.ob_schedule.specs.declared.want.Side.{Side}
 use Rattle.ob_schedule.specs.declared.want.Gate.{Gate}
 use Rattle.ob_schedule.specs.declared.want.Want.{Want}
-use Rattle.ob_schedule.specs.declared.want.Want.TheVariants.{Fixed, Place}
+use Rattle.ob_schedule.specs.declared.want.Want.TheVariants.{Place}
 use Rattle.ob_schedule.specs.Sides.{other, side_number}
 use Rattle.ob_schedule.specs.Standing.{StandingKnown, public_known, with_label, with_slot}
 use Rattle.ob_schedule.specs.Wants.{kept}
-use Rattle.ob_schedule.specs.Follow.{Follow, TakesLine, TakesSlot, TakesLabel, taken_up}
-use Rattle.ob_histories.specs.Fills.{AllFills, AreAllFills, public_at, public_in_epoch, fills_at, leaves_of_batches, version_filled}
+use Rattle.ob_schedule.specs.Follow.{Follow, TakesLine, taken_up}
+use Rattle.ob_histories.specs.Fills.{AllFills, AreAllFills, public_at, fills_at, leaves_of_batches}
 use Rattle.ob_histories.specs.Runs.{RunFound}
 use Rattle.ob_histories.specs.Filled.{IsOfFills, epoch_behind}
-use Rattle.ob_histories.proofs.Lists.{take_whole}
 use Rattle.ob_histories.proofs.Standing.{Holds, filled_slot, slot_holds, label_holds}
 use Rattle.ob_histories.proofs.Holes.{AreHoles, count_before, place_are}
 use Rattle.ob_histories.proofs.Places.{at, rest_of, label_rest, slot_rest, leaf_at, same_before, one_more, all_shown, place_notes}

@@ -1,5 +1,5 @@
 -- What is taken behind a whole epoch is a front of its end, and of the turns behind that.
-use Rattle.std.specs.Prelude.{◌≡◌, ◌<◌, ◌≤◌, ◌⊎◌, ℕ, ◌+◌, ◌-◌, ◌%◌, nat_lt, Bool, true, false, cond, List, [], ◌∷◌, ◌++◌, length, Option, Some, None}
+use Rattle.std.specs.Prelude.{◌≡◌, ◌<◌, ◌≤◌, ◌⊎◌, ℕ, ◌+◌, ◌-◌, ◌%◌, Bool, true, false, cond, List, [], ◌++◌, length}
 use Rattle.std.proofs.Common.{zero, suc, refl, sym, ap, ◌∙◌, subst, inl, inr, arith, append_assoc}
 use Rattle.std.proofs.lemmas.List.{length-append}
 use Rattle.std.proofs.lemmas.Bool.{le-ltb, cases_lt}
@@ -9,7 +9,6 @@ use Rattle.ob_store.specs.declared.watch.Note.{Note}
 use Rattle.ob_schedule.specs.Paths.{by_falling_level}
 use Rattle.ob_schedule.specs.Schedule.{check_cells, hole_reads, log_gates, set_twin, writes_of}
 use Rattle.ob_schedule.specs.Holes.{Hole}
-use Rattle.ob_schedule.specs.declared.want.Side.{Side}
 use Rattle.ob_schedule.specs.declared.want.Gate.{Gate}
 use Rattle.ob_schedule.specs.declared.want.Gate.TheVariants.{Open}
 use Rattle.ob_schedule.specs.declared.want.Register.TheVariants.{Epoch}
@@ -19,16 +18,15 @@ use Rattle.ob_schedule.specs.Standing.{StandingKnown}
 use Rattle.ob_schedule.specs.Wants.{sets, writes_anew, end_wants}
 use Rattle.ob_schedule.specs.Follow.{Follow, taken_up}
 use Rattle.ob_histories.specs.Fills.{AllFills, AreAllFills, public_at, fills_at, leaves_of_batches}
-use Rattle.ob_histories.specs.Runs.{RunFound, HistoryTurn, next_turn, notes_of_batch, notes_of_end, notes_of_turn}
+use Rattle.ob_histories.specs.Runs.{RunFound, HistoryTurn, notes_of_batch, notes_of_turn}
 use Rattle.ob_histories.specs.Histories.{IsBatchLeft, IsEndLeft, IsTurnLeft}
-use Rattle.ob_histories.proofs.Standing.{Holds}
 use Rattle.ob_histories.proofs.Holes.{end_are}
 use Rattle.ob_histories.proofs.Places.{at, rest_of}
-use Rattle.ob_histories.proofs.Finding.{GateMay, RecordsMay}
+use Rattle.ob_histories.proofs.Finding.{GateMay}
 use Rattle.ob_histories.proofs.Sets.{IsOf}
 use Rattle.ob_histories.proofs.Turns.{number, next_number, lifts, writes, known_writes, same_writes, same_lifts, loaded_end, wants_some, set_long, same_side}
-use Rattle.ob_histories.proofs.Fronts.{Rest, Fronts, Exactly, IsSure, Sure, Shown, Conv, conv_map, conv_kept, StaysAs, told_result, conv_holes}
-use Rattle.ob_histories.proofs.FrontsSets.{ButEpochGate, IsBehindEnd, EndLeft, AnyEndLeft, AnyEndMore, ended, ended_sure, behind_end, conv_epoch}
+use Rattle.ob_histories.proofs.Fronts.{Rest, Exactly, IsSure, Sure, Shown, Conv, conv_map, conv_kept, StaysAs, told_result, conv_holes}
+use Rattle.ob_histories.proofs.FrontsSets.{EndLeft, AnyEndLeft, AnyEndMore, ended, ended_sure, conv_epoch}
 use Rattle.ob_histories.proofs.FrontsTurns.{turn_at, end_same, may_true, may_one, Before, before_sure, start, Turns, is_of, stop_both, stop_turn, step_turn, Ahead, conv_batch}
 
 module _ (p : Params) (f : AllFills) (all : AreAllFills p f) (generation : ℕ) where

@@ -1,18 +1,15 @@
 -- What is taken behind an opening's line is a front of a run's notes, by what is found behind it.
-use Rattle.std.specs.Prelude.{◌≡◌, ◌<◌, ◌≤◌, ◌⊎◌, ℕ, ◌+◌, ◌-◌, ◌%◌, nat_lt, Bool, true, false, cond, List, [], ◌∷◌, ◌++◌, map, take, drop, length, Option, Some, None}
+use Rattle.std.specs.Prelude.{◌≡◌, ◌<◌, ◌≤◌, ◌⊎◌, ℕ, ◌+◌, ◌-◌, ◌%◌, Bool, true, false, cond, List, [], ◌∷◌, ◌++◌, map, take, drop, length, Option, Some, None}
 use Rattle.std.specs.List.{range_with_len}
-use Rattle.std.specs.Int.{div_ceil}
-use Rattle.std.proofs.Common.{zero, suc, refl, sym, ap, ◌∙◌, subst, subst₂, inl, inr, arith, append_assoc, add-one}
+use Rattle.std.proofs.Common.{zero, suc, refl, sym, ap, ◌∙◌, subst, inl, inr, arith, append_assoc, add-one}
 use Rattle.std.proofs.lemmas.List.{length-append, append-nil}
 use Rattle.std.proofs.lemmas.Bool.{lt-ltb, le-ltb}
 use Rattle.ob_base.specs.declared.params.Params.{Params}
-use Rattle.ob_base.specs.Layout.{GenerationTwin, EpochTwin, LogArea, check_cell, checkpoint_cells, checkpoint_len}
+use Rattle.ob_base.specs.Layout.{GenerationTwin, EpochTwin, LogArea, check_cell, checkpoint_cells}
 use Rattle.ob_store.specs.declared.watch.Note.{Note}
 use Rattle.ob_store.specs.declared.watch.Note.TheVariants.{Read, Sync}
 use Rattle.ob_schedule.specs.Schedule.{check_cells, head_notes, reads_of, region_cells, set_twin}
-use Rattle.ob_schedule.specs.declared.line.Line.TheVariants as L
 use Rattle.ob_schedule.specs.declared.want.Side.{Side}
-use Rattle.ob_schedule.specs.declared.want.Gate.{Gate}
 use Rattle.ob_schedule.specs.declared.want.Gate.TheVariants.{Open}
 use Rattle.ob_schedule.specs.declared.want.Register.TheVariants.{Generation}
 use Rattle.ob_schedule.specs.declared.want.Change.TheVariants.{Settles}
@@ -20,19 +17,19 @@ use Rattle.ob_schedule.specs.declared.want.Want.{Want}
 use Rattle.ob_schedule.specs.declared.want.Want.TheVariants.{Fixed, Checkpoint}
 use Rattle.ob_schedule.specs.Sides.{other, side_number}
 use Rattle.ob_schedule.specs.Standing.{StandingKnown}
-use Rattle.ob_schedule.specs.Wants.{kept, sets, found_wants, register_wants}
-use Rattle.ob_schedule.specs.Follow.{Follow, TakesLine, taken_up, opened, opened_wants, newer_or_same}
+use Rattle.ob_schedule.specs.Wants.{kept, sets, found_wants}
+use Rattle.ob_schedule.specs.Follow.{Follow, taken_up, opened, opened_wants, newer_or_same}
 use Rattle.ob_histories.specs.Fills.{AllFills, AreAllFills, public_at}
-use Rattle.ob_histories.specs.Runs.{RunFound, first_turn, opening_reads, opening_step, notes_shown, is_settled}
+use Rattle.ob_histories.specs.Runs.{RunFound, opening_reads, opening_step, notes_shown, is_settled}
 use Rattle.ob_histories.specs.Histories.{IsOpeningLeft, RunLeaves, found_formatted}
-use Rattle.ob_histories.specs.Filled.{IsOfFills, epoch_behind}
+use Rattle.ob_histories.specs.Filled.{epoch_behind}
 use Rattle.ob_histories.proofs.Ended.{other_side}
 use Rattle.ob_histories.proofs.Places.{at, rest_of}
-use Rattle.ob_histories.proofs.Finding.{GateMay, RecordsMay, holds_rest, epoch_at}
+use Rattle.ob_histories.proofs.Finding.{holds_rest, epoch_at}
 use Rattle.ob_histories.proofs.Openings.{op, opened_is, some_checks, less_one}
-use Rattle.ob_histories.proofs.Fronts.{Fronts, is_front, Exactly, Sure, Stood, Good, Behind, Shown, Result, Conv, conv_along, conv_map, conv_note, conv_kept, OneOf, conv_either}
-use Rattle.ob_histories.proofs.FrontsSets.{Left, AnyLeft, AnyMore, ButGate, conv_generation}
-use Rattle.ob_histories.proofs.FrontsTurns.{Before, Turns, Ahead, start}
+use Rattle.ob_histories.proofs.Fronts.{is_front, Exactly, Sure, Stood, Good, Behind, Shown, Result, Conv, conv_along, conv_map, conv_note, conv_kept, OneOf, conv_either}
+use Rattle.ob_histories.proofs.FrontsSets.{Left, AnyLeft, AnyMore, conv_generation}
+use Rattle.ob_histories.proofs.FrontsTurns.{Before, Turns, start}
 use Rattle.ob_histories.proofs.FrontsEnds.{conv_turns}
 
 -- it may be found: what stands, or what stands if the last end's gate was opened

@@ -1,29 +1,27 @@
 -- Lines of one format that are taken with the fills' labels and slots are a history's.
-use Rattle.std.specs.Prelude.{◌≡◌, ◌<◌, ◌≤◌, ◌⊎◌, ℕ, ◌+◌, ◌%◌, Bool, true, false, cond, List, [], ◌∷◌, ◌++◌, map, take, length, Option, Some, None}
+use Rattle.std.specs.Prelude.{◌≡◌, ◌<◌, ◌⊎◌, ℕ, Bool, true, false, cond, List, [], ◌∷◌, ◌++◌, take, length, Option, Some, None}
 use Rattle.std.specs.List.{flat_map}
 use Rattle.std.proofs.Common.{zero, suc, refl, sym, ap, ◌∙◌, subst, inl, inr, arith}
 use Rattle.std.proofs.lemmas.List.{length-append}
 use Rattle.ob_base.specs.declared.params.Params.{Params}
 use Rattle.ob_store.specs.declared.watch.Note.{Note}
 use Rattle.ob_store.specs.declared.watch.Note.TheVariants.{Read}
-use Rattle.ob_schedule.specs.Schedule.{format_notes, head_notes}
+use Rattle.ob_schedule.specs.Schedule.{format_notes}
 use Rattle.ob_schedule.specs.declared.line.Line.{Line}
 use Rattle.ob_schedule.specs.declared.line.Line.TheVariants as L
 use Rattle.ob_schedule.specs.declared.want.Gate.{Gate}
 use Rattle.ob_schedule.specs.declared.want.Gate.TheVariants.{Open, Closed, Unsure}
-use Rattle.ob_schedule.specs.declared.want.Want.{Want}
 use Rattle.ob_schedule.specs.Standing.{StandingKnown, standing_formatted}
-use Rattle.ob_schedule.specs.Wants.{kept}
 use Rattle.ob_schedule.specs.Follow.{Follow, TakesLine, taken_up, started, opened, format_wants}
 use Rattle.ob_histories.specs.Fills.{AllFills, AreAllFills}
-use Rattle.ob_histories.specs.Runs.{RunFound, HistoryRun, notes_shown, run_notes, is_settled}
+use Rattle.ob_histories.specs.Runs.{RunFound, HistoryRun, is_settled}
 use Rattle.ob_histories.specs.Histories.{RunLeaves, MayFind, AreRunsBehind, found_formatted, lines_of_notes, run_lines, IsHistory, IsCutHistory}
 use Rattle.ob_histories.specs.Laws.{FilledAreHistories}
-use Rattle.ob_histories.specs.Filled.{IsOfFills, epoch_behind, TakesFilled}
+use Rattle.ob_histories.specs.Filled.{epoch_behind, TakesFilled}
 use Rattle.ob_histories.proofs.Places.{rest_of}
-use Rattle.ob_histories.proofs.Finding.{GateMay, RecordsMay}
+use Rattle.ob_histories.proofs.Finding.{GateMay}
 use Rattle.ob_histories.proofs.Admitting.{formatting, formatted_stands, cut_opened, head_lines}
-use Rattle.ob_histories.proofs.Fronts.{Rest, Exactly, Sure, Stood, Good, Behind, Takes, Result}
+use Rattle.ob_histories.proofs.Fronts.{Rest, Exactly, Good, Behind, Takes}
 use Rattle.ob_histories.proofs.FrontsTurns.{may_one}
 use Rattle.ob_histories.proofs.FrontsOpenings.{MayBe, Runs, conv_opening}
 

@@ -1,5 +1,5 @@
 -- A register's setting is taken: by its first note it is told whether its gate was open.
-use Rattle.std.specs.Prelude.{◌≡◌, ◌<◌, ◌≤◌, ◌⊎◌, ℕ, ◌+◌, ◌%◌, Bool, true, false, List, [], ◌∷◌, ◌++◌, length, Option, Some, None}
+use Rattle.std.specs.Prelude.{◌≡◌, ◌⊎◌, ℕ, ◌%◌, Bool, true, false, List, [], ◌∷◌, ◌++◌, length, Some}
 use Rattle.std.proofs.Common.{zero, suc, refl, sym, ap, ◌∙◌, subst, inl, inr, arith}
 use Rattle.ob_base.specs.declared.params.Params.{Params}
 use Rattle.ob_base.specs.Layout.{GenerationTwin, EpochTwin}
@@ -22,12 +22,11 @@ use Rattle.ob_histories.specs.Fills.{AllFills, AreAllFills, leaves_of_batches}
 use Rattle.ob_histories.specs.Runs.{RunFound}
 use Rattle.ob_histories.specs.Histories.{IsGateLeft}
 use Rattle.ob_histories.specs.Filled.{IsOfFills}
-use Rattle.ob_histories.proofs.Standing.{Holds}
 use Rattle.ob_histories.proofs.Ended.{other_side, ended_holds}
 use Rattle.ob_histories.proofs.Places.{at, rest_of}
 use Rattle.ob_histories.proofs.Finding.{GateMay, RecordsMay, holds_rest}
 use Rattle.ob_histories.proofs.Sets.{gate_of_side, body_of_side}
-use Rattle.ob_histories.proofs.Fronts.{Exactly, IsSure, Sure, Good, Behind, Shown, Result, Conv, conv_note, conv_strict, conv_either, is_front}
+use Rattle.ob_histories.proofs.Fronts.{Exactly, Sure, Shown, Result, Conv, conv_note, conv_strict, conv_either}
 
 -- a front of a setting, by how much it lacks
 abbrev pub Lacks : List Note → (List Note → ℕ → Type 0) → Type 0

@@ -1,74 +1,35 @@
 -- What is taken behind an opening is a front of turns, by what is found behind it.
-use Rattle.std.specs.Prelude.{◌≡◌, ◌<◌, ◌≤◌, ◌⊎◌, ℕ, ◌+◌, ◌-◌, ◌%◌, ◌==◌, ◌&&◌, nat_lt, Bool, true, false, cond, List, [], ◌∷◌, ◌++◌, map, take, drop, slice_index, length, Option, Some, None}
+use Rattle.std.specs.Prelude.{◌≡◌, ◌<◌, ◌≤◌, ◌⊎◌, ℕ, ◌+◌, ◌-◌, ◌%◌, ◌==◌, ◌&&◌, Bool, true, false, cond, List, [], ◌∷◌, ◌++◌, map, take, drop, length}
 use Rattle.std.specs.List.{flat_map, range_with_len}
 use Rattle.std.proofs.Common.{zero, suc, refl, sym, ap, ◌∙◌, subst, subst₂, inl, inr, arith, append_assoc, add-one}
 use Rattle.std.proofs.lemmas.List.{length-append}
 use Rattle.std.proofs.lemmas.Bool.{lt-ltb, le-ltb, cases_lt}
 use Rattle.ob_base.specs.declared.params.Params.{Params}
-use Rattle.ob_base.specs.Layout.{EpochTwin, log_cell, log_gate}
+use Rattle.ob_base.specs.Layout.{log_cell, log_gate}
 use Rattle.ob_store.specs.declared.watch.Note.{Note}
 use Rattle.ob_store.specs.declared.watch.Note.TheVariants.{Label, Write, Sync}
-use Rattle.ob_schedule.specs.Schedule.{batch_leaves, counts_now, hole_reads, phase_notes, record_notes, set_twin}
-use Rattle.ob_schedule.specs.Holes.{Hole, place_holes}
-use Rattle.ob_schedule.specs.declared.line.Line.TheVariants as L
-use Rattle.ob_schedule.specs.declared.want.Side.{Side}
+use Rattle.ob_schedule.specs.Schedule.{batch_leaves, counts_now, phase_notes, record_notes}
+use Rattle.ob_schedule.specs.Holes.{place_holes}
 use Rattle.ob_schedule.specs.declared.want.Gate.{Gate}
-use Rattle.ob_schedule.specs.declared.want.Gate.TheVariants.{Open, Closed, Unsure}
-use Rattle.ob_schedule.specs.declared.want.Register.TheVariants.{Epoch}
+use Rattle.ob_schedule.specs.declared.want.Gate.TheVariants.{Open}
 use Rattle.ob_schedule.specs.declared.want.Change.TheVariants.{Keeps, MayLog, Logs}
 use Rattle.ob_schedule.specs.declared.want.Want.{Want}
 use Rattle.ob_schedule.specs.declared.want.Want.TheVariants.{Fixed, Place, Record}
 use Rattle.ob_schedule.specs.Sides.{other, side_number}
-use Rattle.ob_schedule.specs.Standing.{StandingKnown, public_known, with_label, standing_ended}
-use Rattle.ob_schedule.specs.Wants.{kept, places, record_wants, sets, end_wants}
-use Rattle.ob_schedule.specs.Follow.{Follow, TakesLine, taken_up}
+use Rattle.ob_schedule.specs.Standing.{StandingKnown, public_known, with_label}
+use Rattle.ob_schedule.specs.Wants.{places, record_wants}
+use Rattle.ob_schedule.specs.Follow.{Follow, taken_up}
 use Rattle.ob_histories.specs.Fills.{AllFills, AreAllFills, public_at, public_in_epoch, fills_at, leaves_of_batches}
-use Rattle.ob_histories.specs.Runs.{RunFound, HistoryTurn, next_turn, turn_behind, notes_of_batch, notes_of_end, notes_of_turn, notes_from}
+use Rattle.ob_histories.specs.Runs.{RunFound, HistoryTurn, next_turn, turn_behind, notes_of_end, notes_of_turn, notes_from}
 use Rattle.ob_histories.specs.Histories.{AreRecordsLeft, IsBatchLeft, IsEndLeft, IsTurnLeft, IsGateLeft}
-use Rattle.ob_histories.specs.Filled.{IsOfFills}
 use Rattle.ob_histories.proofs.Standing.{Holds}
-use Rattle.ob_histories.proofs.Holes.{end_are}
 use Rattle.ob_histories.proofs.Places.{at, rest_of, leaf_at, one_more}
 use Rattle.ob_histories.proofs.Finding.{GateMay, RecordsMay, holds_rest}
 use Rattle.ob_histories.proofs.Sets.{IsOf}
-use Rattle.ob_histories.proofs.Batches.{loaded, many, all_places, are_places, are_notes, begun, place_lists, first_places, parts, some_writes, gate_wants, gate_notes, more_wants, record_lists, are_record, split_wants, record_wants_of, record_next, same_area}
-use Rattle.ob_histories.proofs.Turns.{number, next_number, ends, lifts, writes, known_writes, same_writes, same_lifts, loaded_end, record_long, wants_some, set_long, same_side}
-use Rattle.ob_histories.proofs.Fronts.{
-  Rest,
-  Fronts,
-  front_left,
-  front_right,
-  is_front,
-  same_label,
-  Exactly,
-  IsSure,
-  Sure,
-  Good,
-  Behind,
-  Shown,
-  Result,
-  Conv,
-  conv_weak,
-  conv_along,
-  conv_map,
-  conv_strict,
-  conv_note,
-  OneOf,
-  conv_either_strict,
-  conv_kept,
-  StaysAs,
-  Told,
-  told_result,
-  conv_holes,
-  conv_reads,
-  conv_place,
-  conv_places,
-  leaf_of,
-  behind_label,
-  notes_at,
-  holes_at,
-}
-use Rattle.ob_histories.proofs.FrontsSets.{Lacks, ButEpochGate, IsBehindEnd, EndLeft, AnyEndLeft, AnyEndMore, ended, ended_sure, behind_end, conv_epoch}
+use Rattle.ob_histories.proofs.Batches.{loaded, many, all_places, are_places, are_notes, begun, first_places, parts, some_writes, more_wants, are_record, split_wants, record_wants_of, record_next, same_area}
+use Rattle.ob_histories.proofs.Turns.{record_long}
+use Rattle.ob_histories.proofs.Fronts.{Rest, Fronts, front_left, front_right, is_front, Exactly, IsSure, Shown, Result, Conv, conv_weak, conv_along, conv_map}
+use Rattle.ob_histories.proofs.Fronts.{conv_note, OneOf, conv_either_strict, conv_kept, StaysAs, Told, told_result, conv_reads, conv_place, conv_places, leaf_of, behind_label, notes_at, holes_at}
 
 abbrev pub turn_at : ℕ → ℕ → ℕ → Bool → HistoryTurn
 turn_at epoch batch records is_open = record { epoch = epoch; batch = batch; records = records; gate = is_open }

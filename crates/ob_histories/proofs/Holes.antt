@@ -1,5 +1,5 @@
 -- The holes of a place, and of an end, are new in their epoch.
-use Rattle.std.specs.Prelude.{◌≡◌, ◌<◌, ◌≤◌, ◌⊎◌, ℕ, ◌+◌, ◌-◌, ◌==◌, nat_lt, nat_le, Bool, true, false, not, ◌||◌, cond, List, [], ◌∷◌, ◌++◌, map, filter, take, get_or, slice_index, length}
+use Rattle.std.specs.Prelude.{◌≡◌, ◌<◌, ◌≤◌, ℕ, ◌+◌, ◌-◌, ◌==◌, nat_lt, nat_le, Bool, true, false, not, cond, List, [], ◌∷◌, ◌++◌, map, filter, take, get_or, slice_index, length}
 use Rattle.std.specs.List.{count_by, flat_map, range_with_len}
 use Rattle.std.proofs.Common.{zero, suc, refl, sym, ap, ◌∙◌, subst, inl, inr, arith, append_assoc}
 use Rattle.std.proofs.lemmas.Bool.{eq-eqb, eqb-true, le-leb, ltb-true, or_left, or_right}
@@ -9,10 +9,10 @@ use Rattle.ob_base.specs.declared.params.Params.{Params}
 use Rattle.ob_base.specs.Tree.{width, below, path, passes}
 use Rattle.ob_schedule.specs.Holes.{Hole, lift_holes, visit_holes, place_holes, passes_before, firsts, final_holes}
 use Rattle.ob_schedule.specs.Paths.{is_one_of, eviction_path}
-use Rattle.ob_schedule.specs.Schedule.{Public, counts_now, is_lifted_by_end, batch_leaves}
-use Rattle.ob_histories.specs.Fills.{AllFills, AreAllFills, public_at, public_in_epoch, fills_at, leaves_of_batches}
+use Rattle.ob_schedule.specs.Schedule.{counts_now, is_lifted_by_end, batch_leaves}
+use Rattle.ob_histories.specs.Fills.{AllFills, public_at, public_in_epoch, fills_at, leaves_of_batches}
 use Rattle.ob_histories.proofs.Lists.{count_one, count_more}
-use Rattle.ob_histories.proofs.Standing.{IsHole, GoesBelow}
+use Rattle.ob_histories.proofs.Standing.{IsHole}
 
 abbrev pub AreHoles : Params → AllFills → ℕ → List Hole → Type 0
 AreHoles p f epoch [] = Unit {0}

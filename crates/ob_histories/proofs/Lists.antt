@@ -1,6 +1,6 @@
 -- Fronts of lists, and counts over lists.
-use Rattle.std.specs.Prelude.{◌≡◌, ◌<◌, ◌≤◌, ◌⊎◌, ℕ, ◌+◌, ◌-◌, Bool, true, false, cond, List, [], ◌∷◌, ◌++◌, map, take, length}
-use Rattle.std.specs.List.{count_by, flat_map, fold}
+use Rattle.std.specs.Prelude.{◌≡◌, ◌≤◌, ◌⊎◌, ℕ, ◌+◌, Bool, cond, List, [], ◌∷◌, ◌++◌, take, length}
+use Rattle.std.specs.List.{count_by, fold}
 use Rattle.std.proofs.Common.{zero, suc, refl, sym, ap, ◌∙◌, inl, inr, arith, zero-add, add-zero, add_assoc}
 
 count_from : {X : Type 0} (t : X → Bool) (a : ℕ) (xs : List X) → fold (λ (n : ℕ) (x : X). n + cond (t x) 1 0) a xs ≡ a + count_by t xs

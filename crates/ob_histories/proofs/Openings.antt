@@ -1,11 +1,10 @@
 -- An opening: what was allowed is found, and stands from its first sync on.
-use Rattle.std.specs.Prelude.{◌≡◌, ◌<◌, ◌≤◌, ◌⊎◌, ℕ, ◌+◌, ◌-◌, ◌%◌, nat_lt, Bool, true, false, cond, List, [], ◌∷◌, ◌++◌, map, take, drop, length, Option, Some, None}
+use Rattle.std.specs.Prelude.{◌≡◌, ◌<◌, ◌≤◌, ◌⊎◌, ℕ, ◌+◌, ◌-◌, ◌%◌, Bool, true, false, cond, List, [], ◌∷◌, ◌++◌, map, drop, length, Option, Some, None}
 use Rattle.std.specs.List.{range_with_len}
 use Rattle.std.specs.Int.{div_ceil}
-use Rattle.std.proofs.Common.{zero, suc, refl, sym, ap, ◌∙◌, subst, subst₂, inl, inr, arith, append_assoc, add-one}
+use Rattle.std.proofs.Common.{zero, suc, refl, sym, ap, ◌∙◌, subst₂, inl, inr, arith, append_assoc, add-one}
 use Rattle.std.proofs.lemmas.List.{length-append}
 use Rattle.ob_base.specs.declared.params.Params.{Params}
-use Rattle.ob_base.specs.Tree.{below}
 use Rattle.ob_base.specs.Layout.{GenerationTwin, EpochTwin, LogArea, check_cell, checkpoint_cells, checkpoint_len}
 use Rattle.ob_store.specs.declared.watch.Note.{Note}
 use Rattle.ob_store.specs.declared.watch.Note.TheVariants.{Read, Sync}
@@ -14,21 +13,20 @@ use Rattle.ob_schedule.specs.declared.line.Line.TheVariants as L
 use Rattle.ob_schedule.specs.declared.want.Side.{Side}
 use Rattle.ob_schedule.specs.declared.want.Gate.TheVariants.{Open}
 use Rattle.ob_schedule.specs.declared.want.Register.TheVariants.{Generation}
-use Rattle.ob_schedule.specs.declared.want.Change.TheVariants.{Keeps, Settles}
+use Rattle.ob_schedule.specs.declared.want.Change.TheVariants.{Settles}
 use Rattle.ob_schedule.specs.declared.want.Want.{Want}
 use Rattle.ob_schedule.specs.declared.want.Want.TheVariants.{Fixed, Checkpoint}
 use Rattle.ob_schedule.specs.Sides.{other, side_number}
 use Rattle.ob_schedule.specs.Standing.{StandingKnown}
 use Rattle.ob_schedule.specs.Wants.{kept, sets, found_wants, register_wants}
 use Rattle.ob_schedule.specs.Follow.{Follow, TakesLine, taken_up, opened, opened_wants, newer_or_same}
-use Rattle.ob_histories.specs.Fills.{AllFills, AreAllFills, public_at}
-use Rattle.ob_histories.specs.Runs.{RunFound, first_turn, opening_reads, opening_step}
+use Rattle.ob_histories.specs.Fills.{AllFills, public_at}
+use Rattle.ob_histories.specs.Runs.{RunFound, first_turn, opening_step}
 use Rattle.ob_histories.specs.Histories.{IsOpeningLeft}
-use Rattle.ob_histories.proofs.Standing.{Holds}
 use Rattle.ob_histories.proofs.Ended.{other_side}
 use Rattle.ob_histories.proofs.Walks.{Walk, walk_note, walk_join, walk_weaker, walk_within, walk_kept, Stops}
 use Rattle.ob_histories.proofs.Places.{at}
-use Rattle.ob_histories.proofs.Finding.{GateMay, RecordsMay, Stands, Allows, holds_rest, epoch_at}
+use Rattle.ob_histories.proofs.Finding.{RecordsMay, Stands, Allows, holds_rest, epoch_at}
 use Rattle.ob_histories.proofs.Sets.{walk_generation}
 use Rattle.ob_histories.proofs.Batches.{AtTurn, before}
 

@@ -1,16 +1,16 @@
 -- The places of a batch are taken, and what is known keeps standing for what is public.
-use Rattle.std.specs.Prelude.{◌≡◌, ◌<◌, ◌≤◌, ◌⊎◌, ℕ, ◌+◌, ◌-◌, ◌==◌, ◌&&◌, ◌^◌, Bool, true, false, cond, List, [], ◌∷◌, ◌++◌, map, take, get_or, slice_index, length, Option, Some, None}
+use Rattle.std.specs.Prelude.{◌≡◌, ◌<◌, ◌≤◌, ℕ, ◌+◌, ◌==◌, ◌&&◌, ◌^◌, Bool, true, false, cond, List, [], ◌∷◌, ◌++◌, map, take, slice_index, length, Option, Some, None}
 use Rattle.std.specs.List.{count_by, flat_map, range_with_len}
-use Rattle.std.proofs.Common.{zero, suc, refl, sym, ap, ◌∙◌, subst, inl, inr, arith, append_assoc, add_assoc}
-use Rattle.std.proofs.lemmas.List.{take_more, append-nil}
+use Rattle.std.proofs.Common.{zero, suc, refl, sym, ap, ◌∙◌, subst, arith, append_assoc, add_assoc}
+use Rattle.std.proofs.lemmas.List.{take_more}
 use Rattle.std.proofs.lemmas.List.FromFn.{length-map-range_with_len, get_or-map-range_with_len}
 use Rattle.ob_base.specs.declared.params.Params.{Params}
-use Rattle.ob_base.specs.Tree.{width, below, passes}
+use Rattle.ob_base.specs.Tree.{passes}
 use Rattle.ob_base.specs.Layout.{slot_cell}
 use Rattle.ob_store.specs.declared.watch.Note.{Note}
 use Rattle.ob_store.specs.declared.watch.Note.TheVariants.{Label, Read}
 use Rattle.ob_schedule.specs.Holes.{Hole, place_holes}
-use Rattle.ob_schedule.specs.Schedule.{Public, counts_now, hole_reads, batch_leaves}
+use Rattle.ob_schedule.specs.Schedule.{counts_now, hole_reads, batch_leaves}
 use Rattle.ob_schedule.specs.declared.line.Line.TheVariants as L
 use Rattle.ob_schedule.specs.declared.want.Side.{Side}
 use Rattle.ob_schedule.specs.declared.want.Gate.{Gate}
@@ -18,8 +18,8 @@ use Rattle.ob_schedule.specs.declared.want.Want.{Want}
 use Rattle.ob_schedule.specs.declared.want.Want.TheVariants.{Place}
 use Rattle.ob_schedule.specs.Sides.{side_number}
 use Rattle.ob_schedule.specs.Standing.{StandingKnown, public_known, with_label, with_slot}
-use Rattle.ob_schedule.specs.Follow.{Follow, TakesLine, taken_up, MayShow, MayLabel, ShowsSlot, ShowsLabel}
-use Rattle.ob_histories.specs.Fills.{AllFills, AreAllFills, public_at, public_in_epoch, fills_at, leaves_of_batches, version_filled}
+use Rattle.ob_schedule.specs.Follow.{Follow, TakesLine, taken_up, MayShow, MayLabel, ShowsSlot}
+use Rattle.ob_histories.specs.Fills.{AllFills, AreAllFills, public_at, fills_at, leaves_of_batches, version_filled}
 use Rattle.ob_histories.proofs.Lists.{count_more, take_whole}
 use Rattle.ob_histories.proofs.Standing.{Holds, IsKnown, IsHole, filled_slot, slot_holds, slot_new, label_holds}
 use Rattle.ob_histories.proofs.Holes.{AreHoles, count_before, place_are}

@@ -1,12 +1,11 @@
 -- The small store's histories, computed from the definitions.
-use Rattle.std.specs.Prelude.{◌≡◌, ◌<◌, ℕ, ◌+◌, ◌%◌, ◌==◌, ◌||◌, Bool, true, false, cond, slice_index, List, [], ◌∷◌, ◌++◌, take, drop, length, Option, Some, None}
+use Rattle.std.specs.Prelude.{◌≡◌, ◌<◌, ℕ, ◌+◌, ◌%◌, ◌==◌, ◌||◌, Bool, true, false, cond, List, [], ◌∷◌, ◌++◌, take, drop, Some, None}
 use Rattle.std.proofs.Common.{zero, suc, arith, refl, sym, ap, ◌∙◌, inl, inr}
-use Rattle.std.specs.Int.{div_ceil}
 use Rattle.ob_base.specs.declared.params.Params.{Params}
 use Rattle.ob_base.specs.Tree.{buckets}
 use Rattle.ob_base.specs.Layout.{record_cells, checkpoint_len, checkpoint_cells, log_cells, home_cells}
 use Rattle.ob_store.specs.declared.watch.Note.{Note}
-use Rattle.ob_store.specs.declared.watch.Note.TheVariants.{Label, Read, Write, Sync}
+use Rattle.ob_store.specs.declared.watch.Note.TheVariants.{Label, Read}
 use Rattle.ob_histories.specs.Fills.{AllFills, AreAllFills}
 use Rattle.ob_histories.specs.Runs.{run_notes}
 use Rattle.ob_histories.specs.Runs.{HistoryTurn}

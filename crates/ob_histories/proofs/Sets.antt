@@ -1,6 +1,6 @@
 -- A register is set, and at each stop on the way what a history leaves is allowed.
-use Rattle.std.specs.Prelude.{◌≡◌, ◌≤◌, ◌⊎◌, ℕ, ◌+◌, ◌-◌, ◌*◌, ◌%◌, Bool, true, false, List, [], ◌∷◌, ◌++◌, length, Option, Some, None}
-use Rattle.std.proofs.Common.{zero, suc, refl, sym, ap, ◌∙◌, subst, inl, inr, arith}
+use Rattle.std.specs.Prelude.{◌≡◌, ◌⊎◌, ℕ, ◌+◌, ◌*◌, ◌%◌, Bool, true, false, List, [], ◌∷◌, Some}
+use Rattle.std.proofs.Common.{suc, refl, sym, ap, ◌∙◌, subst, inl, inr, arith}
 use Rattle.ob_base.specs.declared.params.Params.{Params}
 use Rattle.ob_base.specs.Layout.{Region, GenerationTwin, EpochTwin, start_of}
 use Rattle.ob_store.specs.declared.watch.Note.{Note}
@@ -20,12 +20,12 @@ use Rattle.ob_schedule.specs.Wants.{sets}
 use Rattle.ob_schedule.specs.Follow.{Follow, taken_up}
 use Rattle.ob_histories.specs.Fills.{AllFills, AreAllFills, leaves_of_batches}
 use Rattle.ob_histories.specs.Runs.{RunFound, HistoryTurn}
-use Rattle.ob_histories.specs.Histories.{IsOpeningLeft, IsGenerationLeft, IsEndLeft, EpochEnded, EpochStays, IsGateLeft}
+use Rattle.ob_histories.specs.Histories.{IsOpeningLeft, IsEndLeft, EpochEnded, EpochStays, IsGateLeft}
 use Rattle.ob_histories.proofs.Standing.{Holds}
 use Rattle.ob_histories.proofs.Ended.{other_side, ended_holds}
 use Rattle.ob_histories.proofs.Walks.{Walk, walk_none, walk_note, Stops, up_stops}
-use Rattle.ob_histories.proofs.Places.{at, rest_of}
-use Rattle.ob_histories.proofs.Finding.{GateMay, RecordsMay, Fits, Stands, Allows, IsBut, refit, holds_rest}
+use Rattle.ob_histories.proofs.Places.{at}
+use Rattle.ob_histories.proofs.Finding.{GateMay, RecordsMay, Stands, Allows, refit, holds_rest}
 
 low_side : (side : Side) (n : ℕ) → side_number side ≡ n % 2 → side_number side % 2 ≡ n % 2
 low_side Even n is = omega (arith, is)

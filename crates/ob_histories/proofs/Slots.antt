@@ -1,13 +1,12 @@
 -- Of lines whose labels are some leaves each slot is its version's, by some fills with these leaves.
-use Rattle.std.specs.Prelude.{◌≡◌, ◌<◌, ◌≤◌, ◌⊎◌, ℕ, ◌+◌, ◌^◌, ◌==◌, ◌&&◌, nat_lt, nat_le, Bool, true, false, not, ◌||◌, cond, List, [], ◌∷◌, ◌++◌, map, take, drop, slice_index, Option, Some, None}
-use Rattle.std.specs.List.{count_by, range_with_len}
-use Rattle.std.proofs.Common.{zero, suc, refl, sym, ap, ◌∙◌, subst, subst₂, inl, inr, arith, true≢false}
+use Rattle.std.specs.Prelude.{◌≡◌, ◌<◌, ◌≤◌, ◌⊎◌, ℕ, ◌==◌, ◌&&◌, nat_lt, Bool, true, false, cond, List, [], ◌∷◌, ◌++◌, map, Option, Some, None}
+use Rattle.std.proofs.Common.{zero, suc, refl, sym, ap, ◌∙◌, subst, arith, true≢false}
 use Rattle.std.proofs.lemmas.Bool.{eqb-true, eq-eqb, ne_eqb, lt-ltb, ltb-true}
 use Rattle.ob_base.specs.declared.params.Params.{Params}
-use Rattle.ob_base.specs.Tree.{width, buckets, below, passes}
+use Rattle.ob_base.specs.Tree.{width, below}
 use Rattle.ob_schedule.specs.Holes.{Hole}
 use Rattle.ob_schedule.specs.Schedule.{Public, counts_now, is_lifted_by_end, after_end}
-use Rattle.ob_schedule.specs.Standing.{StandingKnown, with_slot}
+use Rattle.ob_schedule.specs.Standing.{StandingKnown}
 use Rattle.ob_histories.specs.Fills.{AllFills, AreAllFills, public_at, public_in_epoch, leaves_of_batches, version_filled}
 use Rattle.ob_histories.proofs.Standing.{IsKnown, Holds, IsHole, GoesBelow, WasShown, filled_slot, slot_new, same_two}
 use Rattle.ob_histories.proofs.Holes.{AreHoles}

@@ -1,14 +1,9 @@
 -- Where an attempt stands among an epoch's places, by what is wanted.
-use Rattle.std.specs.Prelude.{◌≡◌, ◌<◌, ◌≤◌, ◌⊎◌, ℕ, ◌+◌, ◌-◌, ◌==◌, ◌&&◌, nat_lt, Bool, true, false, cond, List, [], ◌∷◌, ◌++◌, map, take, drop, slice_index, length, Option, Some, None}
-use Rattle.std.specs.List.{range_with_len, flat_map}
-use Rattle.std.proofs.Common.{zero, suc, refl, sym, ap, ◌∙◌, subst, subst₂, inl, inr, arith, add-one, append_assoc}
-use Rattle.std.proofs.lemmas.Bool.{ltb-true, ltb-false, eqb-true}
-use Rattle.std.proofs.lemmas.List.{append-nil}
+use Rattle.std.specs.Prelude.{◌≡◌, ◌<◌, ℕ, ◌+◌, List, [], ◌∷◌, ◌++◌, map, take, drop, slice_index}
+use Rattle.std.specs.List.{range_with_len}
+use Rattle.std.proofs.Common.{zero, suc, refl, arith}
 use Rattle.ob_base.specs.declared.params.Params.{Params}
-use Rattle.ob_base.specs.Tree.{below}
-use Rattle.ob_base.specs.Layout.{log_cell, record_cells}
 use Rattle.ob_store.specs.declared.watch.Note.{Note}
-use Rattle.ob_store.specs.declared.watch.Note.TheVariants.{Label, Write}
 use Rattle.ob_schedule.specs.Schedule.{batch_leaves}
 use Rattle.ob_schedule.specs.declared.want.Side.{Side}
 use Rattle.ob_schedule.specs.declared.want.Gate.{Gate}
@@ -18,12 +13,10 @@ use Rattle.ob_schedule.specs.declared.want.Change.{Change}
 use Rattle.ob_schedule.specs.declared.want.Change.TheVariants.{Keeps, Formats, Settles, Doubts, Closes, SetsGeneration, EndsEpoch, MayLog, Logs}
 use Rattle.ob_schedule.specs.declared.want.Want.{Want}
 use Rattle.ob_schedule.specs.declared.want.Want.TheVariants.{Fixed, Place, Record, Setting, Checkpoint}
-use Rattle.ob_schedule.specs.Sides.{other, side_number}
-use Rattle.ob_schedule.specs.Standing.{StandingKnown}
-use Rattle.ob_schedule.specs.Wants.{kept, sets, record_wants, places}
+use Rattle.ob_schedule.specs.Wants.{kept, sets}
 use Rattle.ob_histories.specs.Fills.{AllFills, AreAllFills, fills_at, leaves_of_batches}
 use Rattle.ob_histories.proofs.Fronts.{Rest}
-use Rattle.ob_histories.proofs.Places.{leaf_at, one_more, all_shown}
+use Rattle.ob_histories.proofs.Places.{one_more, all_shown}
 
 -- only a generation is set
 abbrev pub SetsNoEpoch : Change → Type 0

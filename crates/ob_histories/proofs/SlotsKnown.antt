@@ -1,18 +1,16 @@
 -- What is known at a state, of lines whose labels are some leaves, with slots that are some fills'.
-use Rattle.std.specs.Prelude.{◌≡◌, ◌<◌, ◌≤◌, ◌⊎◌, ℕ, ◌+◌, ◌-◌, ◌==◌, ◌&&◌, nat_lt, Bool, true, false, cond, not, List, [], ◌∷◌, ◌++◌, map, take, drop, slice_index, Option, Some, None}
-use Rattle.std.specs.List.{count_by, range_with_len}
-use Rattle.std.proofs.Common.{zero, suc, refl, sym, ap, ◌∙◌, subst, subst₂, inl, inr, arith, add-one, append_assoc, true≢false}
-use Rattle.std.proofs.lemmas.Bool.{eq-eqb, lt-ltb, ltb-true, ltb-false, eqb-true, cases_lt}
+use Rattle.std.specs.Prelude.{◌≡◌, ◌<◌, ◌≤◌, ℕ, ◌+◌, ◌==◌, ◌&&◌, nat_lt, Bool, true, false, cond, List, [], ◌∷◌, ◌++◌, map, Option, Some, None}
+use Rattle.std.proofs.Common.{suc, refl, sym, ap, ◌∙◌, subst, arith, add-one, append_assoc}
+use Rattle.std.proofs.lemmas.Bool.{eq-eqb, ltb-true, ltb-false}
 use Rattle.std.proofs.lemmas.List.{append-nil}
 use Rattle.ob_base.specs.declared.params.Params.{Params}
-use Rattle.ob_base.specs.Tree.{width, buckets, below}
+use Rattle.ob_base.specs.Tree.{below}
 use Rattle.ob_base.specs.Layout.{GenerationTwin, EpochTwin, LogArea, log_cell, log_gate, record_cells}
 use Rattle.ob_store.specs.declared.watch.Note.{Note}
 use Rattle.ob_store.specs.declared.watch.Note.TheVariants.{Write, Sync}
 use Rattle.ob_schedule.specs.Holes.{Hole, final_holes}
 use Rattle.ob_schedule.specs.Paths.{by_falling_level}
-use Rattle.ob_schedule.specs.Schedule.{Public, counts_now, is_lifted_by_end, batch_leaves, head_notes, reads_of, writes_of, check_cells, region_cells, log_gates}
-use Rattle.ob_schedule.specs.declared.want.Side.{Side}
+use Rattle.ob_schedule.specs.Schedule.{counts_now, is_lifted_by_end, head_notes, reads_of, writes_of, check_cells, region_cells, log_gates}
 use Rattle.ob_schedule.specs.declared.want.Side.TheVariants.{Even}
 use Rattle.ob_schedule.specs.declared.want.Gate.TheVariants.{Closed}
 use Rattle.ob_schedule.specs.declared.want.Register.TheVariants.{Generation, Epoch}
@@ -21,17 +19,17 @@ use Rattle.ob_schedule.specs.declared.want.Change.TheVariants.{Keeps, Formats, S
 use Rattle.ob_schedule.specs.declared.want.Want.{Want}
 use Rattle.ob_schedule.specs.declared.want.Want.TheVariants.{Fixed, Place, Record, Setting, Checkpoint}
 use Rattle.ob_schedule.specs.Sides.{other, side_number}
-use Rattle.ob_schedule.specs.Standing.{StandingKnown, public_known, with_label, with_slot, standing_ended, used_after}
-use Rattle.ob_schedule.specs.Wants.{kept, sets, record_wants, places, found_wants, end_wants, end_holes, register_wants, writes_anew}
+use Rattle.ob_schedule.specs.Standing.{StandingKnown, public_known, with_label, with_slot}
+use Rattle.ob_schedule.specs.Wants.{kept, sets, record_wants, places, found_wants, end_wants, end_holes, writes_anew}
 use Rattle.ob_schedule.specs.Follow.{Follow, taken_up, on_from, next_step, opened, opened_wants}
-use Rattle.ob_histories.specs.Fills.{AllFills, AreAllFills, public_at, public_in_epoch, fills_at, leaves_of_batches, version_filled}
-use Rattle.ob_histories.proofs.Standing.{Holds, WasShown, GoesBelow, outside}
-use Rattle.ob_histories.proofs.Ended.{same_lifted, same_counts, ended_holds}
+use Rattle.ob_histories.specs.Fills.{AllFills, AreAllFills, public_in_epoch, leaves_of_batches}
+use Rattle.ob_histories.proofs.Standing.{Holds}
+use Rattle.ob_histories.proofs.Ended.{same_counts}
 use Rattle.ob_histories.proofs.Holes.{AreHoles, end_are}
 use Rattle.ob_histories.proofs.Fronts.{Rest}
 use Rattle.ob_histories.proofs.Labels.{Leaves, InRange}
-use Rattle.ob_histories.proofs.Slots.{Slots, filling, leaves_same, in_epoch_same, holes_same, AreSlots, first_slots, first_are, fills_by, AreMarked}
-use Rattle.ob_histories.proofs.SlotsAt.{UntilSettled, StandsAt, before_batch, kept_at, kept_until, end_of_opening_at, generation_ends, epoch_at_end, places_at}
+use Rattle.ob_histories.proofs.Slots.{Slots, filling, leaves_same, holes_same, AreSlots, first_slots, first_are, fills_by}
+use Rattle.ob_histories.proofs.SlotsAt.{UntilSettled, StandsAt, before_batch, kept_at, kept_until, generation_ends, epoch_at_end, places_at}
 
 -- ---- what a slot and a label change of what is marked
 

@@ -1,19 +1,17 @@
 -- Of lines that are admitted each slot is its version's, by some fills; so they are histories.
-use Rattle.std.specs.Prelude.{◌≡◌, ◌<◌, ◌≤◌, ◌⊎◌, ℕ, ◌^◌, List, [], ◌∷◌, ◌++◌}
+use Rattle.std.specs.Prelude.{◌≡◌, ◌⊎◌, ℕ, List, [], ◌∷◌, ◌++◌}
 use Rattle.std.specs.List.{flat_map}
-use Rattle.std.proofs.Common.{zero, suc, refl, sym, ap, ◌∙◌, subst, inl, inr, arith}
+use Rattle.std.proofs.Common.{refl, ap, subst, inl, inr, arith}
 use Rattle.ob_base.specs.declared.params.Params.{Params}
 use Rattle.ob_store.specs.declared.watch.Note.{Note}
-use Rattle.ob_schedule.specs.Holes.{Hole}
 use Rattle.ob_schedule.specs.Schedule.{format_notes}
 use Rattle.ob_schedule.specs.declared.line.Line.{Line}
 use Rattle.ob_schedule.specs.declared.line.Line.TheVariants as L
-use Rattle.ob_schedule.specs.declared.want.Want.{Want}
 use Rattle.ob_schedule.specs.Standing.{StandingKnown}
-use Rattle.ob_schedule.specs.Follow.{Follow, TakesLine, opened, started, format_wants}
-use Rattle.ob_histories.specs.Filled.{IsOfFills, epoch_behind, TakesFilled, TakesLabelled, HasNoStart}
+use Rattle.ob_schedule.specs.Follow.{Follow, opened, started, format_wants}
+use Rattle.ob_histories.specs.Filled.{epoch_behind, TakesFilled, TakesLabelled, HasNoStart}
 use Rattle.ob_histories.specs.Histories.{IsHistory, IsCutHistory, AreHistories}
-use Rattle.ob_histories.specs.Laws.{TakesLines, AreAdmitted, AdmittedAreHistories}
+use Rattle.ob_histories.specs.Laws.{TakesLines, AdmittedAreHistories}
 use Rattle.ob_histories.proofs.Admitting.{formatted_stands}
 use Rattle.ob_histories.proofs.FrontsRuns.{filled_are_all}
 use Rattle.ob_histories.proofs.Labels.{Leaves, InRange, opening_stands, labels_are}

@@ -1,5 +1,5 @@
 -- One line at a time, of lines whose labels are some leaves: a slot that isn't its version's becomes that, and all that was known stays.
-use Rattle.std.specs.Prelude.{◌≡◌, ◌<◌, ◌≤◌, ◌⊎◌, ℕ, ◌+◌, ◌-◌, nat_lt, Bool, true, false, cond, not, List, [], ◌∷◌, ◌++◌, map, take, drop, slice_index, ◌&&◌, Option, Some, None}
+use Rattle.std.specs.Prelude.{◌≡◌, ◌<◌, ◌≤◌, ◌⊎◌, ℕ, ◌-◌, Bool, true, false, cond, not, List, [], ◌∷◌, ◌++◌, map, take, drop, ◌&&◌, Option, Some, None}
 use Rattle.std.specs.List.{range_with_len}
 use Rattle.std.proofs.Common.{zero, suc, refl, sym, ap, ◌∙◌, subst, subst₂, inl, inr, arith, append_assoc, true≢false}
 use Rattle.std.proofs.lemmas.Bool.{lt-ltb, cases_lt}
@@ -10,8 +10,7 @@ use Rattle.ob_base.specs.Layout.{LogArea, slot_cell, log_cell, log_gate, record_
 use Rattle.ob_store.specs.declared.watch.Note.{Note}
 use Rattle.ob_store.specs.declared.watch.Note.TheVariants.{Label, Read, Write, Sync}
 use Rattle.ob_schedule.specs.Holes.{Hole, place_holes}
-use Rattle.ob_schedule.specs.Schedule.{Public, counts_now, is_lifted_by_end, batch_leaves, reads_of, check_cells, region_cells}
-use Rattle.ob_schedule.specs.declared.line.Line.{Line}
+use Rattle.ob_schedule.specs.Schedule.{Public, counts_now, is_lifted_by_end, batch_leaves, reads_of, region_cells}
 use Rattle.ob_schedule.specs.declared.line.Line.TheVariants as L
 use Rattle.ob_schedule.specs.declared.want.Side.{Side}
 use Rattle.ob_schedule.specs.declared.want.Gate.{Gate}
@@ -25,9 +24,9 @@ use Rattle.ob_schedule.specs.declared.want.Want.TheVariants.{Fixed, Place, Recor
 use Rattle.ob_schedule.specs.Sides.{other, side_number}
 use Rattle.ob_schedule.specs.Standing.{StandingKnown, public_known, with_label, with_slot, is_lifted, standing_ended, used_after}
 use Rattle.ob_schedule.specs.Wants.{kept, setting, sets, record_wants, places, found_wants}
-use Rattle.ob_schedule.specs.Follow.{Follow, TakesLine, TakesNote, TakesWant, TakesSlot, MayShow, ShowsSlot, shows_label, repeated_batch, with_gate, taken_up, changed, next_side, newer_or_same}
-use Rattle.ob_histories.specs.Fills.{AllFills, AreAllFills, public_at, public_in_epoch, fills_at, leaves_of_batches, version_filled}
-use Rattle.ob_histories.specs.Filled.{IsOfFills, settled_by, settled_next, IsOfLeaves}
+use Rattle.ob_schedule.specs.Follow.{Follow, TakesLine, TakesNote, TakesWant, TakesSlot, MayShow, shows_label, with_gate, taken_up, changed, next_side, newer_or_same}
+use Rattle.ob_histories.specs.Fills.{AllFills, AreAllFills, public_in_epoch, fills_at, leaves_of_batches, version_filled}
+use Rattle.ob_histories.specs.Filled.{IsOfFills, settled_next, IsOfLeaves}
 use Rattle.ob_histories.proofs.Standing.{Holds, WasShown, GoesBelow, IsHole, filled_slot, slot_holds, label_holds, outside}
 use Rattle.ob_histories.proofs.Ended.{same_lifted, ended_holds}
 use Rattle.ob_histories.proofs.Holes.{AreHoles, count_before, place_are}
@@ -38,30 +37,7 @@ use Rattle.ob_histories.proofs.Fronts.{same_label}
 use Rattle.ob_histories.proofs.Labels.{Leaves, InRange, up_stands}
 use Rattle.ob_histories.proofs.Slots.{Slots, leaves_same, in_epoch_same, version_same, holes_same, AreSlots, AgreeSlots, agree_trans, agree_used, first_slots, fills_by, holds_by, one_slot}
 use Rattle.ob_histories.proofs.SlotsAt.{UntilSettled, StandsAt, before_batch, leaf_here, kept_at, dropped_at, kept_until, end_of_opening_at, generation_ends, places_at}
-use Rattle.ob_histories.proofs.SlotsKnown.{
-  used_of,
-  slots_of,
-  Marked,
-  marked_by,
-  slot_marked,
-  slot_more,
-  slot_shown,
-  label_same,
-  OnlyKept,
-  any_rest,
-  fills,
-  bare,
-  all_bare,
-  WantsAt,
-  IsNewer,
-  NewerIs,
-  Slotted,
-  no_newer,
-  never_newer,
-  slot_newer,
-  leaves_by,
-  up_slotted,
-}
+use Rattle.ob_histories.proofs.SlotsKnown.{used_of, slots_of, Marked, marked_by, slot_marked, slot_more, slot_shown, label_same, OnlyKept, any_rest, fills, bare, all_bare, IsNewer, NewerIs, Slotted, no_newer, never_newer, slot_newer, leaves_by, up_slotted}
 
 label_or_write : (x c : ℕ) (n : Note) → n ≡ Label x → n ≡ Write c → ⊥
 label_or_write x c n a b = cc

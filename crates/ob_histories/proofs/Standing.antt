@@ -1,21 +1,15 @@
 -- What is known of a store at a stop stands for what a history has public there.
-use Rattle.std.specs.Prelude.{◌≡◌, ◌<◌, ◌≤◌, ◌⊎◌, ℕ, ◌+◌, ◌-◌, ◌%◌, ◌==◌, nat_lt, nat_le, Bool, true, false, not, ◌&&◌, ◌||◌, cond, List, [], ◌∷◌, ◌++◌, map, Option, Some, None}
+use Rattle.std.specs.Prelude.{◌≡◌, ◌<◌, ◌≤◌, ◌⊎◌, ℕ, ◌+◌, ◌-◌, ◌%◌, ◌==◌, Bool, true, false, ◌&&◌, cond, map, Option, Some, None}
 use Rattle.std.specs.List.{count_by, range_with_len}
 use Rattle.std.proofs.Common.{zero, suc, refl, sym, ap, ◌∙◌, subst, inl, inr, arith}
-use Rattle.std.proofs.lemmas.Bool.{eqb-true, eq-eqb, lt-ltb, le-ltb, ltb-true, leb-false, cases_Bool, cases_lt, false_from_ne_true}
+use Rattle.std.proofs.lemmas.Bool.{eqb-true, eq-eqb, false_from_ne_true}
 use Rattle.ob_base.specs.declared.params.Params.{Params}
 use Rattle.ob_base.specs.Tree.{buckets, width, below, passes}
 use Rattle.ob_schedule.specs.Holes.{Hole}
-use Rattle.ob_schedule.specs.Paths.{is_one_of, eviction_path}
-use Rattle.ob_schedule.specs.Schedule.{Public, counts_now, is_lifted_by_end, after_end}
-use Rattle.ob_schedule.specs.declared.want.Side.{Side}
-use Rattle.ob_schedule.specs.declared.want.Side.TheVariants.{Even, Odd}
-use Rattle.ob_schedule.specs.declared.want.Gate.{Gate}
-use Rattle.ob_schedule.specs.declared.want.Gate.TheVariants.{Open, Closed, Unsure}
+use Rattle.ob_schedule.specs.Schedule.{Public, counts_now, is_lifted_by_end}
 use Rattle.ob_schedule.specs.Sides.{other, side_number}
-use Rattle.ob_schedule.specs.Standing.{StandingKnown, public_known, with_label, with_slot, is_lifted, standing_ended, home_after, count_after, used_after}
+use Rattle.ob_schedule.specs.Standing.{StandingKnown, with_label, with_slot}
 use Rattle.ob_histories.specs.Fills.{AllFills, AreAllFills, public_at, public_in_epoch, version_filled, leaves_of_batches}
-use Rattle.ob_histories.specs.Runs.{RunFound}
 use Rattle.ob_histories.proofs.Trees.{AreLeaves, leaves_joined, lifted_never, passed_never}
 
 abbrev pub IsKnown : Option ℕ → ℕ → Type 0

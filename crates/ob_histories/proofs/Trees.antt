@@ -1,5 +1,5 @@
 -- What lies in no tree is passed by no path, and is never lifted.
-use Rattle.std.specs.Prelude.{◌≡◌, ◌<◌, ◌≤◌, ℕ, ◌+◌, ◌-◌, ◌*◌, ◌/◌, ◌%◌, ◌^◌, ◌==◌, nat_le, nat_eq, Bool, true, false, ◌||◌, cond, List, [], ◌∷◌, ◌++◌, map, take, length}
+use Rattle.std.specs.Prelude.{◌≡◌, ◌<◌, ◌≤◌, ℕ, ◌+◌, ◌-◌, ◌*◌, ◌/◌, ◌%◌, ◌^◌, ◌==◌, nat_le, false, ◌||◌, cond, List, [], ◌∷◌, ◌++◌, map}
 use Rattle.std.specs.List.{range_with_len, count_by, flat_map, list_any}
 use Rattle.std.proofs.Common.{zero, suc, refl, sym, ap, ◌∙◌, arith, pow-add, add-one, le-mul_of_pos_right}
 use Rattle.std.proofs.Math.Nat.{div-lt_iff_lt-mul, pow-suc}
@@ -7,7 +7,7 @@ use Rattle.std.proofs.lemmas.Nat.{pow_pos}
 use Rattle.std.proofs.lemmas.Bool.{ne_eqb, lt-leb}
 use Rattle.std.proofs.lemmas.List.Folds.{list_any-append}
 use Rattle.ob_base.specs.declared.params.Params.{Params}
-use Rattle.ob_base.specs.Tree.{buckets, bucket_of, below, path, passes, reversed}
+use Rattle.ob_base.specs.Tree.{buckets, bucket_of, path, passes, reversed}
 use Rattle.ob_schedule.specs.Paths.{is_one_of, eviction_path}
 use Rattle.ob_schedule.specs.Schedule.{Public, counts_now, is_lifted_by_end}
 use Rattle.ob_histories.proofs.Lists.{count_one}

@@ -1,6 +1,6 @@
 -- A step behind an opening: a batch, or an end.
-use Rattle.std.specs.Prelude.{◌≡◌, ◌<◌, ◌≤◌, ◌⊎◌, ℕ, ◌+◌, ◌-◌, ◌%◌, ◌==◌, ◌&&◌, nat_lt, Bool, true, false, cond, List, [], ◌∷◌, ◌++◌, map, filter, take, length, Option, Some, None}
-use Rattle.std.proofs.Common.{zero, suc, refl, sym, ap, ◌∙◌, subst, subst₂, inl, inr, arith, append_assoc, add-one}
+use Rattle.std.specs.Prelude.{◌≡◌, ◌<◌, ◌≤◌, ◌⊎◌, ℕ, ◌+◌, ◌-◌, ◌%◌, ◌==◌, ◌&&◌, nat_lt, Bool, true, false, cond, List, [], ◌∷◌, ◌++◌, map, filter, take, length, Option}
+use Rattle.std.proofs.Common.{zero, suc, refl, sym, ap, ◌∙◌, subst, inl, inr, arith, add-one}
 use Rattle.std.proofs.lemmas.List.{length-append, length-map}
 use Rattle.std.proofs.lemmas.List.FromFn.{length-range_with_len}
 use Rattle.std.proofs.lemmas.Bool.{lt-ltb, le-ltb, cases_lt}
@@ -11,25 +11,25 @@ use Rattle.ob_store.specs.declared.watch.Note.{Note}
 use Rattle.ob_store.specs.declared.watch.Note.TheVariants.{Write, Sync}
 use Rattle.ob_schedule.specs.Holes.{Hole, final_holes}
 use Rattle.ob_schedule.specs.Paths.{by_falling_level}
-use Rattle.ob_schedule.specs.Schedule.{Public, batch_leaves, batch_notes, bucket_writes, check_cells, counts_now, end_notes, hole_reads, is_lifted_by_end, log_gates, phase_notes, record_notes, set_twin, writes_of}
+use Rattle.ob_schedule.specs.Schedule.{Public, batch_leaves, batch_notes, bucket_writes, check_cells, counts_now, hole_reads, is_lifted_by_end, log_gates, phase_notes, record_notes, set_twin, writes_of}
 use Rattle.ob_schedule.specs.declared.want.Side.{Side}
 use Rattle.ob_schedule.specs.declared.want.Side.TheVariants.{Even, Odd}
 use Rattle.ob_schedule.specs.declared.want.Gate.{Gate}
-use Rattle.ob_schedule.specs.declared.want.Gate.TheVariants.{Open, Closed}
+use Rattle.ob_schedule.specs.declared.want.Gate.TheVariants.{Closed}
 use Rattle.ob_schedule.specs.declared.want.Register.TheVariants.{Epoch}
 use Rattle.ob_schedule.specs.declared.want.Want.{Want}
 use Rattle.ob_schedule.specs.Sides.{other, side_number}
-use Rattle.ob_schedule.specs.Standing.{StandingKnown, public_known, standing_ended}
+use Rattle.ob_schedule.specs.Standing.{StandingKnown, standing_ended}
 use Rattle.ob_schedule.specs.Wants.{kept, places, record_wants, sets, writes_anew, end_holes, end_wants}
 use Rattle.ob_schedule.specs.declared.want.Want.TheVariants.{Record}
 use Rattle.ob_schedule.specs.Follow.{Follow, taken_up}
 use Rattle.ob_histories.specs.Fills.{AllFills, AreAllFills, public_at, public_in_epoch, fills_at, leaves_of_batches}
 use Rattle.ob_histories.specs.Runs.{RunFound, HistoryTurn, next_turn, notes_of_batch, notes_of_end, notes_of_turn}
-use Rattle.ob_histories.specs.Histories.{AreRecordsLeft, IsBatchLeft, IsEndLeft, EpochStays, IsTurnLeft}
+use Rattle.ob_histories.specs.Histories.{AreRecordsLeft, IsBatchLeft, IsEndLeft, IsTurnLeft}
 use Rattle.ob_histories.proofs.Standing.{Holds}
 use Rattle.ob_histories.proofs.Ended.{other_side, same_counts, same_lifted, ended_holds}
 use Rattle.ob_histories.proofs.Holes.{end_are}
-use Rattle.ob_histories.proofs.Walks.{Reach, Walk, walk_join, walk_weaker, walk_kept, Stops, up_stops}
+use Rattle.ob_histories.proofs.Walks.{Reach, Walk, walk_join, walk_weaker, walk_kept, Stops}
 use Rattle.ob_histories.proofs.Places.{at, rest_of, Known, InEpoch, Keeps, walk_holes}
 use Rattle.ob_histories.proofs.Finding.{GateMay, RecordsMay, Fits, Stands, Allows, holds_rest, epoch_at, gate_still}
 use Rattle.ob_histories.proofs.Sets.{IsOf, found_at, walk_epoch}

@@ -1,6 +1,6 @@
 -- Lines that are admitted and show just what these fills have.
-use Rattle.std.specs.Prelude.{◌≡◌, ℕ, cond, List, [], ◌∷◌, Option, Some, None}
-use Rattle.std.proofs.Common.{zero, suc}
+use Rattle.std.specs.Prelude.{◌≡◌, ℕ, cond, List, [], ◌∷◌, Some, None}
+use Rattle.std.proofs.Common.{suc}
 use Rattle.ob_base.specs.declared.params.Params.{Params}
 use Rattle.ob_base.specs.Layout.{slot_cell}
 use Rattle.ob_store.specs.declared.watch.Note.{Note}

@@ -7,7 +7,7 @@ use Rattle.ob_store.specs.declared.watch.Note.{Note}
 use Rattle.ob_schedule.specs.Schedule.{format_notes, head_notes, record_notes}
 use Rattle.ob_schedule.specs.declared.line.Line.{Line}
 use Rattle.ob_schedule.specs.declared.line.Line.TheVariants as L
-use Rattle.ob_histories.specs.Fills.{AllFills, AreAllFills, public_at}
+use Rattle.ob_histories.specs.Fills.{AllFills, AreAllFills}
 use Rattle.ob_histories.specs.Runs.{RunFound, HistoryRun, HistoryTurn, first_turn, turn_behind, notes_of_turn, opening_step, run_notes, is_settled}
 
 -- ---- what a stop leaves, by how many notes its step lacks

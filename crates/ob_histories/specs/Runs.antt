@@ -1,5 +1,5 @@
 -- What a run shows: the schedule's notes, from what it found on, as far as it came.
-use Rattle.std.specs.Prelude.{ℕ, nat_lt, Bool, true, false, cond, List, ◌%◌, ◌+◌, ◌++◌, take, length}
+use Rattle.std.specs.Prelude.{ℕ, nat_lt, Bool, true, cond, List, ◌%◌, ◌+◌, ◌++◌, take, length}
 use Rattle.std.proofs.Common.{zero, suc}
 use Rattle.ob_base.specs.declared.params.Params.{Params}
 use Rattle.ob_base.specs.Layout.{GenerationTwin, EpochTwin, LogArea}

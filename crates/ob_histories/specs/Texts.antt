@@ -1,5 +1,5 @@
 -- Lines and the texts that whoever shows them writes.
-use Rattle.std.specs.Prelude.{◌≡◌, ◌≤◌, ◌↔◌, ℕ, ◌^◌, List, [], ◌∷◌, length, Option, Some, None}
+use Rattle.std.specs.Prelude.{◌≡◌, ◌≤◌, ◌↔◌, ℕ, ◌^◌, List, [], ◌∷◌, length, Option, Some}
 use Rattle.std.specs.List.{flat_map}
 use Rattle.ob_store.specs.Lines.{line_of, start_line, open_line}
 use Rattle.ob_schedule.specs.declared.line.Line.{Line}
