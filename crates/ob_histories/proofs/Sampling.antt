@@ -129,6 +129,21 @@ no_other_leaf f was is =
     let b : f.leaf 1 0 0 ≡ 1 = ap (λ (ns : List Note). label_of (drop 31 ns)) (sym (label_again f) ∙ is) in
     omega (arith, a, b)
 
+older_home : (slot : ℕ → ℕ → ℕ → ℕ) → drop 32 (run_notes small (s.one_leaf slot) s.older_home_run) ≡ Read (39 + slot 0 0 0) ∷ []
+unfolding log_cells record_cells checkpoint_cells checkpoint_len buckets home_cells
+older_home slot = let e : 39 + (0 + slot 0 0 0) ≡ 39 + slot 0 0 0 = omega arith in ap (λ (c : ℕ). Read c ∷ []) e
+
+first_cell : List Note → ℕ
+first_cell (Read cell ∷ notes) = cell
+first_cell notes = 0
+
+no_newer_home : (slot : ℕ → ℕ → ℕ → ℕ) (x : ℕ) → AreAllFills small (s.one_leaf slot) → drop 32 (run_notes small (s.one_leaf slot) s.older_home_run) ≡ Read (74 + x) ∷ [] → ⊥
+unfolding first_cell
+no_newer_home slot x all is =
+    let same : 39 + slot 0 0 0 ≡ 74 + x = ap first_cell (sym (older_home slot) ∙ is) in
+    let low : slot 0 0 0 < 5 = all.slots 0 0 0 in
+    omega (arith, same, low)
+
 pub sampled : s.Sampled
 sampled = record {
   p = small;
@@ -140,6 +155,8 @@ sampled = record {
   newer = newer;
   older = older;
   again = again;
+  older_home = older_home;
+  no_newer_home = no_newer_home;
   no_older = no_older;
   no_third = no_third;
   no_other_leaf = no_other_leaf;

@@ -78,6 +78,10 @@ older_notes =
     Write 85 ∷ Write 86 ∷ Write 87 ∷ Write 88 ∷ Write 74 ∷ Write 75 ∷ Write 76 ∷ Write 77 ∷ Write 78 ∷ Write 28 ∷ Write 29 ∷ Write 30 ∷ Write 31 ∷
     Write 32 ∷ Write 33 ∷ Write 34 ∷ Write 35 ∷ Write 36 ∷ Write 37 ∷ Write 38 ∷ Write 10 ∷ Write 12 ∷ Sync ∷ Write 7 ∷ Sync ∷ Write 8 ∷ Sync ∷ []
 
+-- its first label and the slot behind it
+abbrev pub older_home_run : HistoryRun
+older_home_run = record { found = found_still; steps = 1; shown = 2 }
+
 -- a run that stops before its sync, and what it would find
 abbrev pub third_found : RunFound
 third_found = record { epoch = 0; generation = 2; records = 3; generation_gate = true; epoch_gate = false }
@@ -114,6 +118,9 @@ pub record Sampled : Type 0 where
   pub newer : AreRunsBehind p sample_fills None (doubtful_run ∷ older_seen ∷ newer_seen ∷ older_seen ∷ second_run ∷ [])
   pub older : AreRunsBehind p sample_fills None (doubtful_run ∷ newer_seen ∷ older_seen ∷ newer_seen ∷ older_run ∷ [])
   pub again : run_notes p sample_fills older_run ≡ older_notes
+  -- a run that finds the older epoch reads the root in the home that it has there, and not in the newer epoch's
+  pub older_home : (slot : ℕ → ℕ → ℕ → ℕ) → drop 32 (run_notes p (one_leaf slot) older_home_run) ≡ Read (39 + slot 0 0 0) ∷ []
+  pub no_newer_home : (slot : ℕ → ℕ → ℕ → ℕ) (x : ℕ) → AreAllFills p (one_leaf slot) → drop 32 (run_notes p (one_leaf slot) older_home_run) ≡ Read (74 + x) ∷ [] → ⊥
   -- behind the whole end no run finds the older epoch
   pub no_older : MayFind p sample_fills (Some first_run) found_still → ⊥
   -- two records are open, and no third is found
