@@ -1,0 +1,4 @@
+mod ClaimSteps
+mod Counts
+mod Rounds
+mod Sums

@@ -1,0 +1,2 @@
+pub mod ClaimCalls
+pub mod ClaimRule
