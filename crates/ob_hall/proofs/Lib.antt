@@ -10,6 +10,7 @@ pub mod Gathering
 pub mod Stepping
 pub mod Keeping
 pub mod Rounds
+pub mod Staying
 pub mod Sent
 pub mod Trying
 pub mod Visiting

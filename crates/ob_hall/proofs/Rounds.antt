@@ -1,6 +1,6 @@
 -- The driver of epochs knows from its own calls how far the epochs are.
-use Rattle.std.proofs.Common.{◌≡◌, ℕ, zero, suc, ◌-◌, ◌==◌, Bool, true, false, if◌then◌else◌, List, [], ◌∷◌, ◌++◌, map, replicate, take, None, Some, refl, sym, ap, ◌∙◌, inl, inr, eq-eqb, eqb-true}
-use Rattle.std.specs.Option.{is_some}
+use Rattle.std.proofs.Common.{◌≡◌, ℕ, zero, suc, ◌-◌, ◌==◌, Bool, true, false, if◌then◌else◌, List, [], ◌∷◌, ◌++◌, map, replicate, take, None, Some, Option, refl, sym, ap, ap₂, ◌∙◌, inl, inr, eq-eqb, eqb-true}
+use Rattle.std.specs.Option.{is_some, option_map}
 use Rattle.std.proofs.lemmas.Bool.{false≢true}
 use Rattle.std.proofs.lemmas.Option.{none-some}
 use Rattle.std.specs.List.{All}
@@ -9,6 +9,7 @@ use Rattle.ob_base.specs.declared.fault.Fault.{Fault}
 use Rattle.ob_order.specs.Order.{is_asked_for}
 use Rattle.ob_desk.specs.Desk as desk
 use Rattle.ob_desk.specs.Desk.{DeskState, Call, Reply, DeskStep, is_memory, stop_closed}
+use Rattle.ob_desk.proofs.Ends.{closing-epoch}
 use Rattle.ob_session.specs.Steps.{Leads, IsOwn}
 use Rattle.ob_session.specs.Clients.{client_of}
 use Rattle.ob_session.proofs.Epochs.{halted}
@@ -17,7 +18,7 @@ use Rattle.ob_turn.specs.History as turns
 use Rattle.ob_turn.specs.History.{Calls, entries_of}
 use Rattle.ob_hall.specs.Turns.{IsTurn}
 use Rattle.ob_hall.specs.Passes.{Steps, calls_in}
-use Rattle.ob_hall.specs.Rounds.{Rounds, rounds_of, keys_in, rounds_after, rounds_behind}
+use Rattle.ob_hall.specs.Rounds.{Rounds, closed_as, rounds_of, keys_in, rounds_after, rounds_behind}
 use Rattle.ob_hall.proofs.Numbers.{setup_run}
 use Rattle.ob_hall.proofs.Histories.{noted_calls, calls_lead, IsNoClients}
 
@@ -27,7 +28,7 @@ same d new e = ap rounds_of e
 -- ---- a client's call
 
 queued_rounds : (d : DeskState) (queue : List ℕ) (b : Bool)
-    → record { epoch = d.running.epoch; has_closed = is_some d.closed; left = (if b then d.running.order else record d.running.order { queue = queue }).left; flying = (if b then d.running.order else record d.running.order { queue = queue }).flying } ≡ rounds_of d
+    → record { epoch = d.running.epoch; has_closed = is_some d.closed; due = option_map (closed_as d.setup.params.keys) d.closed; left = (if b then d.running.order else record d.running.order { queue = queue }).left; flying = (if b then d.running.order else record d.running.order { queue = queue }).flying } ≡ rounds_of d
 queued_rounds d queue true = refl
 queued_rounds d queue false = refl
 
@@ -71,7 +72,7 @@ keys_of_batch [] zero = refl
 keys_of_batch [] (suc pads) = keys_of_batch [] pads
 keys_of_batch (k ∷ keys) pads = ap (λ (l : List ℕ). k ∷ l) (keys_of_batch keys pads)
 
-stopped_rounds : (d : DeskState) (f : Fault) (b : Bool) → rounds_of (if b then halted f d else stop_closed f (halted f d)) ≡ (if b then rounds_of d else record (rounds_of d) { has_closed = false })
+stopped_rounds : (d : DeskState) (f : Fault) (b : Bool) → rounds_of (if b then halted f d else stop_closed f (halted f d)) ≡ (if b then rounds_of d else record (rounds_of d) { has_closed = false; due = None })
 stopped_rounds d f true = refl
 stopped_rounds d f false = refl
 
@@ -82,9 +83,11 @@ moved d (desk.Unsure f) desk.Done new step none = ap rounds_of step.state
 moved d desk.IsStopped (desk.StoppedBy fault) new step none = same d new step.1
 moved d desk.TakeBatch (desk.Batch keys) new step none =
     ap rounds_of step.state
-    ∙ ap (λ (flying : List ℕ). record { epoch = d.running.epoch; has_closed = is_some d.closed; left = d.running.order.left - 1; flying = flying }) (sym (ap keys_in step.taken ∙ keys_of_batch (take d.setup.params.places d.running.order.queue) _))
+    ∙ ap (λ (flying : List ℕ). record { epoch = d.running.epoch; has_closed = is_some d.closed; due = option_map (closed_as d.setup.params.keys) d.closed; left = d.running.order.left - 1; flying = flying }) (sym (ap keys_in step.taken ∙ keys_of_batch (take d.setup.params.places d.running.order.queue) _))
 moved d (desk.Deliver keys values) desk.Done new step none = ap rounds_of step.state
-moved d desk.Close (desk.Writes writes) new step none = ap rounds_of step.state
+moved d desk.Close (desk.Writes writes) new step none =
+    ap rounds_of step.state
+    ∙ ap₂ (λ (n : ℕ) (ws : List (ℕ × Option (List ℕ))). record { epoch = suc d.running.epoch; has_closed = true; due = Some (record { epoch = n; writes = ws }); left = d.setup.params.batches; flying = [] }) (closing-epoch d.running) (sym step.batch)
 moved d (desk.Publish epoch left) (desk.Published told) new step none = ap rounds_of step.state
 moved d (desk.Begin client) _ new step none = absurd (none-some client (sym none))
 moved d (desk.GetKey x k) _ new step none = absurd (none-some x.client (sym none))

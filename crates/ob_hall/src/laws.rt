@@ -1,7 +1,7 @@
 //! What every history of a hall obeys.
 
 ghost use Rattle.ob_hall.specs.Laws.{IsOneChain, AreOwnCalls, IsDriverAlone, DeskAgrees};
-ghost use Rattle.ob_hall.specs.Rounds.{AreDriversRounds};
+ghost use Rattle.ob_hall.specs.Rounds.{AreDriversRounds, ClosedStays};
 
 /// The calls of a hall's history, one behind the other, are a chain of calls that the desk allows:
 /// so whatever holds of every chain of calls holds of them.
@@ -26,8 +26,15 @@ pub fn desk_agrees()
     ensures { DeskAgrees }
 {}
 
-/// The driver of epochs knows from its own calls which epoch runs, whether another one is closed,
-/// how many batches are left and which keys are in flight, whatever the clients call between.
+/// The driver of epochs knows from its own calls which epoch runs, whether another one is closed
+/// and with which writes, how many batches are left and which keys are in flight, whatever the
+/// clients call between.
 pub fn driver_knows_rounds()
     ensures { AreDriversRounds }
+{}
+
+/// What is closed stays: where by the driver's own calls an epoch is due, the part that its last
+/// close shut, whose writes it was told then, is closed still, whatever the clients called since.
+pub fn closed_epochs_stay()
+    ensures { ClosedStays }
 {}
