@@ -23,7 +23,7 @@ use Rattle.ob_session.specs.Steps.{Leads, IsOwn}
 use Rattle.ob_session.specs.Clients.{said_by}
 use Rattle.ob_conduct.specs.declared.run_err.RunErr.{RunErr}
 use Rattle.ob_conduct.specs.declared.run_err.RunErr.TheVariants as failed
-use Rattle.ob_conduct.specs.Acts.{Act, Says, Halts, Delivers, DeliverFails, FetchFails, RestUnwatched, Refuses, Unprinted, Unwatched, Batch, history, calls, records, rest_calls, rest_fetches, close_calls, publish_calls, stop_calls, stop_for, fault_in, fault_of, fault_told, IsAllowed}
+use Rattle.ob_conduct.specs.Acts.{Act, Says, Halts, Delivers, DeliverFails, FetchFails, RestUnwatched, Publishes, Refuses, Unprinted, Unwatched, Batch, history, calls, records, rest_calls, rest_fetches, close_calls, publish_calls, stop_calls, stop_for, fault_in, fault_of, fault_told, IsAllowed}
 use Rattle.ob_conduct.specs.Rounds.{KeepRule, plan_rule, AreDriven, AreTurns, IsOneThing}
 use Rattle.ob_conduct.specs.Scenes.{Scene, AllNoted, RunnerKind, seat_of}
 use Rattle.ob_conduct.specs.Records.{HoldsMap, AreAnswered, IsWritten, IsCutShort}
@@ -157,14 +157,16 @@ abbrev pub IsSaid : Act → Type 0
 IsSaid (Says client steps) = All (IsOwn client) steps
 IsSaid _ = ⊥
 
--- What may come between a client's stop of the desk and this act, which is the driver's: clients' turns; and where the watch broke in a batch,
--- its delivery.
+-- What may come between a client's stop of the desk and this act, which is the driver's: clients' turns; where the watch broke in a batch, its
+-- delivery; and where it broke in an end, or the lines failed, the publish of that epoch, which was closed before.
 abbrev pub MayComeBefore : Act → Act → Type 0
 MayComeBefore (Says client steps) act = All (IsOwn client) steps
 MayComeBefore (Delivers batch) Unwatched = Unit {0}
+MayComeBefore (Publishes writes left told) Unprinted = Unit {0}
+MayComeBefore (Publishes writes left told) Unwatched = Unit {0}
 MayComeBefore _ act = ⊥
 
--- Behind all that the driver did before this act, but for such a delivery, a client stopped the desk for want of memory.
+-- Behind all that the driver did before this act, but for such a delivery or publish, a client stopped the desk for want of memory.
 pub record IsForestalled (act : Act) (front : List Act) : Type 0 where
   pub before : List Act
   pub client : ℕ
