@@ -1,5 +1,5 @@
 -- An epoch that is ended in one turn, and one whose end, or a batch before it, was refused.
-use Rattle.std.proofs.Common.{◌≡◌, ◌∙◌, ◌≤◌, ◌-◌, ℕ, suc, true, false, All, List, [], ◌∷◌, ◌++◌, Option, Some, Err, refl, sym, ap, subst, append-nil, append_assoc, arith, decimal}
+use Rattle.std.proofs.Common.{◌≡◌, ◌∙◌, ◌≤◌, ◌-◌, ℕ, suc, true, false, All, List, [], ◌∷◌, ◌++◌, Option, None, Some, Err, refl, sym, ap, subst, append-nil, append_assoc, arith, decimal}
 use Rattle.std.proofs.lemmas.List.Elements.{All-nil, All-cons}
 use Rattle.ob_base.specs.declared.fault.Fault.{Fault}
 use Rattle.ob_base.specs.declared.fault.Fault.TheVariants.{SinkFault}
@@ -39,7 +39,7 @@ use Rattle.ob_driver.proofs.Batching.{rounds_later, driver_later}
 -- ---- how far the epochs are behind batches, a close and a publish
 
 rounds_end : (n : ℕ) (r : Rounds) (batches : List Batch) (writes : List (ℕ × Option (List ℕ))) (left : ℕ) (told : EpochRecord ℕ)
-    → rounds_behind n r (rest_calls batches ++ (close_calls writes ++ publish_calls left told)) ≡ record { epoch = suc r.epoch; has_closed = false; left = n; flying = [] }
+    → rounds_behind n r (rest_calls batches ++ (close_calls writes ++ publish_calls left told)) ≡ record { epoch = suc r.epoch; has_closed = false; due = None; left = n; flying = [] }
 rounds_end n r [] writes left told = refl
 rounds_end n r (batch ∷ batches) writes left told = rounds_end n (record r { left = r.left - 1; flying = [] }) batches writes left told
 
@@ -104,7 +104,7 @@ module _ {V : Type 0} (k : Kind V) (hall : Hall) (before mid after : Pass) (a b 
     seen_is = (λ i. (raised.knows i).seen) ∙ (ap (λ (s : Seat (Unit {0}) Heard). s.me.0.seen ++ suc cm.epoch ∷ []) r.notes.ear ∙ ap (λ (n : ℕ). raised_by before ++ suc n ∷ []) same_epoch)
 
     ended_rounds : ℕ → Rounds
-    ended_rounds n = record { epoch = suc (suc n); has_closed = false; left = (params_of hall).batches; flying = [] }
+    ended_rounds n = record { epoch = suc (suc n); has_closed = false; due = None; left = (params_of hall).batches; flying = [] }
 
     raises : may_raise after ≡ may_raise before
     raises = (λ i. (raised.knows i).raises) ∙ ap (λ (s : Seat (Unit {0}) Heard). s.me.0.raises) r.notes.ear

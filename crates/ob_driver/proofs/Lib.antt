@@ -1,4 +1,5 @@
 pub mod Sound
+pub mod Dues
 pub mod Resting
 pub mod Turning
 pub mod Insides

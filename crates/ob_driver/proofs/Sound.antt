@@ -118,11 +118,11 @@ clients_mild : (i : ℕ) (x : DeskState) (cs : List Steps) (y : DeskState) → C
 clients_mild i x [] y is = All-nil IsMild
 clients_mild i x (c ∷ cs) y (z, (led, by), rest) = All-append IsMild c (noted_calls cs) (All-weaker (IsOwn by.0) IsMild (λ s own. own_mild by.0 s.0 s.1 own) c by.2) (clients_mild i z cs y rest)
 
-front_mild : (xs ys : Steps) → All IsMild (xs ++ ys) → All IsMild xs
+pub front_mild : (xs ys : Steps) → All IsMild (xs ++ ys) → All IsMild xs
 front_mild [] ys mild = All-nil IsMild
 front_mild (x ∷ xs) ys mild = All-cons IsMild x xs (All-head IsMild x (xs ++ ys) mild) (front_mild xs ys (All-tail IsMild x (xs ++ ys) mild))
 
-back_mild : (xs ys : Steps) → All IsMild (xs ++ ys) → All IsMild ys
+pub back_mild : (xs ys : Steps) → All IsMild (xs ++ ys) → All IsMild ys
 back_mild [] ys mild = mild
 back_mild (x ∷ xs) ys mild = back_mild xs ys (All-tail IsMild x (xs ++ ys) mild)
 
@@ -136,9 +136,13 @@ history_mild x (e ∷ es) y (z, calls, rest) mild = by_caller e.by refl (0 == e.
     by_caller zero is false same these on = absurd (false≢true (sym same ∙ eq-eqb 0 e.by (sym is)))
     by_caller (suc i) is false same these on = All-append IsMild (noted_calls e.calls) (calls_in es) (clients_mild i x e.calls z (subst (λ (n : ℕ). Calls IsTurn n x e.calls z) is calls)) (on these)
 
--- So the desk is sound.
-pub history_sound : (p : Params) (opened : DeskState) (es : List (Entry Steps)) (d : DeskState) → opened.setup.params ≡ p → IsNew opened → LeadsByTurns IsTurn opened es d → All IsMild (calls_in (entries_of 0 es)) → IsSound p d
-history_sound p opened es d params new leads mild = run_sound p opened (calls_in es) d begins (history_mild opened es d leads mild) (history_leads opened es d leads)
+-- So the desk is sound, behind mild calls
+pub chain_sound : (p : Params) (opened : DeskState) (steps : Steps) (d : DeskState) → opened.setup.params ≡ p → IsNew opened → Leads opened steps d → All IsMild steps → IsSound p d
+chain_sound p opened steps d params new leads mild = run_sound p opened steps d begins mild leads
   where
     begins : IsSound p opened
     begins = record { params = params; stop = inl (ap (λ (x : DeskState). x.stop) new.is); fit = subst (λ (x : DeskState). IsFit p x.running) (sym new.is) (fit_new p new.epoch new.left) }
+
+-- and behind a history.
+pub history_sound : (p : Params) (opened : DeskState) (es : List (Entry Steps)) (d : DeskState) → opened.setup.params ≡ p → IsNew opened → LeadsByTurns IsTurn opened es d → All IsMild (calls_in (entries_of 0 es)) → IsSound p d
+history_sound p opened es d params new leads mild = chain_sound p opened (calls_in es) d params new (history_leads opened es d leads) (history_mild opened es d leads mild)

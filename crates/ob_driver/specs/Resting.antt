@@ -23,11 +23,11 @@ IsMild _ = Unit {0}
 
 -- how far the epochs are where the vault has come so far
 abbrev pub resting : VaultCounts → Rounds
-resting c = record { epoch = suc c.epoch; has_closed = false; left = c.left; flying = [] }
+resting c = record { epoch = suc c.epoch; has_closed = false; due = None; left = c.left; flying = [] }
 
 -- and with these keys in flight
 abbrev pub fetching : VaultCounts → List ℕ → Rounds
-fetching c keys = record { epoch = suc c.epoch; has_closed = false; left = c.left - 1; flying = keys }
+fetching c keys = record { epoch = suc c.epoch; has_closed = false; due = None; left = c.left - 1; flying = keys }
 
 -- how far the epochs are by the pass's own calls
 abbrev pub rounds_by : Hall → Pass → Rounds
