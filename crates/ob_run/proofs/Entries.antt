@@ -17,6 +17,8 @@ use Rattle.ob_hall.specs.Turns.{client_numbers, IsTurn}
 use Rattle.ob_hall.specs.Passes.{Steps, IsNew, calls_in}
 use Rattle.ob_hall.proofs.Histories.{noted_calls, calls_lead, history_leads}
 use Rattle.ob_hall.proofs.Chaining.{calls_append}
+use Rattle.ob_hall.proofs.Numbers.{setup_run}
+use Rattle.ob_hall.proofs.Staying.{own_closed}
 use Rattle.ob_conduct.specs.Acts.{Act, Says, history, calls, records, IsAllowed}
 use Rattle.ob_conduct.specs.Records.{contents, HoldsMap}
 use Rattle.ob_conduct.proofs.Moving.{run_join}
@@ -24,9 +26,10 @@ use Rattle.ob_conduct.proofs.Ready.{own_run}
 use Rattle.ob_conduct.proofs.Writes.{left_by}
 use Rattle.ob_conduct.proofs.Going.{history_append, calls_append as vault_append, records_append, own_tells}
 use Rattle.ob_driver.specs.Turning.{IsOneTurn, AreActs}
+use Rattle.ob_driver.specs.Drives.{AreThings}
 use Rattle.ob_run.specs.Woven.{IsEntryOf, AreWoven, Woven}
 use Rattle.ob_run.proofs.Chains.{called_split}
-use Rattle.ob_run.proofs.MapServing.{Serves, turn_serves}
+use Rattle.ob_run.proofs.MapServing.{Serves, Writes, due_behind, AreEnded, ended_split, things_ended, IsOwed, owed_stays, ServesDue, turn_serves}
 
 -- ---- one entry
 
@@ -152,46 +155,61 @@ module _ {V : Type 0} (k : Kind V) (clients : List ℕ) where
     holds = more.holds;
   }
 
-  entry_serves : (e : Entry Steps) (x z : DeskState) (v w : V) (m : Map nat_cmp) (mine these : List Act) (by : ℕ) → IsEntryOf clients by (calls_in (e ∷ [])) mine these → e.by ≡ by → client_numbers x ≡ clients → Calls IsTurn e.by x e.calls z
-      → AllCalled k v (calls mine) w → HoldsMap k v m
-      → Serves k m x (history these) z w
-  entry_serves e x z v w m mine these zero (one, calls_are, same) is numbers turn chain held =
-      subst (λ (acts : List Act). Serves k m x (history acts) z w) (sym same)
-      (turn_serves k m x z v w held mine one (subst (λ (s : Steps). Leads x s z) calls_are (entry_leads x e z turn)) chain)
-  entry_serves e x z v w m mine these (suc i) (none, inr (nobody, quiet, same)) is numbers turn chain held =
+  -- where the driver did nothing, what was due is due still
+  none_did : (m : Map nat_cmp) (x z : DeskState) (w : V) (steps : Steps) (mine : List Act) (due : Option Writes) → mine ≡ [] → (s : Serves k m x steps z w) → IsOwed s.next z due → ServesDue k m x steps z w (due_behind due mine)
+  none_did m x z w steps mine due none s owed = subst (λ (acts : List Act). ServesDue k m x steps z w (due_behind due acts)) (sym none) (record { serves = s; owed = owed })
+
+  entry_serves : (e : Entry Steps) (x z : DeskState) (v w : V) (m : Map nat_cmp) (mine these : List Act) (due : Option Writes) (by : ℕ) → IsEntryOf clients by (calls_in (e ∷ [])) mine these → e.by ≡ by → client_numbers x ≡ clients → Calls IsTurn e.by x e.calls z
+      → AreEnded due mine → IsOwed m x due → AllCalled k v (calls mine) w → HoldsMap k v m
+      → ServesDue k m x (history these) z w (due_behind due mine)
+  entry_serves e x z v w m mine these due zero (one, calls_are, same) is numbers turn ends owed chain held =
+      subst (λ (acts : List Act). ServesDue k m x (history acts) z w (due_behind due mine)) (sym same)
+      (turn_serves k m x z v w held due mine one ends owed (subst (λ (s : Steps). Leads x s z) calls_are (entry_leads x e z turn)) chain)
+  entry_serves e x z v w m mine these due (suc i) (none, inr (nobody, quiet, same)) is numbers turn ends owed chain held =
       let still : w ≡ v = subst (λ (acts : List Act). AllCalled k v (calls acts) w) none chain in
       let stays : z ≡ x = subst (λ (s : Steps). Leads x s z) quiet (entry_leads x e z turn) in
-      subst (λ (acts : List Act). Serves k m x (history acts) z w) (sym same) (record { next = m; run = (refl, stays); holds = subst (λ (u : V). HoldsMap k u m) (sym still) held })
-  entry_serves e x z v w m mine these (suc i) (none, inl (number, named, same)) is numbers turn chain held =
+      subst (λ (acts : List Act). ServesDue k m x (history acts) z w (due_behind due mine)) (sym same)
+      (none_did m x z w [] mine due none (record { next = m; run = (refl, stays); holds = subst (λ (u : V). HoldsMap k u m) (sym still) held }) (subst (λ (y : DeskState). IsOwed m y due) (sym stays) owed))
+  entry_serves e x z v w m mine these due (suc i) (none, inl (number, named, same)) is numbers turn ends owed chain held =
       let still : w ≡ v = subst (λ (acts : List Act). AllCalled k v (calls acts) w) none chain in
       let own : All (IsOwn number) (calls_in (e ∷ [])) = owns (turn_said clients i x e.calls z numbers (subst (λ (n : ℕ). Calls IsTurn n x e.calls z) is turn)) named in
-      subst (λ (acts : List Act). Serves k m x (history acts) z w) (sym same) (record {
+      let leads : Leads x (calls_in (e ∷ [])) z = entry_leads x e z turn in
+      subst (λ (acts : List Act). ServesDue k m x (history acts) z w (due_behind due mine)) (sym same)
+      (none_did m x z w (history (Says number (calls_in (e ∷ [])) ∷ [])) mine due none
+      (record {
         next = m;
-        run = subst (λ (s : Steps). Run m x s m z) (sym (append-nil (calls_in (e ∷ [])))) (own_run m number x (calls_in (e ∷ [])) z own (entry_leads x e z turn));
+        run = subst (λ (s : Steps). Run m x s m z) (sym (append-nil (calls_in (e ∷ [])))) (own_run m number x (calls_in (e ∷ [])) z own leads);
         holds = subst (λ (u : V). HoldsMap k u m) (sym still) held;
       })
+      (owed_stays m x z due (own_closed number x (calls_in (e ∷ [])) z leads own) (setup_run x (calls_in (e ∷ [])) z leads) owed))
     where
       owns : IsSaidBy clients i (noted_calls e.calls) ⊎ IsNobodys clients i (noted_calls e.calls) → slice_get clients i ≡ Some number → All (IsOwn number) (calls_in (e ∷ []))
       owns (inr quiet) is = subst (All (IsOwn number)) (sym (one_entry e ∙ quiet.1)) (All-nil (IsOwn number))
       owns (inl said) is = subst (All (IsOwn number)) (sym (one_entry e)) (subst (λ (n : ℕ). All (IsOwn n) (noted_calls e.calls)) (same_Some said.number number (sym said.named ∙ is)) said.own)
 
-  pub serves : (entries : List (Entry Steps)) (x y : DeskState) (v w : V) (m : Map nat_cmp) (driven acts : List Act) → client_numbers x ≡ clients → LeadsByTurns IsTurn x entries y → AreWoven clients entries driven acts → AllCalled k v (calls driven) w → HoldsMap k v m
-      → Serves k m x (history acts) y w
-  serves [] x y v w m driven acts numbers leads (none, quiet) chain held =
+  pub serves : (entries : List (Entry Steps)) (x y : DeskState) (v w : V) (m : Map nat_cmp) (driven acts : List Act) (due : Option Writes) → client_numbers x ≡ clients → LeadsByTurns IsTurn x entries y → AreWoven clients entries driven acts → AreEnded due driven → IsOwed m x due
+      → AllCalled k v (calls driven) w → HoldsMap k v m → Serves k m x (history acts) y w
+  serves [] x y v w m driven acts due numbers leads (none, quiet) ends owed chain held =
       let still : w ≡ v = subst (λ (xs : List Act). AllCalled k v (calls xs) w) none chain in
       subst (λ (xs : List Act). Serves k m x (history xs) y w) (sym quiet) (record { next = m; run = (refl, sym leads); holds = subst (λ (u : V). HoldsMap k u m) (sym still) held })
-  serves (e ∷ entries) x y v w m driven acts numbers (z, turn, rest) (mine, more, these, behind, driven_is, acts_are, entry, woven) chain held =
+  serves (e ∷ entries) x y v w m driven acts due numbers (z, turn, rest) (mine, more, these, behind, driven_is, acts_are, entry, woven) ends owed chain held =
       let split = called_split k v (calls mine) (calls more) w (subst (λ (asked : List (VaultCall × VaultAnswer)). AllCalled k v asked w) (ap calls driven_is ∙ vault_append mine more) chain) in
-      let one : Serves k m x (history these) z split.0 = entry_serves e x z v split.0 m mine these e.by entry refl numbers turn split.1 held in
+      let (first, later) = ended_split due mine more (subst (AreEnded due) driven_is ends) in
+      let one : ServesDue k m x (history these) z split.0 (due_behind due mine) = entry_serves e x z v split.0 m mine these due e.by entry refl numbers turn first owed split.1 held in
       subst (λ (xs : List Act). Serves k m x (history xs) y w) (sym acts_are)
-      (then_serves m x z y these behind split.0 w one (serves entries z y split.0 w one.next more behind (numbers_run x (noted_calls e.calls) z (calls_lead e.by x e.calls z turn) ∙ numbers) rest woven split.2 one.holds))
+      (then_serves m x z y these behind split.0 w one.serves
+      (serves entries z y split.0 w one.serves.next more behind (due_behind due mine) (numbers_run x (noted_calls e.calls) z (calls_lead e.by x e.calls z turn) ∙ numbers) rest woven later one.owed split.2 one.serves.holds))
 
 -- ---- the law
 
-pub histories_weave : {V : Type 0} (k : Kind V) (beat : BeatKind) (opened d : DeskState) (log : List (Entry Steps)) (old new : V) (driven : List Act) → IsNew opened → LeadsByTurns IsTurn opened log d → AreActs (entries_of 0 log) driven →
-    All (IsAllowed beat) driven → AllCalled k old (calls driven) new
+-- Of things that the driver does each publish follows a close, with its writes.
+pub driven_ended : (driven : List Act) → AreThings driven → AreEnded None driven
+driven_ended driven things = subst (AreEnded None) (sym things.acts_are) (things_ended things.things things.each)
+
+pub histories_weave : {V : Type 0} (k : Kind V) (beat : BeatKind) (opened d : DeskState) (log : List (Entry Steps)) (old new : V) (driven : List Act) → IsNew opened → LeadsByTurns IsTurn opened log d → AreActs (entries_of 0 log) driven → AreThings driven
+    → All (IsAllowed beat) driven → AllCalled k old (calls driven) new
     → Woven k beat opened d log old new driven
-histories_weave {V} k beat opened d log old new driven fresh leads are allowed chain = record {
+histories_weave {V} k beat opened d log old new driven fresh leads are things allowed chain = record {
   acts = a.acts;
   are = a.are;
   allowed = a.allowed;
@@ -200,11 +218,11 @@ histories_weave {V} k beat opened d log old new driven fresh leads are allowed c
   calls_are = a.calls_are;
   records_are = a.records_are;
   serial = λ m held.
-      let s : Serves k m opened (history a.acts) d new = serves k (client_numbers opened) log opened d old new m driven a.acts refl leads a.are chain held in
+      let s : Serves k m opened (history a.acts) d new = serves k (client_numbers opened) log opened d old new m driven a.acts None refl leads a.are (driven_ended driven things) tt chain held in
       let is : s.next ≡ contents m (records a.acts) = left_to m s.next s.run in
       (subst (λ (x : Map nat_cmp). Run m opened (history a.acts) x d) is s.run, subst (λ (x : Map nat_cmp). HoldsMap k new x) is s.holds);
   one_by_one = λ m held.
-      let s : Serves k m opened (history a.acts) d new = serves k (client_numbers opened) log opened d old new m driven a.acts refl leads a.are chain held in
+      let s : Serves k m opened (history a.acts) d new = serves k (client_numbers opened) log opened d old new m driven a.acts None refl leads a.are (driven_ended driven things) tt chain held in
       subst (OneByOne nat_cmp m (committed_of (records a.acts))) (left_to m s.next s.run) (ran m s.next s.run);
 }
   where

@@ -13,7 +13,7 @@ use Rattle.ob_serial.specs.VaultKinds.{Kind}
 use Rattle.ob_serial.specs.declared.vault.EndErr.{EndErr}
 use Rattle.ob_serial.specs.declared.vault.EndErr.TheVariants.{Before, Unsure}
 use Rattle.ob_desk.specs.Desk as desk
-use Rattle.ob_desk.specs.Desk.{DeskState}
+use Rattle.ob_desk.specs.Desk.{DeskState, published}
 use Rattle.ob_desk.specs.Beats.{BeatKind}
 use Rattle.ob_desk.specs.declared.calls.Look.{Look}
 use Rattle.ob_session.specs.Steps.{Leads}
@@ -23,7 +23,7 @@ use Rattle.ob_hall.specs.Turns.{client_numbers, IsTurn}
 use Rattle.ob_hall.specs.Passes.{Steps, Hall, IsNew}
 use Rattle.ob_conduct.specs.declared.run_err.RunErr.{RunErr}
 use Rattle.ob_conduct.specs.declared.run_err.RunErr.TheVariants as failed
-use Rattle.ob_conduct.specs.Acts.{Act, Says, Batch, Halts, Rests, Takes, Delivers, DeliverFails, FetchFails, RestUnwatched, Closes, Publishes, Refuses, Unprinted, Unwatched, history, calls, records, stop_for, stop_calls, fault_in, fault_of, fault_told, IsAllowed}
+use Rattle.ob_conduct.specs.Acts.{Act, Says, Batch, Halts, Rests, Takes, Delivers, DeliverFails, FetchFails, RestUnwatched, Closes, Publishes, Refuses, Unprinted, Unwatched, history, calls, records, desk_calls, stop_for, stop_calls, fault_in, fault_of, fault_told, IsAllowed}
 use Rattle.ob_conduct.specs.Scenes.{Scene, scene, AllNoted}
 use Rattle.ob_conduct.specs.Records.{AreAnswered}
 use Rattle.ob_conduct.specs.Rounds.{IsOneThing}
@@ -36,8 +36,10 @@ use Rattle.ob_driver.specs.Drives.{AreThings}
 use Rattle.ob_run.specs.Woven.{AreWoven, Woven}
 use Rattle.ob_run.proofs.Stops.{stop_next, stop_run, stays_stopped}
 use Rattle.ob_run.proofs.Cutting.{not_snoc, snoc_same, front_all, behind_all, woven_calls, all_said, LastTurn, last_turn}
-use Rattle.ob_run.proofs.Forestalling.{Desks, desks, Held, held_later, said_held, all_before, IsCalm, EndsWith, calm_turn, rest_stop, IsSecond, EndsCalm, EndsDelivered, StandsBefore, before_second, IsDelivery, delivers_turn}
-use Rattle.ob_run.proofs.Unended.{unended}
+use Rattle.ob_run.proofs.Forestalling.{Desks, desks, Held, held_later, said_held, all_before, IsCalm, EndsWith, calm_turn, rest_stop, IsSecond, EndsCalm, IsCarried, CarriedTurn, carried_turn, EndsCarried, StandsBefore, before_second}
+use Rattle.ob_run.proofs.MapServing.{due_behind, AreEnded, ended_split}
+use Rattle.ob_run.proofs.Entries.{driven_ended}
+use Rattle.ob_run.proofs.Unended.{EndsClosed, closed_before, closes_turn, unended, unended_alone}
 
 -- ---- the desk before an act that stands behind another
 
@@ -57,24 +59,20 @@ module _ (beat : BeatKind) (clients : List ℕ) (act : Act) (entries : List (Ent
       let calm : EndsWith IsCalm l.these = λ zs z is. subst IsCalm (sym (snoc_same (l.earlier ++ zs) e.init z e.last (append_assoc l.earlier zs (z ∷ []) ∙ (ap (λ (ys : List Act). l.earlier ++ ys) (sym is) ∙ (sym l.driven_is ∙ e.are)))).1) e.calm in
       still_held l ds (calm_turn l.these ds.x ds.y l.one calm ds.its)
 
--- ---- and before an act that stands behind a batch that was taken, and delivered in another turn
+-- ---- and before an act that stands behind a batch that was taken, and delivered in another turn, or behind an epoch that was closed, and published
 
-module _ (beat : BeatKind) (clients : List ℕ) (entries : List (Entry Steps)) (earlier front : List Act) (opened x : DeskState) (woven : AreWoven clients entries earlier front) (legal : LeadsByTurns IsTurn opened entries x) (allowed : All (IsAllowed beat) front) (e : EndsDelivered earlier) where
+module _ (beat : BeatKind) (clients : List ℕ) (act : Act) (entries : List (Entry Steps)) (earlier front : List Act) (opened x : DeskState) (woven : AreWoven clients entries earlier front) (legal : LeadsByTurns IsTurn opened entries x) (allowed : All (IsAllowed beat) front) (e : EndsCarried act earlier) where
   module _ (l : LastTurn clients entries earlier front) (ds : Desks clients entries earlier front opened x l) where
-    delivery : (batch : Batch) × (l.these ≡ Delivers batch ∷ [])
-    delivery = delivers_turn l.these l.one (λ zs z is. subst IsDelivery
-        (sym (snoc_same (l.earlier ++ zs) (e.init ++ e.taken ∷ []) z (Delivers e.batch) (append_assoc l.earlier zs (z ∷ []) ∙ (ap (λ (ys : List Act). l.earlier ++ ys) (sym is) ∙ (sym l.driven_is ∙ e.are)))).1) tt)
+    -- that turn ends with what was carried
+    carried_is : (zs : List Act) (z : Act) → l.these ≡ zs ++ z ∷ [] → (l.earlier ++ zs ≡ e.init ++ e.begun ∷ []) × (z ≡ e.carried)
+    carried_is zs z is = snoc_same (l.earlier ++ zs) (e.init ++ e.begun ∷ []) z e.carried (append_assoc l.earlier zs (z ∷ []) ∙ (ap (λ (ys : List Act). l.earlier ++ ys) (sym is) ∙ (sym l.driven_is ∙ e.are)))
 
-    taken_is : l.earlier ≡ e.init ++ e.taken ∷ []
-    taken_is = (snoc_same l.earlier (e.init ++ e.taken ∷ []) (Delivers delivery.0) (Delivers e.batch) (ap (λ (ys : List Act). l.earlier ++ ys) (sym delivery.1) ∙ (sym l.driven_is ∙ e.are))).0
+    turn_is : CarriedTurn l.these ds.x ds.y
+    turn_is = carried_turn l.these ds.x ds.y l.one (λ zs z is. subst IsCarried (sym (carried_is zs z is).1) e.is_carried) ds.its
 
-    -- the delivery leaves a desk stopped or not
-    same_stop : ds.y.stop ≡ ds.x.stop
-    same_stop = let its : Leads ds.x (history (Delivers delivery.0 ∷ [])) ds.y = subst (λ (ys : List Act). Leads ds.x (history ys) ds.y) delivery.1 ds.its in stop_run ds.x (history (Delivers delivery.0 ∷ [])) ds.y its
-
-    held_taken : Held Unwatched ds.x l.front → Held Unwatched x front
-    held_taken (inl none) = still_held beat clients Unwatched entries earlier front opened x woven legal allowed l ds (same_stop ∙ none)
-    held_taken (inr (stop, fore)) = inr (
+    held_alone : (z : Act) → l.these ≡ z ∷ [] → ds.y.stop ≡ ds.x.stop → Held act ds.x l.front → Held act x front
+    held_alone z alone same_stop (inl none) = still_held beat clients act entries earlier front opened x woven legal allowed l ds (same_stop ∙ none)
+    held_alone z alone same_stop (inr (stop, fore)) = inr (
       stays_stopped Memory ds.y (history l.behind) x ds.rest (same_stop ∙ stop),
       record {
         before = fore.before;
@@ -83,24 +81,30 @@ module _ (beat : BeatKind) (clients : List ℕ) (entries : List (Entry Steps)) (
         behind = fore.behind ++ (l.these ++ l.behind);
         front_is = l.acts_are ∙ (ap (λ (ys : List Act). ys ++ (l.these ++ l.behind)) fore.front_is ∙ append_assoc fore.before (Says fore.client fore.steps ∷ fore.behind) (l.these ++ l.behind));
         stops = fore.stops;
-        says = All-append (λ (one : Act). MayComeBefore one Unwatched) fore.behind (l.these ++ l.behind) fore.says
-            (All-append (λ (one : Act). MayComeBefore one Unwatched) l.these l.behind
-            (subst (All (λ (one : Act). MayComeBefore one Unwatched)) (sym delivery.1) (All-cons (λ (one : Act). MayComeBefore one Unwatched) (Delivers delivery.0) [] tt (All-nil _)))
-            (all_before Unwatched l.behind (clients_behind beat clients Unwatched entries earlier front opened x woven legal allowed l)));
+        says = All-append (λ (one : Act). MayComeBefore one act) fore.behind (l.these ++ l.behind) fore.says
+            (All-append (λ (one : Act). MayComeBefore one act) l.these l.behind
+            (subst (All (λ (one : Act). MayComeBefore one act)) (sym alone)
+            (All-cons (λ (one : Act). MayComeBefore one act) z [] (subst (λ (one : Act). MayComeBefore one act) (sym (carried_is [] z alone).1) e.may) (All-nil _)))
+            (all_before act l.behind (clients_behind beat clients act entries earlier front opened x woven legal allowed l)));
       },
     )
 
-  held_delivered : Held Unwatched x front
-  held_delivered =
-      let l : LastTurn clients entries earlier front = last_turn clients entries earlier front woven (λ none. not_snoc (e.init ++ e.taken ∷ []) (Delivers e.batch) (sym none ∙ e.are)) in
+    held_behind : CarriedTurn l.these ds.x ds.y → Held act x front
+    held_behind (inr none) = still_held beat clients act entries earlier front opened x woven legal allowed l ds none
+    held_behind (inl (z, alone, same_stop)) =
+        held_alone z alone same_stop
+        (held_before beat clients act l.before l.earlier l.front opened ds.x l.woven ds.legal (front_all (IsAllowed beat) l.front (l.these ++ l.behind) (subst (All (IsAllowed beat)) l.acts_are allowed))
+        (record { init = e.init; last = e.begun; are = sym (append-nil l.earlier) ∙ (carried_is [] z alone).0; calm = e.calm }))
+
+  held_carried : Held act x front
+  held_carried =
+      let l : LastTurn clients entries earlier front = last_turn clients entries earlier front woven (λ none. not_snoc (e.init ++ e.begun ∷ []) e.carried (sym none ∙ e.are)) in
       let ds : Desks clients entries earlier front opened x l = desks clients entries earlier front opened x l legal in
-      held_taken l ds
-      (held_before beat clients Unwatched l.before l.earlier l.front opened ds.x l.woven ds.legal (front_all (IsAllowed beat) l.front (l.these ++ l.behind) (subst (All (IsAllowed beat)) l.acts_are allowed))
-      (record { init = e.init; last = e.taken; are = taken_is l ds; calm = e.calm }))
+      held_behind l ds (turn_is l ds)
 
 held_so : (beat : BeatKind) (clients : List ℕ) (act : Act) (entries : List (Entry Steps)) (earlier front : List Act) (opened x : DeskState) → AreWoven clients entries earlier front → LeadsByTurns IsTurn opened entries x → All (IsAllowed beat) front → StandsBefore act earlier → Held act x front
 held_so beat clients act entries earlier front opened x woven legal allowed (inl calm) = held_before beat clients act entries earlier front opened x woven legal allowed calm
-held_so beat clients act entries earlier front opened x woven legal allowed (inr (is, e)) = subst (λ (a : Act). Held a x front) (sym is) (held_delivered beat clients entries earlier front opened x woven legal allowed e)
+held_so beat clients act entries earlier front opened x woven legal allowed (inr e) = held_carried beat clients act entries earlier front opened x woven legal allowed e
 
 before_it : (things : List (List Act)) (xs : List Act) (y : Act) → All IsOneThing things → flat_map (λ (t : List Act). t) things ≡ xs ++ y ∷ [] → IsSecond y → StandsBefore y xs
 before_it [] xs y each is second = absurd (not_snoc xs y is)
@@ -143,8 +147,9 @@ module _ {V : Type 0} (k : Kind V) (old : Scene V) (d x y : DeskState) (next : �
 
   tells : (these : List Act) → IsOneTurn these → EndsWith (Knows next err after) these → Leads x (history these) y → ((z : Act) → these ≡ z ∷ [] → IsSecond z → Held z x front)
       → ((look : Look) (batches : List Batch) (writes asked : List (ℕ × Option (List ℕ))) (refused : EndErr) → these ≡ Closes look batches writes ∷ Refuses asked refused ∷ [] → asked ≡ writes → IsEndFault next refused → IsUnended k old (front ++ Closes look batches writes ∷ []) asked refused)
+      → ((asked : List (ℕ × Option (List ℕ))) (refused : EndErr) → these ≡ Refuses asked refused ∷ [] → IsEndFault next refused → IsUnended k old front asked refused)
       → Tells k old d after err front these
-  tells (Halts g ∷ []) one know leads held ends = record {
+  tells (Halts g ∷ []) one know leads held ends alone = record {
     begun = [];
     act = Halts g;
     are = refl;
@@ -152,7 +157,7 @@ module _ {V : Type 0} (k : Kind V) (old : Scene V) (d x y : DeskState) (next : �
     reason = (know [] (Halts g) refl).1;
     stopped = stopped_so (Halts g) [] (ap (λ (s : DeskState). s.stop) (leads.3 ∙ leads.2.1) ∙ (sym leads.2.0 ∙ (ap stop_of (know [] (Halts g) refl).0)));
   }
-  tells (DeliverFails keys g ∷ []) one know leads held ends = record {
+  tells (DeliverFails keys g ∷ []) one know leads held ends alone = record {
     begun = [];
     act = DeliverFails keys g;
     are = refl;
@@ -160,7 +165,7 @@ module _ {V : Type 0} (k : Kind V) (old : Scene V) (d x y : DeskState) (next : �
     reason = (know [] (DeliverFails keys g) refl).1;
     stopped = second_so (DeliverFails keys g) (held (DeliverFails keys g) refl tt) (stop_run x (history (DeliverFails keys g ∷ [])) y leads ∙ ap (λ (o : Option Fault). option_or x.stop o) (ap stop_of (know [] (DeliverFails keys g) refl).0));
   }
-  tells (FetchFails look batches keys g ∷ []) one know leads held ends = record {
+  tells (FetchFails look batches keys g ∷ []) one know leads held ends alone = record {
     begun = [];
     act = FetchFails look batches keys g;
     are = refl;
@@ -170,7 +175,7 @@ module _ {V : Type 0} (k : Kind V) (old : Scene V) (d x y : DeskState) (next : �
         (stop_run x (history (FetchFails look batches keys g ∷ [])) y leads
         ∙ (rest_stop x.stop batches ((desk.TakeBatch, desk.Batch keys) ∷ (desk.Stop g, desk.Done) ∷ []) [] ∙ (ap (λ (s : Option Fault). option_or s (Some g)) (sym leads.2.0) ∙ (ap stop_of (know [] (FetchFails look batches keys g) refl).0))));
   }
-  tells (Closes look batches writes ∷ Refuses asked refused ∷ []) one know leads held ends = record {
+  tells (Closes look batches writes ∷ Refuses asked refused ∷ []) one know leads held ends alone = record {
     begun = Closes look batches writes ∷ [];
     act = Refuses asked refused;
     are = refl;
@@ -181,7 +186,16 @@ module _ {V : Type 0} (k : Kind V) (old : Scene V) (d x y : DeskState) (next : �
         ∙ (rest_stop x.stop batches ((desk.Close, desk.Writes writes) ∷ []) ((stop_for refused, desk.Done) ∷ [])
         ∙ (refused_stop x.stop refused ∙ (ap (λ (s : Option Fault). option_or s (Some (fault_in refused))) (sym leads.2.0) ∙ (ap stop_of (know (Closes look batches writes ∷ []) (Refuses asked refused) refl).0)))));
   }
-  tells (Unprinted ∷ []) one know leads held ends = record {
+  tells (Refuses asked refused ∷ []) one know leads held ends alone = record {
+    begun = [];
+    act = Refuses asked refused;
+    are = refl;
+    told = (know [] (Refuses asked refused) refl).0;
+    reason = subst (λ (xs : List Act). IsUnended k old xs asked refused) (sym (append-nil front)) (alone asked refused refl (know [] (Refuses asked refused) refl).1.0);
+    stopped = second_so (Refuses asked refused) (held (Refuses asked refused) refl tt)
+        (stop_run x (history (Refuses asked refused ∷ [])) y leads ∙ (refused_stop x.stop refused ∙ ap (λ (o : Option Fault). option_or x.stop o) (ap stop_of (know [] (Refuses asked refused) refl).0)));
+  }
+  tells (Unprinted ∷ []) one know leads held ends alone = record {
     begun = [];
     act = Unprinted;
     are = refl;
@@ -189,7 +203,7 @@ module _ {V : Type 0} (k : Kind V) (old : Scene V) (d x y : DeskState) (next : �
     reason = tt;
     stopped = second_so Unprinted (held Unprinted refl tt) (stop_run x (history (Unprinted ∷ [])) y leads ∙ ap (λ (o : Option Fault). option_or x.stop o) (ap stop_of (know [] Unprinted refl).0));
   }
-  tells (Unwatched ∷ []) one know leads held ends = record {
+  tells (Unwatched ∷ []) one know leads held ends alone = record {
     begun = [];
     act = Unwatched;
     are = refl;
@@ -197,7 +211,7 @@ module _ {V : Type 0} (k : Kind V) (old : Scene V) (d x y : DeskState) (next : �
     reason = (know [] Unwatched refl).1;
     stopped = second_so Unwatched (held Unwatched refl tt) (stop_run x (history (Unwatched ∷ [])) y leads ∙ ap (λ (o : Option Fault). option_or x.stop o) (ap stop_of (know [] Unwatched refl).0));
   }
-  tells (RestUnwatched look batches ∷ []) one know leads held ends = record {
+  tells (RestUnwatched look batches ∷ []) one know leads held ends alone = record {
     begun = [];
     act = RestUnwatched look batches;
     are = refl;
@@ -207,11 +221,13 @@ module _ {V : Type 0} (k : Kind V) (old : Scene V) (d x y : DeskState) (next : �
         (stop_run x (history (RestUnwatched look batches ∷ [])) y leads
         ∙ (rest_stop x.stop batches (stop_calls SinkFault) [] ∙ (ap (λ (s : Option Fault). option_or s (Some SinkFault)) (sym leads.2.0) ∙ ap stop_of (know [] (RestUnwatched look batches) refl).0)));
   }
-  tells (Rests look ∷ []) one know leads held ends = absurd (untold (Rests look) refl (know [] (Rests look) refl))
-  tells (Takes look keys ∷ []) one know leads held ends = absurd (untold (Takes look keys) refl (know [] (Takes look keys) refl))
-  tells (Delivers batch ∷ []) one know leads held ends = absurd (untold (Delivers batch) refl (know [] (Delivers batch) refl))
-  tells (Closes look batches writes ∷ Publishes ended left told ∷ []) one know leads held ends = absurd (untold (Publishes ended left told) refl (know (Closes look batches writes ∷ []) (Publishes ended left told) refl))
-  tells _ one know leads held ends = absurd one
+  tells (Rests look ∷ []) one know leads held ends alone = absurd (untold (Rests look) refl (know [] (Rests look) refl))
+  tells (Takes look keys ∷ []) one know leads held ends alone = absurd (untold (Takes look keys) refl (know [] (Takes look keys) refl))
+  tells (Delivers batch ∷ []) one know leads held ends alone = absurd (untold (Delivers batch) refl (know [] (Delivers batch) refl))
+  tells (Closes look batches writes ∷ []) one know leads held ends alone = absurd (untold (Closes look batches writes) refl (know [] (Closes look batches writes) refl))
+  tells (Publishes ended left told ∷ []) one know leads held ends alone = absurd (untold (Publishes ended left told) refl (know [] (Publishes ended left told) refl))
+  tells (Closes look batches writes ∷ Publishes ended left told ∷ []) one know leads held ends alone = absurd (untold (Publishes ended left told) refl (know (Closes look batches writes ∷ []) (Publishes ended left told) refl))
+  tells _ one know leads held ends alone = absurd one
 
 -- ---- the whole
 
@@ -232,18 +248,41 @@ module _ {V : Type 0} (k : Kind V) (beat : BeatKind) (hall : Hall) (a b : Side V
         held_so beat (client_numbers opened) z l.before l.earlier l.front opened ds.x l.woven ds.legal (front_all (IsAllowed beat) l.front (l.these ++ l.behind) (subst (All (IsAllowed beat)) l.acts_are w.allowed))
         (before_it things.things l.earlier z things.each (sym things.acts_are ∙ (l.driven_is ∙ ap (λ (ys : List Act). l.earlier ++ ys) is)) second)
 
+    ends_driven : AreEnded None (l.earlier ++ l.these)
+    ends_driven = subst (AreEnded None) l.driven_is (driven_ended driven things)
+
     ends : (look : Look) (batches : List Batch) (writes asked : List (ℕ × Option (List ℕ))) (refused : EndErr) → l.these ≡ Closes look batches writes ∷ Refuses asked refused ∷ [] → asked ≡ writes → IsEndFault f.next refused
         → IsUnended k (scene opened a.vault a.trace) (l.front ++ Closes look batches writes ∷ []) asked refused
     ends look batches writes asked refused is same is_fault =
         let acts_are : w.acts ≡ (l.front ++ Closes look batches writes ∷ []) ++ Refuses asked refused ∷ l.behind = l.acts_are ∙ (ap (λ (ys : List Act). l.front ++ (ys ++ l.behind)) is ∙ sym (append_assoc l.front (Closes look batches writes ∷ []) (Refuses asked refused ∷ l.behind))) in
         let told : records w.acts ≡ records (l.front ++ Closes look batches writes ∷ []) ++ [] = tells_before w.acts (l.front ++ Closes look batches writes ∷ []) (Refuses asked refused) l.behind acts_are said opened d w.leads in
         let count : length (records driven) ≡ length (records (l.front ++ Closes look batches writes ∷ [])) = ap length (sym w.records_are ∙ (told ∙ append-nil (records (l.front ++ Closes look batches writes ∷ [])))) in
-        unended k opened ds.x ds.y l.before l.earlier l.front a.vault b.vault a.trace b.trace f.acts_are.notes look batches writes asked refused fresh ds.legal l.woven ds.front (subst (λ (ys : List Act). Leads ds.x (history ys) ds.y) is ds.its)
+        unended k opened ds.x ds.y l.before l.earlier l.front a.vault b.vault a.trace b.trace f.acts_are.notes look batches writes asked refused fresh ds.legal l.woven (ended_split None l.earlier l.these ends_driven).0 ds.front (subst (λ (ys : List Act). Leads ds.x (history ys) ds.y) is ds.its)
         (subst (λ (ys : List Act). AllNoted k a.vault a.trace (calls ys) f.acts_are.notes b.vault b.trace) (l.driven_is ∙ ap (λ (ys : List Act). l.earlier ++ ys) is) f.acts_are.chain) (woven_calls (client_numbers opened) l.before l.earlier l.front l.woven) same f.next
         (f.told.counted ∙ ap₂ (λ (n m : ℕ). n + m) (sym first) count) is_fault
 
+    -- the end of an epoch that was closed in a turn before
+    alone : (asked : List (ℕ × Option (List ℕ))) (refused : EndErr) → l.these ≡ Refuses asked refused ∷ [] → IsEndFault f.next refused → IsUnended k (scene opened a.vault a.trace) l.front asked refused
+    alone asked refused is is_fault =
+        let (early, late) = ended_split None l.earlier l.these ends_driven in
+        let due : due_behind None l.earlier ≡ Some asked = (subst (AreEnded (due_behind None l.earlier)) is late).0 in
+        let e : EndsClosed l.earlier asked = closed_before l.earlier asked due in
+        let some : l.earlier ≡ [] → ⊥ = λ none. not_snoc e.init (Closes e.look e.batches asked) (sym none ∙ e.are) in
+        let allowed : All (IsAllowed beat) l.front = front_all (IsAllowed beat) l.front (l.these ++ l.behind) (subst (All (IsAllowed beat)) l.acts_are w.allowed) in
+        let c : LastTurn (client_numbers opened) l.before l.earlier l.front = last_turn (client_numbers opened) l.before l.earlier l.front l.woven some in
+        let shut : c.these ≡ Closes e.look e.batches asked ∷ [] = closes_turn c.these e.look e.batches asked c.one
+        (λ zs z at. (snoc_same (c.earlier ++ zs) e.init z (Closes e.look e.batches asked) (append_assoc c.earlier zs (z ∷ []) ∙ (ap (λ (ys : List Act). c.earlier ++ ys) (sym at) ∙ (sym c.driven_is ∙ e.are)))).1) in
+        let others : All IsSaid c.behind = clients_behind beat (client_numbers opened) (Refuses asked refused) l.before l.earlier l.front opened ds.x l.woven ds.legal allowed c in
+        let acts_are : w.acts ≡ l.front ++ Refuses asked refused ∷ l.behind = l.acts_are ∙ ap (λ (ys : List Act). l.front ++ (ys ++ l.behind)) is in
+        let told : records w.acts ≡ records l.front ++ published (desk_calls (Refuses asked refused)) = tells_before w.acts l.front (Refuses asked refused) l.behind acts_are said opened d w.leads in
+        let count : length (records driven) ≡ length (records l.front) = ap length (sym w.records_are ∙ (told ∙ append-nil (records l.front))) in
+        unended_alone k opened ds.x l.before l.earlier l.front a.vault b.vault a.trace b.trace f.acts_are.notes asked refused fresh ds.legal l.woven early ds.front
+        (subst (λ (ys : List Act). AllNoted k a.vault a.trace (calls ys) f.acts_are.notes b.vault b.trace) (l.driven_is ∙ ap (λ (ys : List Act). l.earlier ++ ys) is) f.acts_are.chain) (woven_calls (client_numbers opened) l.before l.earlier l.front l.woven)
+        (record { first = c.front; look = e.look; batches = e.batches; behind = c.behind; front_is = c.acts_are ∙ ap (λ (ys : List Act). c.front ++ (ys ++ c.behind)) shut; said = others })
+        f.next (f.told.counted ∙ ap₂ (λ (n m : ℕ). n + m) (sym first) count) is_fault
+
     told_by : Tells k (scene opened a.vault a.trace) d b.trace err l.front l.these
-    told_by = tells k (scene opened a.vault a.trace) d ds.x ds.y f.next b.trace err l.front l.behind ds.rest l.these l.one know ds.its held ends
+    told_by = tells k (scene opened a.vault a.trace) d ds.x ds.y f.next b.trace err l.front l.behind ds.rest l.these l.one know ds.its held ends alone
 
     asked_before : (begun : List Act) → l.earlier ++ begun ≡ f.front → calls (l.front ++ begun) ≡ calls f.front
     asked_before begun is =

@@ -106,7 +106,7 @@ said_held act (Unwatched ∷ acts) d new said leads none = absurd (All-head IsSa
 
 abbrev pub IsCalm : Act → Type 0
 IsCalm (Takes look keys) = Unit {0}
-IsCalm (Publishes writes left told) = Unit {0}
+IsCalm (Closes look batches writes) = Unit {0}
 IsCalm _ = ⊥
 
 pub rest_stop : (s : Option _) (batches : List Batch) (more last : Steps) → stop_behind s ((rest_calls batches ++ more) ++ last) ≡ stop_behind s (more ++ last)
@@ -119,7 +119,10 @@ EndsWith P these = (zs : List Act) (z : Act) → these ≡ zs ++ z ∷ [] → P 
 
 pub calm_turn : (these : List Act) (x y : DeskState) → IsOneTurn these → EndsWith IsCalm these → Leads x (history these) y → y.stop ≡ None
 calm_turn (Takes look keys ∷ []) x y one calm leads = stop_run x (history (Takes look keys ∷ [])) y leads ∙ sym leads.2.0
-calm_turn (Closes look batches writes ∷ Publishes ended left told ∷ []) x y one calm leads = stop_run x (history (Closes look batches writes ∷ Publishes ended left told ∷ [])) y leads ∙ (rest_stop x.stop batches _ _ ∙ sym leads.2.0)
+calm_turn (Closes look batches writes ∷ []) x y one calm leads = stop_run x (history (Closes look batches writes ∷ [])) y leads ∙ (rest_stop x.stop batches _ _ ∙ sym leads.2.0)
+calm_turn (Publishes ended left told ∷ []) x y one calm leads = absurd (calm [] (Publishes ended left told) refl)
+calm_turn (Refuses asked refused ∷ []) x y one calm leads = absurd (calm [] (Refuses asked refused) refl)
+calm_turn (Closes look batches writes ∷ Publishes ended left told ∷ []) x y one calm leads = absurd (calm (Closes look batches writes ∷ []) (Publishes ended left told) refl)
 calm_turn (Closes look batches writes ∷ Refuses asked refused ∷ []) x y one calm leads = absurd (calm (Closes look batches writes ∷ []) (Refuses asked refused) refl)
 calm_turn (Halts fault ∷ []) x y one calm leads = absurd (calm [] (Halts fault) refl)
 calm_turn (Rests look ∷ []) x y one calm leads = absurd (calm [] (Rests look) refl)
@@ -131,9 +134,42 @@ calm_turn (Unprinted ∷ []) x y one calm leads = absurd (calm [] Unprinted refl
 calm_turn (Unwatched ∷ []) x y one calm leads = absurd (calm [] Unwatched refl)
 calm_turn _ x y one calm leads = absurd one
 
--- it stands before a batch that is refused, before lines that fail, and before what is done where the watch broke
+-- ---- what the driver does between such an act and another one
+
+-- a batch that was read is delivered, and an epoch that was ended is published
+abbrev pub IsCarried : Act → Type 0
+IsCarried (Delivers batch) = Unit {0}
+IsCarried (Publishes writes left told) = Unit {0}
+IsCarried _ = ⊥
+
+-- It is a turn of its own, which leaves a desk stopped or not; or it stands in the turn of a look, where the desk wasn't stopped.
+abbrev pub CarriedTurn : List Act → DeskState → DeskState → Type 0
+CarriedTurn these x y = ((z : Act) × (these ≡ z ∷ []) × (y.stop ≡ x.stop)) ⊎ (y.stop ≡ None)
+
+pub carried_turn : (these : List Act) (x y : DeskState) → IsOneTurn these → EndsWith IsCarried these → Leads x (history these) y → CarriedTurn these x y
+carried_turn (Delivers batch ∷ []) x y one ends leads = inl (Delivers batch, refl, stop_run x (history (Delivers batch ∷ [])) y leads)
+carried_turn (Publishes ended left told ∷ []) x y one ends leads = inl (Publishes ended left told, refl, stop_run x (history (Publishes ended left told ∷ [])) y leads)
+carried_turn (Closes look batches writes ∷ Publishes ended left told ∷ []) x y one ends leads =
+    inr (stop_run x (history (Closes look batches writes ∷ Publishes ended left told ∷ [])) y leads ∙ (rest_stop x.stop batches _ _ ∙ sym leads.2.0))
+carried_turn (Takes look keys ∷ []) x y one ends leads = absurd (ends [] (Takes look keys) refl)
+carried_turn (Closes look batches writes ∷ []) x y one ends leads = absurd (ends [] (Closes look batches writes) refl)
+carried_turn (Refuses asked refused ∷ []) x y one ends leads = absurd (ends [] (Refuses asked refused) refl)
+carried_turn (Closes look batches writes ∷ Refuses asked refused ∷ []) x y one ends leads = absurd (ends (Closes look batches writes ∷ []) (Refuses asked refused) refl)
+carried_turn (Halts fault ∷ []) x y one ends leads = absurd (ends [] (Halts fault) refl)
+carried_turn (Rests look ∷ []) x y one ends leads = absurd (ends [] (Rests look) refl)
+carried_turn (DeliverFails keys fault ∷ []) x y one ends leads = absurd (ends [] (DeliverFails keys fault) refl)
+carried_turn (FetchFails look batches keys fault ∷ []) x y one ends leads = absurd (ends [] (FetchFails look batches keys fault) refl)
+carried_turn (RestUnwatched look batches ∷ []) x y one ends leads = absurd (ends [] (RestUnwatched look batches) refl)
+carried_turn (Unprinted ∷ []) x y one ends leads = absurd (ends [] Unprinted refl)
+carried_turn (Unwatched ∷ []) x y one ends leads = absurd (ends [] Unwatched refl)
+carried_turn _ x y one ends leads = absurd one
+
+-- ---- an act that stands behind another of its thing
+
+-- a batch that is refused, an end that is, lines that fail, and what is done where the watch broke
 abbrev pub IsSecond : Act → Type 0
 IsSecond (DeliverFails keys fault) = Unit {0}
+IsSecond (Refuses writes refused) = Unit {0}
 IsSecond Unprinted = Unit {0}
 IsSecond Unwatched = Unit {0}
 IsSecond _ = ⊥
@@ -144,17 +180,19 @@ pub record EndsCalm (acts : List Act) : Type 0 where
   pub are : acts ≡ init ++ last ∷ []
   pub calm : IsCalm last
 
--- these end with a batch that was taken, and delivered
-pub record EndsDelivered (acts : List Act) : Type 0 where
+-- these end with a batch that was taken, and delivered, or with an epoch that was closed, and published
+pub record EndsCarried (act : Act) (acts : List Act) : Type 0 where
   pub init : List Act
-  pub taken : Act
-  pub calm : IsCalm taken
-  pub batch : Batch
-  pub are : acts ≡ (init ++ taken ∷ []) ++ Delivers batch ∷ []
+  pub begun : Act
+  pub calm : IsCalm begun
+  pub carried : Act
+  pub is_carried : IsCarried carried
+  pub may : MayComeBefore carried act
+  pub are : acts ≡ (init ++ begun ∷ []) ++ carried ∷ []
 
 -- what stands before such an act
 abbrev pub StandsBefore : Act → List Act → Type 0
-StandsBefore act xs = EndsCalm xs ⊎ ((act ≡ Unwatched) × EndsDelivered xs)
+StandsBefore act xs = EndsCalm xs ⊎ EndsCarried act xs
 
 not_second : (init xs : List Act) (a y : Act) → init ++ a ∷ [] ≡ xs ++ y ∷ [] → IsSecond y → IsSecond a
 not_second init xs a y is second = subst IsSecond (sym (snoc_same init xs a y is).1) second
@@ -165,27 +203,22 @@ two_then init a b = append_assoc init (a ∷ []) (b ∷ [])
 three_then : (init : List Act) (a b c : Act) → ((init ++ a ∷ []) ++ b ∷ []) ++ c ∷ [] ≡ init ++ a ∷ b ∷ c ∷ []
 three_then init a b c = ap (λ (xs : List Act). xs ++ c ∷ []) (two_then init a b) ∙ append_assoc init (a ∷ b ∷ []) (c ∷ [])
 
--- the second of three acts, where it is calm
-second_calm : (init xs : List Act) (a b c y : Act) → IsCalm b → init ++ a ∷ b ∷ c ∷ [] ≡ xs ++ y ∷ [] → EndsCalm xs
-second_calm init xs a b c y calm is = record {
-  init = init ++ a ∷ [];
-  last = b;
-  are = sym (snoc_same ((init ++ a ∷ []) ++ b ∷ []) xs c y (three_then init a b c ∙ is)).0;
-  calm = calm;
-}
+-- the first of two acts, where it is calm
+first_calm : (init xs : List Act) (a b y : Act) → IsCalm a → init ++ a ∷ b ∷ [] ≡ xs ++ y ∷ [] → StandsBefore y xs
+first_calm init xs a b y calm is = inl (record { init = init; last = a; are = sym (snoc_same (init ++ a ∷ []) xs b y (two_then init a b ∙ is)).0; calm = calm })
+
+-- the first two of three
+two_carried : (init xs : List Act) (a b c y : Act) → IsCalm a → IsCarried b → MayComeBefore b c → init ++ a ∷ b ∷ c ∷ [] ≡ xs ++ y ∷ [] → StandsBefore y xs
+two_carried init xs a b c y calm carried may is =
+    let same = snoc_same ((init ++ a ∷ []) ++ b ∷ []) xs c y (three_then init a b c ∙ is) in
+    inr (record { init = init; begun = a; calm = calm; carried = b; is_carried = carried; may = subst (MayComeBefore b) same.1 may; are = sym same.0 })
 
 thing_calm : (thing init xs : List Act) (y : Act) → IsOneThing thing → init ++ thing ≡ xs ++ y ∷ [] → IsSecond y → StandsBefore y xs
-thing_calm (Takes look keys ∷ DeliverFails asked fault ∷ []) init xs y one is second = inl (record {
-  init = init;
-  last = Takes look keys;
-  are = sym (snoc_same (init ++ Takes look keys ∷ []) xs (DeliverFails asked fault) y (two_then init (Takes look keys) (DeliverFails asked fault) ∙ is)).0;
-  calm = tt;
-})
-thing_calm (Takes look keys ∷ Delivers batch ∷ Unwatched ∷ []) init xs y one is second =
-    let same = snoc_same ((init ++ Takes look keys ∷ []) ++ Delivers batch ∷ []) xs Unwatched y (three_then init (Takes look keys) (Delivers batch) Unwatched ∙ is) in
-    inr (sym same.1, record { init = init; taken = Takes look keys; calm = tt; batch = batch; are = sym same.0 })
-thing_calm (Closes look batches writes ∷ Publishes ended left told ∷ Unprinted ∷ []) init xs y one is second = inl (second_calm init xs (Closes look batches writes) (Publishes ended left told) Unprinted y tt is)
-thing_calm (Closes look batches writes ∷ Publishes ended left told ∷ Unwatched ∷ []) init xs y one is second = inl (second_calm init xs (Closes look batches writes) (Publishes ended left told) Unwatched y tt is)
+thing_calm (Takes look keys ∷ DeliverFails asked fault ∷ []) init xs y one is second = first_calm init xs (Takes look keys) (DeliverFails asked fault) y tt is
+thing_calm (Closes look batches writes ∷ Refuses asked refused ∷ []) init xs y one is second = first_calm init xs (Closes look batches writes) (Refuses asked refused) y tt is
+thing_calm (Takes look keys ∷ Delivers batch ∷ Unwatched ∷ []) init xs y one is second = two_carried init xs (Takes look keys) (Delivers batch) Unwatched y tt tt tt is
+thing_calm (Closes look batches writes ∷ Publishes ended left told ∷ Unprinted ∷ []) init xs y one is second = two_carried init xs (Closes look batches writes) (Publishes ended left told) Unprinted y tt tt tt is
+thing_calm (Closes look batches writes ∷ Publishes ended left told ∷ Unwatched ∷ []) init xs y one is second = two_carried init xs (Closes look batches writes) (Publishes ended left told) Unwatched y tt tt tt is
 thing_calm (Halts fault ∷ []) init xs y one is second = absurd (not_second init xs (Halts fault) y is second)
 thing_calm (Rests look ∷ []) init xs y one is second = absurd (not_second init xs (Rests look) y is second)
 thing_calm (Takes look keys ∷ Delivers batch ∷ []) init xs y one is second = absurd (not_second (init ++ Takes look keys ∷ []) xs (Delivers batch) y (two_then init (Takes look keys) (Delivers batch) ∙ is) second)
@@ -193,31 +226,9 @@ thing_calm (FetchFails look batches keys fault ∷ []) init xs y one is second =
 thing_calm (RestUnwatched look batches ∷ []) init xs y one is second = absurd (not_second init xs (RestUnwatched look batches) y is second)
 thing_calm (Closes look batches writes ∷ Publishes ended left told ∷ []) init xs y one is second =
     absurd (not_second (init ++ Closes look batches writes ∷ []) xs (Publishes ended left told) y (two_then init (Closes look batches writes) (Publishes ended left told) ∙ is) second)
-thing_calm (Closes look batches writes ∷ Refuses asked refused ∷ []) init xs y one is second =
-    absurd (not_second (init ++ Closes look batches writes ∷ []) xs (Refuses asked refused) y (two_then init (Closes look batches writes) (Refuses asked refused) ∙ is) second)
 thing_calm _ init xs y one is second = absurd one
 
 pub before_second : (thing : List Act) (things : List (List Act)) (init xs : List Act) (y : Act) → All IsOneThing (thing ∷ things) → init ++ flat_map (λ (t : List Act). t) (thing ∷ things) ≡ xs ++ y ∷ [] → IsSecond y → StandsBefore y xs
 before_second thing [] init xs y each is second = thing_calm thing init xs y (All-head IsOneThing thing [] each) (ap (λ (zs : List Act). init ++ zs) (sym (append-nil thing)) ∙ is) second
 before_second thing (next ∷ things) init xs y each is second =
     before_second next things (init ++ thing) xs y (All-tail IsOneThing thing (next ∷ things) each) (append_assoc init thing (flat_map (λ (t : List Act). t) (next ∷ things)) ∙ is) second
-
--- ---- a turn in which a batch was delivered
-
-abbrev pub IsDelivery : Act → Type 0
-IsDelivery (Delivers batch) = Unit {0}
-IsDelivery _ = ⊥
-
-pub delivers_turn : (these : List Act) → IsOneTurn these → EndsWith IsDelivery these → (batch : Batch) × (these ≡ Delivers batch ∷ [])
-delivers_turn (Delivers batch ∷ []) one ends = (batch, refl)
-delivers_turn (Halts fault ∷ []) one ends = absurd (ends [] (Halts fault) refl)
-delivers_turn (Rests look ∷ []) one ends = absurd (ends [] (Rests look) refl)
-delivers_turn (Takes look keys ∷ []) one ends = absurd (ends [] (Takes look keys) refl)
-delivers_turn (DeliverFails keys fault ∷ []) one ends = absurd (ends [] (DeliverFails keys fault) refl)
-delivers_turn (FetchFails look batches keys fault ∷ []) one ends = absurd (ends [] (FetchFails look batches keys fault) refl)
-delivers_turn (RestUnwatched look batches ∷ []) one ends = absurd (ends [] (RestUnwatched look batches) refl)
-delivers_turn (Closes look batches writes ∷ Publishes ended left told ∷ []) one ends = absurd (ends (Closes look batches writes ∷ []) (Publishes ended left told) refl)
-delivers_turn (Closes look batches writes ∷ Refuses asked refused ∷ []) one ends = absurd (ends (Closes look batches writes ∷ []) (Refuses asked refused) refl)
-delivers_turn (Unprinted ∷ []) one ends = absurd (ends [] Unprinted refl)
-delivers_turn (Unwatched ∷ []) one ends = absurd (ends [] Unwatched refl)
-delivers_turn _ one ends = absurd one

@@ -54,7 +54,7 @@ module _ {V U Plan : Type 0} (k : Kind V) (kind : RunnerKind U Plan) (p : Params
     [],
     finish k kind p beat old setup epoch left clients fresh [] old old.scene.desk.running.epoch (Err (failed.Fault Memory)) (All-nil _) (moves_none k old.scene) (tells_none old.scene.desk.running.epoch old.scene.desk.running.epoch refl)
         (printed_whole [] old.output old.output (written_none old.output)) none tt refl refl refl (inl (record { fault_is = refl; none = refl; silent = refl })),
-    record { things = record { things = []; acts_are = refl; each = All-nil IsOneThing }; kept = tt; by_hand = no_rounds starts (map kind.client old.runners) },
+    record { things = record { things = []; acts_are = refl; each = All-nil IsOneThing }; by_hand = no_rounds starts (map kind.client old.runners) },
   )
 
 pub short_by : {V U Plan : Type 0} (threads : Bool) (k : Kind V) (kind : RunnerKind U Plan) (p : Params) (beat : BeatKind) (old : RunState V U) (setup : Setup) (epoch left : ℕ) (clients : List ℕ)

@@ -49,7 +49,7 @@ use Rattle.ob_run.specs.Crews.{AreBack}
 use Rattle.ob_run.specs.Serving.{ServeEnds}
 use Rattle.ob_run.proofs.Opening.{are_clients}
 use Rattle.ob_run.proofs.Shapes.{idle}
-use Rattle.ob_run.proofs.WovenRun.{driven_is, are_kept}
+use Rattle.ob_run.proofs.WovenRun.{driven_is}
 use Rattle.ob_run.proofs.Keeping.{IsPlanned, keeps}
 use Rattle.ob_run.proofs.Seats as seats
 use Rattle.ob_run.proofs.Hands.{here, numbers_of}
@@ -120,7 +120,7 @@ module _ {V U Plan : Type 0} (k : Kind V) (beat : BeatKind) (client bound : U �
       quiet_all : IsQuiet turn → AreQuiet (opening_of hall) log
       quiet_all quiet at number named = let one = planned_all at number named in steps_quiet turn quiet one.plan number [] (entries_of (suc at) log) one.steps
 
-      module _ (rung : Pass) (found : IsRaised old.pass rung c.epoch) (acts : List Act) (a : Acts k beat (side rung old.vault old.trace old.output) new acts) where
+      module _ (rung : Pass) (found : IsRaised old.pass rung c.epoch) (acts : List Act) (a : Acts k beat (side rung old.vault old.trace old.output) new acts) (things : AreThings acts) where
         place : pass_place new.pass ≡ 0
         place = a.place ∙ (ap (λ s. s.me.0.by) found.seat ∙ first.fresh.place)
 
@@ -130,7 +130,7 @@ module _ {V U Plan : Type 0} (k : Kind V) (beat : BeatKind) (client bound : U �
             ap (λ n. entries_of n log) (sym place) ∙ (drivers.own ∙ (a.made ∙ ap (λ (es : List (Entry Steps)). es ++ a.turns) none))
 
         pub woven : Woven k beat (opening_of hall) d log old.vault new.vault acts
-        woven = weave beat (opening_of hall) d log old.vault new.vault acts new_opening whole.legal (subst (λ (es : List (Entry Steps)). AreActs es acts) (sym turns_are) a.are) a.allowed
+        woven = weave beat (opening_of hall) d log old.vault new.vault acts new_opening whole.legal (subst (λ (es : List (Entry Steps)). AreActs es acts) (sym turns_are) a.are) things a.allowed
             (called k old.vault old.trace (calls acts) a.notes new.vault new.trace a.chain)
 
         moves : Moves k begin.scene (history woven.acts) (calls woven.acts) end.scene
@@ -171,9 +171,9 @@ module _ {V U Plan : Type 0} (k : Kind V) (beat : BeatKind) (client bound : U �
                     (subst (λ (l : List ℕ). OthersSignedOff l (map client (runners_of cs)) woven.acts) hands.are off);
               })
 
-        run_is : (next : ℕ) (result : Result (Unit {0}) RunErr) → AreThings acts → AreBack w hall starts cs ns old.pass new.pass acts → TellsEpochs (suc c.epoch) next (ended_of (calls acts)) (records acts) → IsPrinted old.output new.output (report decimal (records acts))
+        run_is : (next : ℕ) (result : Result (Unit {0}) RunErr) → AreBack w hall starts cs ns old.pass new.pass acts → TellsEpochs (suc c.epoch) next (ended_of (calls acts)) (records acts) → IsPrinted old.output new.output (report decimal (records acts))
             → RunEnds k begin end woven.acts result → InThreads starts k kind beat begin end result
-        run_is next result things back told printed ends = (
+        run_is next result back told printed ends = (
           woven.acts,
           finish k kind p beat begin (record { params = p }) (suc c.epoch) c.left numbers opening woven.acts end next result woven.allowed moves
               (subst (λ n. TellsEpochs n next (ended_of (calls woven.acts)) (records woven.acts)) (sym (ap (λ (x : DeskState). x.running.epoch) opening))
@@ -189,20 +189,19 @@ module _ {V U Plan : Type 0} (k : Kind V) (beat : BeatKind) (client bound : U �
               ends,
           record {
             things = subst AreThings (sym (driven_is (client_numbers (opening_of hall)) log acts woven.acts woven.are)) things;
-            kept = are_kept (client_numbers (opening_of hall)) log acts woven.acts woven.are;
             by_hand = by_hand back;
           },
         )
 
       pub runs_out : IsQuiet turn → OverRunsEndOver k → (next : VaultCounts) (done : Unit {0}) → RunsOut k beat hall (AreBack w hall starts cs ns old.pass new.pass) old c new next → InThreads starts k kind beat begin end (Ok done)
-      runs_out quiet over next done r = run_is r.rung r.found r.done.acts r.done.done.acts_are (suc next.epoch) (Ok done) r.done.things r.done.also r.done.done.told (printed_whole (report decimal (records r.done.acts)) old.output new.output r.done.done.written)
-          (over beat hall old c new next (record { rung = r.rung; found = r.found; done = record { acts = r.done.acts; things = r.done.things; also = tt; done = r.done.done }; over = r.over }) log raised d drivers whole.legal (quiet_all quiet) (woven r.rung r.found r.done.acts r.done.done.acts_are))
+      runs_out quiet over next done r = run_is r.rung r.found r.done.acts r.done.done.acts_are r.done.things (suc next.epoch) (Ok done) r.done.also r.done.done.told (printed_whole (report decimal (records r.done.acts)) old.output new.output r.done.done.written)
+          (over beat hall old c new next (record { rung = r.rung; found = r.found; done = record { acts = r.done.acts; things = r.done.things; also = tt; done = r.done.done }; over = r.over }) log raised d drivers whole.legal (quiet_all quiet) (woven r.rung r.found r.done.acts r.done.done.acts_are r.done.things))
 
       pub run_fails : FailedRunsFail k → (err : RunErr) → RunFails k beat hall (AreBack w hall starts cs ns old.pass new.pass) old c new err → InThreads starts k kind beat begin end (Err err)
       run_fails fails err r =
           let f = r.fails.fails in
-          run_is r.rung r.found r.fails.acts f.acts_are f.next (Err err) r.fails.things r.fails.also f.told (lines_printed f.last (records r.fails.acts) old.output new.output f.lines)
-          (inr (fails beat hall old p c new err first (record { rung = r.rung; found = r.found; fails = record { acts = r.fails.acts; things = r.fails.things; also = tt; fails = f } }) log d whole.legal (woven r.rung r.found r.fails.acts f.acts_are)))
+          run_is r.rung r.found r.fails.acts f.acts_are r.fails.things f.next (Err err) r.fails.also f.told (lines_printed f.last (records r.fails.acts) old.output new.output f.lines)
+          (inr (fails beat hall old p c new err first (record { rung = r.rung; found = r.found; fails = record { acts = r.fails.acts; things = r.fails.things; also = tt; fails = f } }) log d whole.legal (woven r.rung r.found r.fails.acts f.acts_are r.fails.things)))
 
     pub not_begun : (old new : Side V) (cs : List (Pass × U)) (d : DeskState) (starts : ℕ) (err : RunErr) → All (λ u. fits u []) (runners_of cs) → d ≡ opening_of hall → IsNotBegun old new err
         → InThreads starts k kind beat (run_state (scene (opening_of hall) old.vault old.trace) (runners_of cs) old.output) (run_state (scene d new.vault new.trace) (runners_of cs) new.output) (Err err)

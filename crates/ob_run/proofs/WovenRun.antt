@@ -1,4 +1,4 @@
--- The acts of a whole history: the driver's of them, and what stands behind a close.
+-- The acts of a whole history: the driver's of them.
 use Rattle.std.proofs.Common.{◌≡◌, ◌∙◌, ℕ, zero, suc, List, [], ◌∷◌, ◌++◌, refl, sym, ap, ap₂, subst, inl, inr, append-nil}
 use Rattle.ob_turn.specs.declared.turn.Entry.{Entry}
 use Rattle.ob_hall.specs.Passes.{Steps, calls_in}
@@ -6,7 +6,7 @@ use Rattle.ob_conduct.specs.Acts.{Act, Says, Halts, Rests, Takes, Delivers, Deli
 use Rattle.ob_conduct.specs.Rounds.{AreDriven}
 use Rattle.ob_driver.specs.Turning.{IsOneTurn}
 use Rattle.ob_run.specs.Woven.{IsEntryOf, AreWoven}
-use Rattle.ob_run.specs.Threaded.{driven, ClosesAreEnded}
+use Rattle.ob_run.specs.Threaded.{driven}
 
 -- ---- one turn of the driver's
 
@@ -18,25 +18,14 @@ turn_driven (Delivers batch ∷ []) one = tt
 turn_driven (DeliverFails keys fault ∷ []) one = tt
 turn_driven (FetchFails look batches keys fault ∷ []) one = tt
 turn_driven (RestUnwatched look batches ∷ []) one = tt
+turn_driven (Closes look batches writes ∷ []) one = tt
+turn_driven (Publishes ended left told ∷ []) one = tt
+turn_driven (Refuses asked refused ∷ []) one = tt
 turn_driven (Closes look batches writes ∷ Publishes ended left told ∷ []) one = tt
 turn_driven (Closes look batches writes ∷ Refuses asked refused ∷ []) one = tt
 turn_driven (Unprinted ∷ []) one = tt
 turn_driven (Unwatched ∷ []) one = tt
 turn_driven _ one = absurd one
-
-turn_kept : (acts more : List Act) → IsOneTurn acts → ClosesAreEnded more → ClosesAreEnded (acts ++ more)
-turn_kept (Halts fault ∷ []) more one kept = kept
-turn_kept (Rests look ∷ []) more one kept = kept
-turn_kept (Takes look keys ∷ []) more one kept = kept
-turn_kept (Delivers batch ∷ []) more one kept = kept
-turn_kept (DeliverFails keys fault ∷ []) more one kept = kept
-turn_kept (FetchFails look batches keys fault ∷ []) more one kept = kept
-turn_kept (RestUnwatched look batches ∷ []) more one kept = kept
-turn_kept (Closes look batches writes ∷ Publishes ended left told ∷ []) more one kept = (one, kept)
-turn_kept (Closes look batches writes ∷ Refuses asked refused ∷ []) more one kept = (one, kept)
-turn_kept (Unprinted ∷ []) more one kept = kept
-turn_kept (Unwatched ∷ []) more one kept = kept
-turn_kept _ more one kept = absurd one
 
 -- ---- the driver's acts
 
@@ -77,24 +66,17 @@ all_driven (Unwatched ∷ acts) are = ap (λ (l : List Act). Unwatched ∷ l) (a
 -- The acts of an entry with these calls, of which these are the driver's.
 pub record IsTurnOf (mine these : List Act) (steps : Steps) : Type 0 where
   pub driven_is : driven these ≡ mine
-  pub kept : (more : List Act) → ClosesAreEnded more → ClosesAreEnded (these ++ more)
   pub history_is : history these ≡ steps
 
 pub entry_turn : (clients : List ℕ) (by : ℕ) (steps : Steps) (mine these : List Act) → IsEntryOf clients by steps mine these → IsTurnOf mine these steps
 entry_turn clients zero steps mine these (one, is, same) = subst (λ (l : List Act). IsTurnOf mine l steps) (sym same) (record {
   driven_is = all_driven mine (turn_driven mine one);
-  kept = λ more kept. turn_kept mine more one kept;
   history_is = sym is;
 })
-entry_turn clients (suc i) steps mine these (none, inr (nobody, quiet, same)) = subst (λ (l : List Act). IsTurnOf mine l steps) (sym same) (record { driven_is = sym none; kept = λ more kept. kept; history_is = sym quiet })
-entry_turn clients (suc i) steps mine these (none, inl (number, named, same)) = subst (λ (l : List Act). IsTurnOf mine l steps) (sym same) (record { driven_is = sym none; kept = λ more kept. kept; history_is = append-nil steps })
+entry_turn clients (suc i) steps mine these (none, inr (nobody, quiet, same)) = subst (λ (l : List Act). IsTurnOf mine l steps) (sym same) (record { driven_is = sym none; history_is = sym quiet })
+entry_turn clients (suc i) steps mine these (none, inl (number, named, same)) = subst (λ (l : List Act). IsTurnOf mine l steps) (sym same) (record { driven_is = sym none; history_is = append-nil steps })
 
 pub driven_is : (clients : List ℕ) (log : List (Entry Steps)) (own acts : List Act) → AreWoven clients log own acts → driven acts ≡ own
 driven_is clients [] own acts (none, same) = ap driven same ∙ sym none
 driven_is clients (e ∷ log) own acts (mine, more, these, rest, own_is, acts_are, entry, woven) =
     ap driven acts_are ∙ (driven_append these rest ∙ (ap₂ (λ (x y : List Act). x ++ y) (entry_turn clients e.by (calls_in (e ∷ [])) mine these entry).driven_is (driven_is clients log more rest woven) ∙ sym own_is))
-
-pub are_kept : (clients : List ℕ) (log : List (Entry Steps)) (own acts : List Act) → AreWoven clients log own acts → ClosesAreEnded acts
-are_kept clients [] own acts (none, same) = subst ClosesAreEnded (sym same) tt
-are_kept clients (e ∷ log) own acts (mine, more, these, rest, own_is, acts_are, entry, woven) =
-    subst ClosesAreEnded (sym acts_are) ((entry_turn clients e.by (calls_in (e ∷ [])) mine these entry).kept rest (are_kept clients log more rest woven))

@@ -6,7 +6,7 @@ use Rattle.ob_desk.specs.Beats.{BeatKind}
 use Rattle.ob_session.specs.Clients.{said_by, stands_after}
 use Rattle.ob_session.specs.declared.runner.Step.TheVariants.{Done}
 use Rattle.ob_conduct.specs.declared.run_err.RunErr.{RunErr}
-use Rattle.ob_conduct.specs.Acts.{Act, Says, Closes, Publishes, Refuses, history}
+use Rattle.ob_conduct.specs.Acts.{Act, Says, history}
 use Rattle.ob_conduct.specs.Rounds.{InRounds}
 use Rattle.ob_conduct.specs.Scenes.{RunState, RunnerKind}
 use Rattle.ob_conduct.specs.Conducted.{Conducted, ByHand}
@@ -17,19 +17,6 @@ abbrev pub driven : List Act → List Act
 driven [] = []
 driven (Says client steps ∷ acts) = driven acts
 driven (act ∷ acts) = act ∷ driven acts
-
--- The first of these acts is what follows a close with these writes.
-abbrev pub EndsNext : List (ℕ × Option (List ℕ)) → List Act → Type 0
-EndsNext writes (Publishes ended left told ∷ acts) = ended ≡ writes
-EndsNext writes (Refuses asked refused ∷ acts) = asked ≡ writes
-EndsNext writes _ = ⊥
-
--- Between a close, which begins with the look that led to it, and its publish, or what the desk is told of an end that was refused, nothing
--- stands.
-abbrev pub ClosesAreEnded : List Act → Type 0
-ClosesAreEnded [] = Unit {0}
-ClosesAreEnded (Closes look batches writes ∷ acts) = EndsNext writes acts × ClosesAreEnded acts
-ClosesAreEnded (act ∷ acts) = ClosesAreEnded acts
 
 -- whether the client is one of those made by hand
 abbrev pub is_by_hand : List ℕ → ℕ → Bool
@@ -61,7 +48,6 @@ pub record HandRounds (starts : ℕ) (clients : List ℕ) (acts : List Act) : Ty
 -- How the acts go where so many clients' threads were tried: the driver's are things that it does, one behind the other, and the clients have their turns between, as they come, but in rounds where they were made by hand.
 pub record AreThreaded (starts : ℕ) (clients : List ℕ) (acts : List Act) : Type 0 where
   pub things : AreThings (driven acts)
-  pub kept : ClosesAreEnded acts
   pub by_hand : HandRounds starts clients acts
 
 -- a run of which so many clients' threads were tried

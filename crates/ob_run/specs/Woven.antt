@@ -13,6 +13,7 @@ use Rattle.ob_hall.specs.Passes.{Steps, IsNew, calls_in}
 use Rattle.ob_conduct.specs.Acts.{Act, Says, history, calls, records, IsAllowed}
 use Rattle.ob_conduct.specs.Records.{contents, HoldsMap}
 use Rattle.ob_driver.specs.Turning.{IsOneTurn, AreActs}
+use Rattle.ob_driver.specs.Drives.{AreThings}
 
 -- These are the acts of an entry with these calls. At place 0 they are the driver's, which are given; at place i + 1 it is one step of the i-th of these clients, even where it called nothing. Where there is no such client nothing was called.
 abbrev pub IsEntryOf : List ℕ → ℕ → Steps → List Act → List Act → Type 0
@@ -41,7 +42,7 @@ pub record Woven {V : Type 0} (k : Kind V) (beat : BeatKind) (opened d : DeskSta
   -- they ran one by one
   pub one_by_one : (m : Map nat_cmp) → HoldsMap k old m → OneByOne nat_cmp m (committed_of (records acts)) (contents m (records acts))
 
--- Whatever threads make the calls: of a history that is legal from a new desk, with the driver's acts in their entries, and a chain of the vault's calls that belong to them, this is so.
+-- Whatever threads make the calls: of a history that is legal from a new desk, with the driver's acts in their entries, which are things that it does, and a chain of the vault's calls that belong to them, this is so.
 abbrev pub HistoriesWeave : {V : Type 0} → Kind V → Type 0
-HistoriesWeave {V} k = (beat : BeatKind) (opened d : DeskState) (log : List (Entry Steps)) (old new : V) (driven : List Act) → IsNew opened → LeadsByTurns IsTurn opened log d → AreActs (entries_of 0 log) driven → All (IsAllowed beat) driven
+HistoriesWeave {V} k = (beat : BeatKind) (opened d : DeskState) (log : List (Entry Steps)) (old new : V) (driven : List Act) → IsNew opened → LeadsByTurns IsTurn opened log d → AreActs (entries_of 0 log) driven → AreThings driven → All (IsAllowed beat) driven
     → AllCalled k old (calls driven) new → Woven k beat opened d log old new driven
