@@ -73,6 +73,7 @@ module _ (store : StoreKind) (quiet : IsQuiet store) (life : LifeWords store) wh
       opened = r.opened;
       between = r.between;
       is_served = r.is_served;
+      world = r.world;
       cause = cause;
       events = r.events;
       traced = r.traced;

@@ -1,6 +1,6 @@
 -- What serving a script does to the store that a ring vault was lent, where the vault's words are those of what it runs with.
 use Rattle.std.specs.Borrow.{GName}
-use Rattle.std.proofs.Common.{false, ◌≡◌, ◌∙◌, ◌∷◌, ◌<◌, ◌≤◌, ◌^◌, ℕ, suc, Bool, List, [], Result, sym, ap, subst, refl}
+use Rattle.std.proofs.Common.{false, ◌≡◌, ◌∙◌, ◌∷◌, ◌<◌, ◌≤◌, ◌^◌, ℕ, suc, Bool, List, [], Result, sym, ap, subst}
 use Rattle.std.proofs.lemmas.List.Elements.{All-weaker}
 use Rattle.ob_base.specs.declared.params.Params.{Params}
 use Rattle.ob_io.specs.Streams.{Flow}
@@ -109,7 +109,9 @@ module _ {V S : Type 0} (k : Kind V) (disk : S → Disk) (counts_now : (x : S) (
     stands = stands_found;
     only = λ w i. subst (λ (x : Disk). x.left_since x.moment i → x.may_leave i) (sym (lent.disk_is w).2) (λ left. only_now (runs w).store i left);
     rests = lent.rests;
-    holds = λ m of. (held_with f.run m, lent.holds first (held_with f.run m) (subst (λ (r : Run). RingHolds r (disk_of first) (held_with f.run m)) (sym run_is) (holds_found keys p f (disk_of first) m goes.serving of)), refl);
+    holds = λ m of.
+        let by_run = lent.holds first (held_with f.run m) (subst (λ (r : Run). RingHolds r (disk_of first) (held_with f.run m)) (sym run_is) (holds_found keys p f (disk_of first) m goes.serving of)) in
+        subst (λ (q : Params). k.holds first (opened_with q f.run.left (record { epoch = f.run.epoch; content = m }))) goes.params by_run;
     sound = λ at tells settled opened. lent.sound first (opened_with p f.run.left at) (subst (λ (r : Run). RingSound r (disk_of first) (opened_with p f.run.left at)) (sym run_is) (ring_begins_sound disk keys p f at (runs first).store goes.serving opened));
     stays = λ w steps called. tapes_stay k disk runs words first w steps called ∙ present_is;
     told = λ w steps called all. told_on first w steps called all;

@@ -128,6 +128,7 @@ module _ (store : StoreKind) (quiet : IsQuiet store) (life : LifeWords store) wh
         opened = opened;
         between = between;
         is_served = s.is_served;
+        world = s.world;
         cause = cause_since keys p found s.traced.behind (shapes (calls s.is_served.served.acts)) (length s.records) (refused (calls s.is_served.served.acts)) tape.words (disk old) (disk between) (disk new) output output_new t midway u later begins.faults err s.cause;
         events = s.events;
         traced = s.traced;

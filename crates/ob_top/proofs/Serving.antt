@@ -58,8 +58,9 @@ use Rattle.ob_outcomes.proofs.Whole.{RunsScripts, is_served, its_acts, its_desk,
 use Rattle.ob_desk.specs.Beats.{BeatKind}
 use Rattle.ob_top.specs.Endings.{err_of, told_fault}
 use Rattle.ob_top.specs.Outside.{Given}
+use Rattle.ob_top.proofs.Listing.{are_listed}
 use Rattle.ob_top.proofs.Lines.{lines_stand, next_by_acts}
-use Rattle.ob_top.specs.Runs.{Manner, manner, EndsWith, EachShown, EndsFor, IsShownToWatch, IsTraced, refused_row, steps_rows, IsLeftOnDisk, StagedFrom, IsNextEpoch, ComesNext, ServedOver, LivesBehind}
+use Rattle.ob_top.specs.Runs.{ListsActs, Manner, manner, EndsWith, EachShown, EndsFor, IsShownToWatch, IsTraced, refused_row, steps_rows, IsLeftOnDisk, StagedFrom, IsNextEpoch, ComesNext, ServedOver, LivesBehind}
 
 -- an end that was refused ended nothing
 none_ended : (writes : List (ℕ × Option (List ℕ))) (refused : EndErr) → ended_by (End writes, end_answer (Err refused)) ≡ []
@@ -215,8 +216,8 @@ module _ {V S : Type 0} (k : Kind V) (store : StoreKind) (disk : S → Disk) (st
     -- How it ended, after these calls: why, what was written, what was seen, and what was shown.
     pub record Ending (asked : List (VaultCall × VaultAnswer)) (err : Option RunErr) : Type 0 where
       pub events : List Event
-      pub traced : IsTraced store most p (store.public p found) (store.hidden p found) (tape_of last).words asked (told_fault err) events
-      pub shown : IsShownToWatch store most p (store.public p found) (store.hidden p found) (tape_of last).words asked (told_fault err) events traced t u
+      pub traced : IsTraced store most p found (tape_of last).words asked (told_fault err) events
+      pub shown : IsShownToWatch store most p found (tape_of last).words asked (told_fault err) events traced t u
       pub cause : EndsFor store under p found (disk (store_of start)) traced.behind (shapes asked) (length records) (refused asked) (tape_of last).words (disk (store_of first)) (disk (store_of last)) before after t u err
       pub seen : Notes events (disk (store_of first)).seen (disk (store_of last)).seen
       pub goes_on : life.goes_on under most p found (disk (store_of start)) (answered asked) traced.steps traced.behind (refused asked) (tape_of last).words traced.more (disk (store_of last))
@@ -404,7 +405,7 @@ module _ {V S : Type 0} (k : Kind V) (store : StoreKind) (disk : S → Disk) (st
     pub stands : (c : Image) (at : Standing) → k.stands start c at → store.stands under p (store.generation found) c at
     pub only : OnlyNow k
     pub rests : Rests k
-    pub holds : (m : Map nat_cmp) → store.is_map under p (disk (store_of start)) found m → HoldsMap k start m
+    pub holds : (m : Map nat_cmp) → store.is_map under p (disk (store_of start)) found m → k.holds start (opened_with p (store.left p found) (record { epoch = store.epoch found; content = m }))
     pub sound : (at : Standing) → (disk (store_of start)).tells → IsSynced (disk (store_of start)) → IsOpenedAt store under p at found (disk (store_of start)) → k.sound start (opened_with p (store.left p found) at)
     pub stays : (w : V) (steps : List (VaultCall × VaultAnswer)) → AllCalled k start steps w → (tape_of w).generation ≡ store.generation found
     pub told : (w : V) (steps : List (VaultCall × VaultAnswer)) → AllCalled k start steps w → AreAnswered steps → (disk (store_of start)).tells → (disk (store_of w)).tells
@@ -431,15 +432,19 @@ module _ {V S : Type 0} (k : Kind V) (store : StoreKind) (disk : S → Disk) (st
       abbrev records : List (EpochRecord ℕ)
       records = records_of_acts acts
 
-      comes_next : (epoch : ℕ) → epoch ≡ store.epoch found → (next : Option (EpochRecord ℕ)) → IsNextOf k begin end acts result next → IsNextEpoch store under p (disk (store_of start)) found (suc epoch + length records) script records next
+      -- the vault held the map that was found
+      held_map : (m : Map nat_cmp) → store.is_map under p (disk (store_of start)) found m → HoldsMap k start m
+      held_map m of = (opened_with p (store.left p found) (record { epoch = store.epoch found; content = m }), l.holds m of, refl)
+
+      comes_next : (epoch : ℕ) → epoch ≡ store.epoch found → (next : Option (EpochRecord ℕ)) → IsNextOf k begin end acts result next → IsNextEpoch (store.is_map under p (disk (store_of start)) found) (suc epoch + length records) script records next
       comes_next epoch same None is = tt
       comes_next epoch same (Some r) (err, told, f, (writes, refused, act_is, u, the)) =
           let is = f.acts_are ∙ ap (λ (x : Act). f.front ++ x ∷ f.behind) act_is in
-          subst (ComesNext store under p (disk (store_of start)) found (suc epoch + length records) script records) the (record {
+          subst (ComesNext (store.is_map under p (disk (store_of start)) found) (suc epoch + length records) script records) the (record {
             epoch_is = due_epoch k kind p beat begin (record { params = p }) (suc (store.epoch found)) (store.left p found) script.clients refl acts end result d f.front writes refused f.behind is f.says u ∙ ap (λ e. suc e + length records) (sym same);
             served = next_served k beat kind means p (store.epoch found) (store.left p found) script sound may start trace runners before end acts result named planned d f.front writes refused f.behind is f.says u;
             in_order = due_in_order k kind p beat begin (record { params = p }) (suc (store.epoch found)) (store.left p found) script.clients refl acts end result d f.front writes refused f.behind is f.says u;
-            one_by_one = λ m of. due_one_by_one k kind p beat begin (record { params = p }) (suc (store.epoch found)) (store.left p found) script.clients refl acts end result d f.front writes refused f.behind is f.says u m (l.holds m of);
+            one_by_one = λ m of. due_one_by_one k kind p beat begin (record { params = p }) (suc (store.epoch found)) (store.left p found) script.clients refl acts end result d f.front writes refused f.behind is f.says u m (held_map m of);
           })
 
       doubt_told : (epoch n : ℕ) → epoch ≡ n → TellsDoubt epoch result → err_of result ≡ Some (failed.Fault (StoreFault (Some n)))
@@ -453,7 +458,7 @@ module _ {V S : Type 0} (k : Kind V) (store : StoreKind) (disk : S → Disk) (st
           (λ c is. standing_in c (λ s x. x) is) (l.since from to (StandsIn (k.stands start) P) leaves)
 
       staged_stores : (at : Standing) (told : List (EpochRecord ℕ)) (next : Option (EpochRecord ℕ)) (from to : V) → Stages k (k.stands start) at told next from to
-          → StagedFrom store under p found at script records (err_of result) disk at told next (disk (store_of from)) (disk (store_of to))
+          → StagedFrom disk (store.stands under p (store.generation found)) at told next (disk (store_of from)) (disk (store_of to))
       staged_stores at [] next from to leaves = as_stored (IsThisOrNext at next) from to leaves
       staged_stores at (r ∷ told) next from to (mid, leaves, rest) = (store_of mid, as_stored (IsThisOrNext at (Some r)) from mid leaves, staged_stores (next_at at r) told next mid to rest)
 
@@ -518,14 +523,18 @@ module _ {V S : Type 0} (k : Kind V) (store : StoreKind) (disk : S → Disk) (st
       ends_with : (r : Result (Unit {0}) RunErr) → RunEnds k begin end acts r → EndsWith (err_of r) acts end.scene.desk
       ends_with (Ok done) (answered, over, written, still) = over
       ends_with (Err err) (inl short) = inl (short.fault_is, short.none)
-      ends_with (Err err) (inr f) = inr (f.front, f.act, f.behind, f.acts_are, f.says, f.told)
+      ends_with (Err err) (inr f) = inr (f.front, f.act, f.behind, f.acts_are, f.says, f.told, f.stopped)
 
       -- the trace, what goes on in the life with its steps, and why it ended there
       abbrev TracesLife : List Act → List Event → Type 0
-      TracesLife xs events = (t : IsTraced store most p (store.public p found) (store.hidden p found) (tape_of last).words (calls xs) (told_fault (err_of result)) events)
-          × IsShownToWatch store most p (store.public p found) (store.hidden p found) (tape_of last).words (calls xs) (told_fault (err_of result)) events t trace end.scene.trace
+      TracesLife xs events = (t : IsTraced store most p found (tape_of last).words (calls xs) (told_fault (err_of result)) events)
+          × IsShownToWatch store most p found (tape_of last).words (calls xs) (told_fault (err_of result)) events t trace end.scene.trace
           × life.goes_on under most p found (disk (store_of start)) (answered (calls xs)) t.steps t.behind (refused (calls xs)) (tape_of last).words t.more (disk (store_of last))
           × EndsFor store under p found (disk (store_of start)) t.behind (shapes (calls xs)) (length records) (refused (calls xs)) (tape_of last).words (disk (store_of start)) (disk (store_of last)) before after trace end.scene.trace (err_of result)
+
+      -- the acts, as a list of the world's events
+      listed : ListsActs store under p (disk (store_of start)) found script acts
+      listed m of = are_listed k store under p (record { epoch = store.epoch found; content = m }) (store.left p found) script.clients beat threads start last acts end.scene.desk (l.holds m of) chain d.allowed d.leads rounds
 
       -- the vault's calls, beside what serving does
       calls_behind : CallsBehind k start (calls is_run.acts) last (err_of result)
@@ -546,9 +555,10 @@ module _ {V S : Type 0} (k : Kind V) (store : StoreKind) (disk : S → Disk) (st
                 ends = subst (λ (x : DeskState). EndsWith (err_of result) is_run.acts x) desk_is (subst (λ (xs : List Act). EndsWith (err_of result) xs end.scene.desk) acts_are (ends_with result d.ends));
                 opens = may;
                 fed = λ m of. subst (λ (x : DeskState). Run m base (history is_run.acts) (contents m records) x) desk_is
-                    (subst (λ (xs : List Act). Run m base (history xs) (contents m records) end.scene.desk) acts_are (d.serial m (l.holds m of)).0);
-                one_by_one = λ m of. d.one_by_one m (l.holds m of);
+                    (subst (λ (xs : List Act). Run m base (history xs) (contents m records) end.scene.desk) acts_are (d.serial m (held_map m of)).0);
+                one_by_one = λ m of. d.one_by_one m (held_map m of);
               };
+              world = subst (λ (xs : List Act). ListsActs store under p (disk (store_of start)) found script xs) acts_are listed;
               cause = told.3;
               shown = told.1;
               watched = watch_whole result d.ends;

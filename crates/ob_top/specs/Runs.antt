@@ -36,13 +36,14 @@ use Rattle.ob_desk.specs.Desk.{DeskState, MayOpen, Run, new_desk}
 use Rattle.ob_desk.specs.Beats.{BeatKind}
 use Rattle.ob_script.specs.Script.{Scripts, IsScript, IsFirstBad, limit}
 use Rattle.ob_conduct.specs.declared.run_err.RunErr.TheVariants as failed
-use Rattle.ob_conduct.specs.Acts.{Act, calls, history, fault_told}
-use Rattle.ob_conduct.specs.Moves.{IsSaid}
+use Rattle.ob_conduct.specs.Acts.{Act, calls, history, fault_of, fault_told}
+use Rattle.ob_conduct.specs.Moves.{IsSaid, IsStoppedFor}
 use Rattle.ob_conduct.specs.Records.{IsOver, contents}
 use Rattle.ob_conduct.specs.Left.{IsLeftStanding, IsLeftNow, IsThisOrNext, next_at}
 use Rattle.ob_run.specs.Threaded.{AreShaped}
 use Rattle.ob_outcomes.specs.Served.{IsServed, ClientsServed, ClientsServedAll}
 use Rattle.ob_top.specs.Endings.{IsNextBy, LinesStand, told_fault}
+use Rattle.ob_top.specs.Listed.{AreListed}
 use Rattle.ob_top.specs.Outside.{Outside, ErrTold, Given}
 use Rattle.ob_top.specs.Sound.{StandsOn}
 
@@ -54,17 +55,17 @@ begin_phases store p found start = Reads (0 ∷ []) ∷ store.opens p found star
 -- call that was refused what its fault allows. The phases depend on the parameters, on what is public of the vault, on how the calls follow
 -- one another, and on what they draw; on no key, no value and no write. What they draw is, call by call, what is to be drawn behind the
 -- calls before it; and its words, with those of a call that was refused, are those that the tape has given.
-pub record IsTraced (store : StoreKind) (most : ℕ) (p : Params) (q : store.Public) (h : store.Hidden) (words : List ℕ) (asked : List (VaultCall × VaultAnswer)) (fault : Option Fault) (events : List Event) : Type 0 where
+pub record IsTraced (store : StoreKind) (most : ℕ) (p : Params) (found : store.Found) (words : List ℕ) (asked : List (VaultCall × VaultAnswer)) (fault : Option Fault) (events : List Event) : Type 0 where
   pub steps : List (Shape × store.Drawn)
   pub shapes_are : map (λ s. s.0) steps ≡ shapes asked
   pub behind : store.Hidden
-  pub drawn : AreDrawn store p h (answered asked) steps behind
+  pub drawn : AreDrawn store p (store.hidden p found) (answered asked) steps behind
   pub of_tape : store.is_of_tape p behind (refused asked) words fault
   -- what is seen of the calls that were answered
   pub first : List Event
-  pub dealt : AreDealt most (steps_phases store p q steps) first
+  pub dealt : AreDealt most (steps_phases store p (store.public p found) steps) first
   pub more : List Event
-  pub cut : IsSeenCut store most p (public_behind store p q steps) behind (refused asked) words fault more
+  pub cut : IsSeenCut store most p (public_behind store p (store.public p found) steps) behind (refused asked) words fault more
   pub events_are : events ≡ first ++ more
 
 -- What the watch is shown of the opening: the head's read, and the notes that the kind of store gives.
@@ -95,12 +96,12 @@ EachShown (row ∷ rows) before after = (before.broken ≡ false) × ((between :
 
 -- What the watch was shown of serving, beside what is seen of it: the notes of the vault's calls, one behind the other, filled by what they
 -- drew, and of a call that was refused what its fault allows. Each call was made under a watch that was whole.
-pub record IsShownToWatch (store : StoreKind) (most : ℕ) (p : Params) (q : store.Public) (h : store.Hidden) (words : List ℕ) (asked : List (VaultCall × VaultAnswer)) (fault : Option Fault) (events : List Event)
-    (traced : IsTraced store most p q h words asked fault events) (before after : Trace) : Type 0 where
+pub record IsShownToWatch (store : StoreKind) (most : ℕ) (p : Params) (found : store.Found) (words : List ℕ) (asked : List (VaultCall × VaultAnswer)) (fault : Option Fault) (events : List Event)
+    (traced : IsTraced store most p found words asked fault events) (before after : Trace) : Type 0 where
   pub last : List Note
-  pub cut : IsCutShown store most p (public_behind store p q traced.steps) traced.behind (refused asked) words fault traced.more traced.cut last
-  pub shows : Shows (steps_notes store p q traced.steps ++ last) before after
-  pub each : EachShown (steps_rows store p q traced.steps ++ refused_row (refused asked) last) before after
+  pub cut : IsCutShown store most p (public_behind store p (store.public p found) traced.steps) traced.behind (refused asked) words fault traced.more traced.cut last
+  pub shows : Shows (steps_notes store p (store.public p found) traced.steps ++ last) before after
+  pub each : EachShown (steps_rows store p (store.public p found) traced.steps ++ refused_row (refused asked) last) before after
 
 -- a script came in
 pub record CameIn (keys : ℕ) (before : Flow) (script : Scripts) : Type 0 where
@@ -216,10 +217,11 @@ EndsFor store keys p found opened h behind n call words old new before after t u
 EndsFor store keys p found opened h behind n call words old new before after t u (Some (failed.Fault fault)) = store.causes keys p found opened new h behind n call words fault
 
 -- How serving ended. Without a fault each client has signed off, nothing waits, and the desk isn't stopped; else the driver's last act,
--- behind which there are clients' turns alone, tells of the fault, or nothing was done for want of memory.
+-- behind which there are clients' turns alone, tells of the fault, and the desk is stopped for that, or for want of memory that a client
+-- had met just before; or nothing was done for want of memory.
 abbrev pub EndsWith : Option RunErr → List Act → DeskState → Type 0
 EndsWith None acts desk = IsOver desk
-EndsWith (Some err) acts desk = ((err ≡ failed.Fault Memory) × (acts ≡ [])) ⊎ ((front : List Act) × (act : Act) × (behind : List Act) × (acts ≡ front ++ act ∷ behind) × All IsSaid behind × (fault_told act ≡ Some err))
+EndsWith (Some err) acts desk = ((err ≡ failed.Fault Memory) × (acts ≡ [])) ⊎ ((front : List Act) × (act : Act) × (behind : List Act) × (acts ≡ front ++ act ∷ behind) × All IsSaid behind × (fault_told act ≡ Some err) × IsStoppedFor desk.stop (fault_of err) act front)
 
 -- How a run goes: at which looks its driver may act, whether its clients have threads of their own, and how many lanes may share a
 -- phase's reads.
@@ -244,17 +246,23 @@ pub record ScriptServed (store : StoreKind) (by : Manner) (keys : Keys) (p : Par
   pub one_by_one : (m : Map nat_cmp) → store.is_map keys p opened found m → OneByOne nat_cmp m (committed_of records) (contents m records)
 
 -- The record is that of the next epoch: with it too each client's transactions are a front of its script's, and those that its close
--- kept run one by one behind the committed ones.
-pub record ComesNext (store : StoreKind) (keys : Keys) (p : Params) (opened : Disk) (found : store.Found) (epoch : ℕ) (script : Scripts) (records : List (EpochRecord ℕ)) (r : EpochRecord ℕ) : Type 0 where
+-- kept run one by one behind the committed ones, from each such map.
+pub record ComesNext (IsMap : Map nat_cmp → Type 0) (epoch : ℕ) (script : Scripts) (records : List (EpochRecord ℕ)) (r : EpochRecord ℕ) : Type 0 where
   pub epoch_is : r.epoch ≡ epoch
   pub served : ClientsServed script (records ++ r ∷ [])
   pub in_order : AreInOrder (records ++ r ∷ [])
-  pub one_by_one : (m : Map nat_cmp) → store.is_map keys p opened found m → OneByOne nat_cmp m (committed_of (records ++ r ∷ [])) (contents m (records ++ r ∷ []))
+  pub one_by_one : (m : Map nat_cmp) → IsMap m → OneByOne nat_cmp m (committed_of (records ++ r ∷ [])) (contents m (records ++ r ∷ []))
 
 -- the epoch whose end was begun behind those of the records, where one was
-abbrev pub IsNextEpoch : (store : StoreKind) → Keys → Params → (opened : Disk) → store.Found → ℕ → Scripts → List (EpochRecord ℕ) → Option (EpochRecord ℕ) → Type 0
-IsNextEpoch store keys p opened found epoch script records None = Unit {0}
-IsNextEpoch store keys p opened found epoch script records (Some r) = ComesNext store keys p opened found epoch script records r
+abbrev pub IsNextEpoch : (IsMap : Map nat_cmp → Type 0) → ℕ → Scripts → List (EpochRecord ℕ) → Option (EpochRecord ℕ) → Type 0
+IsNextEpoch IsMap epoch script records None = Unit {0}
+IsNextEpoch IsMap epoch script records (Some r) = ComesNext IsMap epoch script records r
+
+-- Stages of serving, one behind each epoch's end. From one to the next a crash leaves what stands behind the epochs so far, or behind one
+-- more; from the last one on, that or what stands behind the epoch whose end was begun.
+abbrev pub StagedFrom : {S : Type 0} → (S → Disk) → (Image → Standing → Type 0) → Standing → List (EpochRecord ℕ) → Option (EpochRecord ℕ) → Disk → Disk → Type 0
+StagedFrom disk stands now [] next from last = LeavesOnly from last (StandsIn stands (IsThisOrNext now next))
+StagedFrom {S} disk stands now (r ∷ told) next from last = (mid : S) × LeavesOnly from (disk mid) (StandsIn stands (IsThisOrNext now (Some r))) × StagedFrom disk stands (next_at now r) told next (disk mid) last
 
 module _ (store : StoreKind) (keys : Keys) (p : Params) (found : store.Found) (at : Standing) (script : Scripts) (records : List (EpochRecord ℕ)) (err : Option RunErr) where
   -- what the vault held once the store was opened
@@ -264,12 +272,6 @@ module _ (store : StoreKind) (keys : Keys) (p : Params) (found : store.Found) (a
   -- it stands for this, at the new generation
   abbrev pub StandsNow : (Standing → Type 0) → Image → Type 0
   StandsNow allowed = StandsIn (store.stands keys p (store.generation found)) allowed
-
-  -- Stages of serving, one behind each epoch's end. From one to the next a crash leaves what stands behind the epochs so far, or behind one
-  -- more; from the last one on, that or what stands behind the epoch whose end was begun.
-  abbrev pub StagedFrom : {S : Type 0} → (S → Disk) → Standing → List (EpochRecord ℕ) → Option (EpochRecord ℕ) → Disk → Disk → Type 0
-  StagedFrom disk now [] next from last = LeavesOnly from last (StandsNow (IsThisOrNext now next))
-  StagedFrom {S} disk now (r ∷ told) next from last = (mid : S) × LeavesOnly from (disk mid) (StandsNow (IsThisOrNext now (Some r))) × StagedFrom disk (next_at now r) told next (disk mid) last
 
   -- the answer tells that the end of the epoch behind the records is in doubt
   abbrev pub IsDoubt : Type 0
@@ -285,21 +287,21 @@ module _ (store : StoreKind) (keys : Keys) (p : Params) (found : store.Found) (a
     -- is answered, for the epoch in doubt as well; so for none below the last one that is reported.
     pub record IsLeftOnDisk {S : Type 0} (disk : S → Disk) (old new : Disk) : Type 0 where
       pub next : Option (EpochRecord ℕ)
-      pub is_next : IsNextEpoch store keys p old found (suc at.epoch + length records) script records next
+      pub is_next : IsNextEpoch (store.is_map keys p old found) (suc at.epoch + length records) script records next
       pub closed : IsClosedNext next
       pub since : LeavesOnly old new (StandsNow (IsLeftStanding held records next))
-      pub stages : StagedFrom disk at records next old new
+      pub stages : StagedFrom disk (store.stands keys p (store.generation found)) at records next old new
       pub now : (c : Image) → IsImageOf new c → StandsNow (IsLeftNow held records next IsDoubt) c
 
     -- What a crash leaves of a whole run: of the opening, from old to opened, and of serving, from then on to new.
     pub record LeftByWholeRun {S : Type 0} (disk : S → Disk) (old opened new : Disk) : Type 0 where
       pub next : Option (EpochRecord ℕ)
-      pub is_next : IsNextEpoch store keys p opened found (suc at.epoch + length records) script records next
+      pub is_next : IsNextEpoch (store.is_map keys p opened found) (suc at.epoch + length records) script records next
       pub closed : IsClosedNext next
       -- until the store is opened, an image that stands as one did before;
       pub opening : LeavesOnly old opened (StandsAsBefore store keys p old)
       -- from then on, only one that stands as served, and from each epoch's end on for that epoch at least;
-      pub stages : StagedFrom disk at records next opened new
+      pub stages : StagedFrom disk (store.stands keys p (store.generation found)) at records next opened new
       -- so one of them at any moment of the call;
       pub since : LeavesOnly old new (λ c. StandsAsBefore store keys p old c ⊎ StandsNow (IsLeftStanding held records next) c)
       -- and at its return, what reads give as well, where they are told
@@ -315,19 +317,24 @@ pub record IsReadAndOpened {S : Type 0} (disk : S → Disk) (keys : Keys) (old n
 abbrev pub LivesBehind : {S : Type 0} → (S → Disk) → Keys → Sealing → S → S → List VaultAnswer → Type 0
 LivesBehind {S} disk keys sealing opened new answers = (old : S) → ((disk opened).tells → Opens keys (disk old) (disk opened) sealing) → (disk new).tells → LivesOn disk keys old new answers
 
+-- From a map that was found on, at the epoch that was, the acts are a list of the world's events.
+abbrev pub ListsActs : (store : StoreKind) → Keys → Params → (opened : Disk) → store.Found → Scripts → List Act → Type 0
+ListsActs store keys p opened found script acts = (m : Map nat_cmp) → store.is_map keys p opened found m → AreListed store keys p (record { epoch = store.epoch found; content = m }) (store.left p found) script.clients acts
+
 -- What serving does to the store and the output, and what the watch is shown of it; behind it the tape has given these words.
 pub record ServedOver (store : StoreKind) (life : LifeWords store) {S : Type 0} (disk : S → Disk) (by : Manner) (keys : Keys) (p : Params) (found : store.Found) (sealing : Sealing) (script : Scripts) (tape : Given) (old new : S) (before after : Flow)
     (t u : Trace) (err : Option RunErr) : Type 0 where
   pub records : List (EpochRecord ℕ)
   pub is_served : ScriptServed store by keys p (disk old) found script records err
+  pub world : ListsActs store keys p (disk old) found script is_served.served.acts
   -- all lines of so many records stand
   pub whole : ℕ
   pub lines : LinesStand err records whole before after
   pub events : List Event
-  pub traced : IsTraced store by.lanes p (store.public p found) (store.hidden p found) tape.words (calls is_served.served.acts) (told_fault err) events
+  pub traced : IsTraced store by.lanes p found tape.words (calls is_served.served.acts) (told_fault err) events
   -- the tape is in the generation that was found
   pub in_generation : tape.generation ≡ store.generation found
-  pub shown : IsShownToWatch store by.lanes p (store.public p found) (store.hidden p found) tape.words (calls is_served.served.acts) (told_fault err) events traced t u
+  pub shown : IsShownToWatch store by.lanes p found tape.words (calls is_served.served.acts) (told_fault err) events traced t u
   -- one that is over has a whole watch
   pub watched : err ≡ None → u.broken ≡ false
   pub cause : EndsFor store keys p found (disk old) traced.behind (shapes (calls is_served.served.acts)) (length records) (refused (calls is_served.served.acts)) tape.words (disk old) (disk new) before after t u err
@@ -351,9 +358,10 @@ module _ (store : StoreKind) (life : LifeWords store) {S : Type 0} (disk : S →
     -- the store as it was once it was opened, before the first transaction was run
     pub between : S
     pub is_served : ScriptServed store by keys p (disk between) found script records err
+    pub world : ListsActs store keys p (disk between) found script is_served.served.acts
     -- the trace is that of the opening, and then that of the vault's calls
     pub events : List Event
-    pub traced : IsTraced store by.lanes p (store.public p found) (store.hidden p found) tape.words (calls is_served.served.acts) (told_fault err) events
+    pub traced : IsTraced store by.lanes p found tape.words (calls is_served.served.acts) (told_fault err) events
     -- its words are of the generation that was found
     pub in_generation : tape.generation ≡ store.generation found
     pub cause : EndsFor store keys p found (disk between) traced.behind (shapes (calls is_served.served.acts)) (length records) (refused (calls is_served.served.acts)) tape.words (disk old) (disk new) before.output after.output t u err
@@ -365,7 +373,7 @@ module _ (store : StoreKind) (life : LifeWords store) {S : Type 0} (disk : S →
     pub midway : Trace
     pub opening_shown : Shows (beginning_notes store p found start) t midway
     pub whole_midway : midway.broken ≡ false
-    pub shown : IsShownToWatch store by.lanes p (store.public p found) (store.hidden p found) tape.words (calls is_served.served.acts) (told_fault err) events traced midway u
+    pub shown : IsShownToWatch store by.lanes p found tape.words (calls is_served.served.acts) (told_fault err) events traced midway u
     pub watched : err ≡ None → u.broken ≡ false
     pub opens : OpensStanding store disk keys p (disk old) (disk between)
     -- unless there was a fault, cells are told where they were

@@ -2,15 +2,19 @@
 //! trace.
 #![tactic(auto)]
 
+mod again;
 mod audit;
 mod drill;
 mod endings;
 mod format;
+mod lists;
 mod run;
 mod top;
 mod traces;
 
+pub use again::stood_again;
 pub use drill::{Drilled, drill_on};
 pub use endings::finish;
+pub use lists::lists_hold;
 pub use top::obladi;
 pub use traces::traces_are_printed;

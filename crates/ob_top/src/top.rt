@@ -8,6 +8,7 @@ ghost use Rattle.ob_top.specs.Endings.{err_of};
 ghost use Rattle.ob_words.specs.Work.{Asks};
 ghost use Rattle.ob_top.specs.Top.{AskForSomething, traced_of, start_for, TracedDoes, WatchedDoes, CommandDoes, IsRefusedWithout, UsageDoes, AuditDoes, DrillDoes, FormatDoes, RunDoes};
 ghost use Rattle.ob_top.specs.Over.{OverStore, WithoutStore};
+ghost use Rattle.ob_top.specs.Promised.{KeepsHeadline};
 ghost use Rattle.ob_top.specs.Complete.{Completes, AuditCompletes, DrillCompletes};
 ghost use Rattle.ob_desk.specs.Beats.{beat_kind};
 
@@ -332,6 +333,12 @@ pub fn obladi<
     ensures run { RunDoes S.disk (λ w. outflow W.Sink w) (beat_kind B.passes B.exact)
         (map (λ w. w.now) words.entry.now) keys.entry store.entry
         store.exit trace.old trace.new
+        (outside (inflow I.Source input.old) (outflow O.Sink output.old))
+        (outside (inflow I.Source input.new) (outflow O.Sink output.new)) result
+        (words_given (T.present tape.new) (T.drawn tape.new)) }
+    // The headline: what a run promises over a store that stood, on one page.
+    ensures headline { KeepsHeadline S.disk (λ w. outflow W.Sink w) (beat_kind B.passes B.exact)
+        (map (λ w. w.now) words.entry.now) keys.entry store.entry store.exit trace.old trace.new
         (outside (inflow I.Source input.old) (outflow O.Sink output.old))
         (outside (inflow I.Source input.new) (outflow O.Sink output.new)) result
         (words_given (T.present tape.new) (T.drawn tape.new)) }

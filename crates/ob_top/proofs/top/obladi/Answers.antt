@@ -1,5 +1,6 @@
 use Rattle.std.proofs.Common.{◌≡◌, refl}
 use Rattle.ob_top.proofs.Completing.{completes}
+use Rattle.ob_top.proofs.Headlines.{told_promised}
 use Rattle.ob_top.proofs.Over.{audit_low, drill_low, usage_over, audit_over, drill_over, format_over, run_over, usage_alone, audit_without, drill_without, format_alone, run_alone}
 use Rattle.ob_top.proofs.top.obladi.Goals as goal
 
@@ -57,3 +58,11 @@ returns-in-Some-clause-drill_complete g c = λ word n asks count. drill_low _ _ 
 
 pub returns-in-None-clause-drill_complete : goal.returns-in-None-clause-drill_complete
 returns-in-None-clause-drill_complete g c = λ word n asks count. drill_low _ _ _ _ word n count (drill_without (c.args.trace.now ≡ c.args.trace.now) refl _ _ _ _ _ c.do_without.ensures word asks)
+
+pub returns-in-Some-clause-headline : goal.returns-in-Some-clause-headline
+returns-in-Some-clause-headline g c = rw c.in-Some.is (λ store_path keys_path lanes turns trace k keys asks are has p at past stood.
+    told_promised g.S.Store.disk _ _ _ _ _ _ _ _ _ _ _ (λ x image left. g.met.S.Store.only_now x image left) (λ x tells leaves. g.met.S.Store.includes_reads x tells leaves) c.do_with.ensures.goes turns k keys p at past stood lanes trace are has
+    (run_over g.S.Store.disk _ _ _ _ _ _ _ _ _ _ _ _ c.do_with.ensures.does store_path keys_path lanes turns trace asks))
+
+pub returns-in-None-clause-headline : goal.returns-in-None-clause-headline
+returns-in-None-clause-headline g c = rw c.in-None.is (λ store_path keys_path lanes turns trace k keys asks are has. tt)

@@ -1,0 +1,328 @@
+-- The headline, from what a run has done.
+use Rattle.std.proofs.Common.{◌≡◌, ◌∙◌, ◌+◌, ℕ, suc, Bool, not, List, [], ◌∷◌, ◌++◌, length, Option, Some, None, refl, sym, subst, inl, inr, arith}
+use Rattle.std.proofs.lemmas.List.{append-nil}
+use Rattle.std.specs.Borrow.{Bor}
+use Rattle.std.specs.Ordering.{nat_cmp}
+use Rattle.std.specs.Prelude.{decimal}
+use Rattle.ob_base.specs.Causes.{Rose}
+use Rattle.ob_base.specs.declared.fault.Fault.TheVariants.{Memory, Usage, BadScript, BadParams, NotStore, Damaged, StoreFault, StashFull, Worn, SourceFault, SinkFault}
+use Rattle.ob_base.specs.declared.params.Params.{Params}
+use Rattle.ob_conduct.specs.Acts.{calls, history}
+use Rattle.ob_conduct.specs.Records.{IsOver, contents}
+use Rattle.ob_conduct.specs.declared.run_err.RunErr.{RunErr}
+use Rattle.ob_conduct.specs.declared.run_err.RunErr.TheVariants as failed
+use Rattle.ob_desk.specs.Beats.{BeatKind}
+use Rattle.ob_io.specs.Flows.{appended}
+use Rattle.ob_io.specs.Streams.{Flow}
+use Rattle.ob_recover.proofs.Pads.{life_goes_on}
+use Rattle.ob_recover.specs.Calls.{Finds}
+use Rattle.ob_recover.specs.Life.{IsLife, LifeAct, LifeState, reached}
+use Rattle.ob_report.specs.Faults.{fault_line, status_of}
+use Rattle.ob_report.specs.Printed.{IsPrinted}
+use Rattle.ob_report.specs.Report.{report}
+use Rattle.ob_script.specs.Script.{Scripts}
+use Rattle.ob_seal.specs.declared.keys.Keys.{Keys}
+use Rattle.ob_serial.specs.Serial.{EpochRecord, Map, OneByOne, committed_of}
+use Rattle.ob_serial.specs.Vaults.{Standing, VaultAnswer, VaultCall}
+use Rattle.ob_session.proofs.Runs.{records_tell}
+use Rattle.ob_session.specs.Clients.{said_by, told_of}
+use Rattle.ob_session.specs.Records.{TellAll, txns_by}
+use Rattle.ob_store.proofs.Keeping.{same_none}
+use Rattle.ob_store.proofs.Moments.{leaves_of}
+use Rattle.ob_store.proofs.Serving.{rose_later}
+use Rattle.ob_store.specs.Calls.{GoesOn}
+use Rattle.ob_store.specs.Disk.{Disk, Image}
+use Rattle.ob_store.specs.Images.{IsImageOf, LeavesOnly, Passes, Same}
+use Rattle.ob_store.specs.Lines.{Trace, open_line}
+use Rattle.ob_vault.proofs.Standing.{ring_keeps}
+use Rattle.ob_vault.proofs.Whole.{whole_run}
+use Rattle.ob_vault.specs.Acts.{AreTapeWords}
+use Rattle.ob_vault.specs.Kinds.{AllStand, IsOpenedAt, Stands, StandsAsBefore}
+use Rattle.ob_vault.specs.Lives.{IsLeftInLife, IsNextInLife, IsOpenedInLife, IsRunInLife, opening_acts, ring_lives}
+use Rattle.ob_vault.specs.RingKind.{RingFound, ring_hidden, ring_kind}
+use Rattle.ob_vault.specs.Shapes.{Shape, answered, refused, shapes}
+use Rattle.ob_words.proofs.Named.{keys_stand, no_bad_lanes, one_keys}
+use Rattle.ob_words.specs.Work.{AreLanes, HasKeys}
+use Rattle.ob_top.specs.Calls.{RunCall, EndPoint, IsRunCause, end_point}
+use Rattle.ob_top.specs.Endings.{told_fault}
+use Rattle.ob_top.specs.Headline.{Headline, RunTold, Stood}
+use Rattle.ob_top.specs.Listed.{AreListed}
+use Rattle.ob_top.specs.Outside.{Given, HasTrace, Outside, blind}
+use Rattle.ob_top.specs.Pasts.{LeadsTo, PastLife, life_of, with_acts}
+use Rattle.ob_top.specs.Promised.{Promised, Unserved, faults_of}
+use Rattle.ob_top.specs.Runs.{EndsEarly, EndsFor, EndsWith, IsNextEpoch, LeftByWholeRun, Ran, RunDone, Went, manner}
+use Rattle.ob_top.specs.Sound.{StandsOn}
+use Rattle.ob_top.specs.Top.{ByTrace}
+use Rattle.ob_top.proofs.Completing.{RunTells}
+use Rattle.ob_top.proofs.Counted.{one_lanes}
+use Rattle.ob_top.proofs.Lasting.{fresh_on, leads_on, opened_there, opened_turn, stopped_next}
+use Rattle.ob_top.proofs.Sounding.{none_told_at_0}
+
+no_rise : Rose 0 0 → ⊥
+no_rise rose = omega (arith, rose)
+
+-- the next epoch's record, of the map that was found
+next_of : (IsMap : Map nat_cmp → Type 0) (m : Map nat_cmp) (epoch : ℕ) (script : Scripts) (records : List (EpochRecord ℕ)) (next : Option (EpochRecord ℕ)) → IsMap m → IsNextEpoch IsMap epoch script records next → IsNextEpoch (λ n. n ≡ m) epoch script records next
+next_of IsMap m epoch script records None is comes = tt
+next_of IsMap m epoch script records (Some r) is comes = record {
+  epoch_is = comes.epoch_is;
+  served = comes.served;
+  in_order = comes.in_order;
+  one_by_one = λ n same. subst (λ (x : Map nat_cmp). OneByOne nat_cmp x (committed_of (records ++ r ∷ [])) (contents x (records ++ r ∷ []))) (sym same) (comes.one_by_one m is);
+}
+
+module _ {S : Type 0} (disk : S → Disk) (keys : Keys) (call : RunCall S) (t u : Trace) (traced : Rose t.faults u.faults → Rose call.traced_before call.traced_after) where
+  -- why it ended
+  cause_of : (p : Params) (found : RingFound) (opened : S) (so_far : List Shape) (end : EndPoint) (err : Option RunErr)
+      → EndsFor ring_kind keys p found (disk opened) end.behind so_far end.epochs end.call end.words (disk call.old) (disk call.new) call.before.output call.after.output t u err → IsRunCause disk keys p call found opened end err
+  cause_of p found opened so_far end None cause = tt
+  cause_of p found opened so_far end (Some failed.Unwatched) (broken, rose) = traced rose
+  cause_of p found opened so_far end (Some (failed.Fault Memory)) cause = tt
+  cause_of p found opened so_far end (Some (failed.Fault SinkFault)) cause = cause
+  cause_of p found opened so_far end (Some (failed.Fault (StoreFault unsure))) cause = cause
+  cause_of p found opened so_far end (Some (failed.Fault (Worn number))) cause = cause
+  cause_of p found opened so_far end (Some (failed.Fault Usage)) cause = cause
+  cause_of p found opened so_far end (Some (failed.Fault (BadScript line))) cause = cause
+  cause_of p found opened so_far end (Some (failed.Fault (BadParams field))) cause = cause
+  cause_of p found opened so_far end (Some (failed.Fault NotStore)) cause = cause
+  cause_of p found opened so_far end (Some (failed.Fault (Damaged cell check kept computed))) cause = cause
+  cause_of p found opened so_far end (Some (failed.Fault (StashFull rows))) cause = cause
+  cause_of p found opened so_far end (Some (failed.Fault SourceFault)) cause = cause
+
+  module _ (includes_reads : (x : S) → (disk x).tells → (disk x).leaves → (disk x).may_leave (disk x).cells) (goes : GoesOn (disk call.old) (disk call.new)) (at : Standing) (past : PastLife) (records : List (EpochRecord ℕ)) (err : Option RunErr) where
+    abbrev Output : Type 0
+    Output = (call.status ≡ status_of (told_fault err)) × IsPrinted call.before.output call.after.output (report decimal records ++ fault_line (told_fault err)) × (err ≡ None → call.after.output.bytes ≡ appended call.before.output.bytes (report decimal records))
+
+    module _ (r : Ran ring_kind ring_lives disk call.by call.tape keys call.old call.new call.before call.after t u records err) (stood : Stood disk keys r.p at past call.tape call.old) where
+      abbrev p : Params
+      p = r.p
+
+      abbrev s : LifeState
+      s = life_of p past
+
+      abbrev asked : List (VaultCall × VaultAnswer)
+      asked = calls r.is_served.served.acts
+
+      pub opened_at : IsOpenedAt ring_kind keys p at r.found (disk r.between)
+      opened_at = r.stood at stood.tells.0 stood.is_at.stands
+
+      pub left : LeftByWholeRun ring_kind keys p r.found at r.script records err r.is_served.served.acts disk (disk call.old) (disk r.between) (disk call.new)
+      left = r.left at stood.tells.0 stood.is_at.stands stood.sound
+
+      tape_words : AreTapeWords past.word_of (ring_hidden r.found).generation call.tape.words
+      tape_words = subst (λ g. AreTapeWords past.word_of g call.tape.words) r.in_generation stood.words
+
+      opened_in_life : IsOpenedInLife p past.word_of r.found s
+      opened_in_life = r.opens_life stood.tells.0 past.word_of s stood.is_at.there stood.is_past.small
+
+      abbrev in_life : IsRunInLife keys call.by.lanes p past.word_of s r.found (disk r.between) (answered asked) r.traced.steps r.traced.behind (refused asked) call.tape.words r.traced.more (disk call.new)
+      in_life = whole_run keys call.by.lanes p (disk call.old).cells r.found (disk r.between) (disk call.new) (answered asked) r.traced.steps r.traced.behind (refused asked) call.tape.words r.traced.more (r.opens_life stood.tells.0) r.goes_on past.word_of s stood.is_at.there
+          stood.is_past.small tape_words
+
+      module _ (w : IsRunInLife keys call.by.lanes p past.word_of s r.found (disk r.between) (answered asked) r.traced.steps r.traced.behind (refused asked) call.tape.words r.traced.more (disk call.new)) where
+        abbrev l : IsLeftInLife keys call.by.lanes p past.word_of (reached p past.word_of (reached p past.word_of s (opening_acts s)) w.goes.acts) r.traced.behind (refused asked) call.tape.words r.traced.more (disk call.new)
+        l = w.goes.left at.content opened_at.content
+
+        abbrev told : RunTold S
+        told = record {
+          script = r.script;
+          found = r.found;
+          start = r.start;
+          opened = r.between;
+          records = records;
+          next = left.next;
+          err = err;
+          events = r.events;
+          shown = w.goes.acts;
+          cut = l.made;
+          flying = l.in_flight;
+        }
+
+        abbrev made : List LifeAct
+        made = opening_acts s ++ w.goes.acts
+
+        life_made : IsLife p past.word_of s (made ++ l.made)
+        life_made = life_goes_on p past.word_of s made l.made w.is_life (subst (λ (x : LifeState). IsLife p past.word_of x l.made) (sym w.leads) l.is_life)
+
+        abbrev Next : Image → Type 0
+        Next c = (found : List LifeAct) × Finds l.in_flight found × LeadsTo keys p (with_acts past (made ++ (l.made ++ found))) c
+
+        -- where the next run may begin
+        left_there : (c : Image) → (disk call.new).may_leave c → Next c
+        left_there c may =
+            let n : IsNextInLife keys p past.word_of s made l.made l.in_flight c = w.next at.content opened_at.content c may in
+            let (now, stands, allowed) = left.now c (inl may) in
+            (n.found, n.finds, subst (λ (m : List LifeAct). LeadsTo keys p (with_acts past (made ++ m)) c) n.begins (leads_on p past stood.is_past (made ++ n.more) n.is_life n.turn keys c now (ring_kind.generation r.found, stands) n.stands n.small))
+
+        next_there : (c : Image) → IsImageOf (disk call.new) c → Next c
+        next_there c (inl may) = left_there c may
+        next_there c (inr (tells, same)) = subst Next (sym same) (left_there (disk call.new).cells (includes_reads call.new tells (goes.leaves.0 stood.tells.1)))
+
+        listed : AreListed ring_kind keys p at (ring_kind.left p r.found) r.script.clients r.is_served.served.acts
+        listed = subst (λ n. AreListed ring_kind keys p (record { epoch = n; content = at.content }) (ring_kind.left p r.found) r.script.clients r.is_served.served.acts) opened_at.epoch (r.world at.content opened_at.content)
+
+        all_told : err ≡ None → (client : ℕ) → TellAll client (txns_by client records) (told_of (said_by client (history r.is_served.served.acts)))
+        all_told none client =
+            let served = r.is_served.served in
+            let over : IsOver served.desk = subst (λ (e : Option RunErr). EndsWith e served.acts served.desk) none r.is_served.ends in
+            subst (λ (rs : List (EpochRecord ℕ)). TellAll client (txns_by client rs) (told_of (said_by client (history served.acts)))) (sym served.told_are)
+            (records_tell.all (record { params = p }) (suc (ring_kind.epoch r.found)) (ring_kind.left p r.found) r.script.clients (history served.acts) served.desk client r.is_served.opens served.leads over.at_rest)
+
+        pub headline : Output → Headline disk keys p at past call told
+        headline output = record {
+          came = (r.opened, opened_at);
+          serial = r.is_served.one_by_one at.content opened_at.content;
+          scripts = (r.is_served.served.first, r.is_served.all);
+          served = r.is_served.served;
+          world = listed;
+          over = (r.is_served.ends, all_told);
+          output = output;
+          opening = left.opening;
+          prefix = left.stages;
+          next = (left.closed, next_of (ring_kind.is_map keys p (disk r.between) r.found) at.content (suc at.epoch + length records) r.script records left.next opened_at.content left.is_next);
+          kept = left.now;
+          seen = (r.opening_seen, r.serving_seen);
+          trace = r.traced;
+          cause = cause_of p r.found r.between (shapes asked) (end_point (length records) r.traced) err r.cause;
+          filled = (r.in_generation, opened_in_life, w.goes.shown, record { first = l.first; shown = l.shown });
+          fresh = fresh_on p past stood.is_past (made ++ l.made) life_made (w.turn_left at.content opened_at.content);
+          pads = r.lives;
+          again = (next_there, λ none. (r.tells none stood.tells.0, goes.leaves.0 stood.tells.1));
+        }
+
+      pub by_ran : Output → (run : RunTold S) × Headline disk keys p at past call run
+      by_ran output = (told in_life, headline in_life output)
+
+    -- ---- where nothing was run
+
+    module _ (only_now : (x : S) (c : Image) → (disk x).left_since (disk x).moment c → (disk x).may_leave c) (p : Params) (stood : Stood disk keys p at past call.tape call.old) where
+      abbrev here : LifeState
+      here = life_of p past
+
+      stands_so : (c : Image) → Stands ring_kind keys p c at → ((disk call.old).cells ≡ c) → StandsAsBefore ring_kind keys p (disk call.old) c
+      stands_so c (g, stands) same = record { at = at; generation = g; stands = stands; earlier = g; no_lower = omega arith; was = inl (subst (λ (i : Image). ring_kind.stands keys p g i at) (sym same) stands) }
+
+      left_so : (c : Image) → (disk call.old).may_leave c → StandsAsBefore ring_kind keys p (disk call.old) c
+      left_so c may =
+          let (now, (g, stands)) = stood.sound c may in
+          record { at = now; generation = g; stands = stands; earlier = g; no_lower = omega arith; was = inr (c, may, stands) }
+
+      pub read_only : Passes Same (disk call.old) (disk call.new) → Unserved disk keys p past call.old call.new
+      read_only passes = record {
+        opening = leaves_of Same (StandsAsBefore ring_kind keys p (disk call.old)) (StandsAsBefore ring_kind keys p (disk call.old)) (disk call.old) (disk call.new) passes (only_now call.old) left_so (λ tells. stands_so (disk call.old).cells stood.is_at.stands refl)
+            (λ c d was same. subst (StandsAsBefore ring_kind keys p (disk call.old)) (sym same) was) (λ c was. was);
+        sound = λ c may.
+            let (d, was, same) = passes.now c may in
+            let (now, stands) = stood.sound d was in
+            (now, subst (λ (i : Image). Stands ring_kind keys p i now) (sym same) stands);
+        again = λ there c may.
+            let (d, was, same) = passes.now c may in
+            let (now, stands) = stood.sound d was in
+            ([], opening_acts here, refl, subst (LeadsTo keys p (with_acts past [])) (sym same) (leads_on p past stood.is_past [] tt (λ k. tt) keys d now stands (there d was) stood.is_past.small));
+      }
+
+      module _ (sound : StandsOn ring_kind disk keys call.old call.new) where
+        images : AllStand ring_kind keys p (disk call.new)
+        images = (sound p stood.tells.0 (record { cells = λ tells. (at, stood.is_at.stands); images = stood.sound })).images
+
+        one_p : (q : Params) → ((disk call.old).tells → ring_kind.is_head keys q ((disk call.old).cells 0)) → p ≡ q
+        one_p q head =
+            let (g, stands) = stood.is_at.stands in
+            ring_keeps.one_head keys p q ((disk call.old).cells 0) (ring_keeps.has_head keys p g (disk call.old).cells at stands) (head stood.tells.0)
+
+        pub early : (e : RunErr) → EndsEarly ring_kind ring_lives keys call.by.lanes (disk call.old) (disk call.new) t u disk call.before.input call.after.input e → Unserved disk keys p past call.old call.new
+        early (failed.Fault refusal) (inl head) = read_only head.passes
+        early (failed.Fault refusal) (inr (inl input)) = read_only input.passes
+        early (failed.Fault refusal) (inr (inr o)) =
+            let same : o.p ≡ p = sym (one_p o.p o.head) in
+            record {
+              opening = subst (λ (q : Params). LeavesOnly (disk call.old) (disk call.new) (StandsAsBefore ring_kind keys q (disk call.old))) same
+                  (o.left at stood.tells.0 (subst (λ (q : Params). Stands ring_kind keys q (disk call.old).cells at) (sym same) stood.is_at.stands) (subst (λ (q : Params). AllStand ring_kind keys q (disk call.old)) (sym same) stood.sound));
+              sound = images;
+              again = λ there c may.
+                  let (first, rest, is, life, turn, stands, small) = stopped_next keys p past.word_of here (disk call.new) stood.is_past.small (subst (λ (q : Params). ring_lives.stops keys q (disk call.old) (disk call.new)) same (o.stops_life stood.tells.0) past.word_of here stood.is_at.there there) c may in
+                  let (now, allowed) = images c may in
+                  (first, rest, is, leads_on p past stood.is_past first life turn keys c now allowed stands small);
+            }
+        early failed.Unwatched (inl head) = read_only head.passes
+        early failed.Unwatched (inr o) =
+            let same : o.p ≡ p = sym (one_p o.p o.opened.head) in
+            let stands = subst (λ (q : Params). Stands ring_kind keys q (disk call.old).cells at) (sym same) stood.is_at.stands in
+            record {
+              opening = subst (λ (q : Params). LeavesOnly (disk call.old) (disk call.new) (StandsAsBefore ring_kind keys q (disk call.old))) same (o.left at stood.tells.0 stands (subst (λ (q : Params). AllStand ring_kind keys q (disk call.old)) (sym same) stood.sound));
+              sound = images;
+              again = λ there c may.
+                  let opened = subst (λ (q : Params). IsOpenedAt ring_kind keys q at o.found (disk call.new)) same (o.stood at stood.tells.0 stands) in
+                  let begun = subst (λ (q : Params). ring_lives.begins keys q (disk call.old).cells o.found) same (o.opens_life stood.tells.0) past.word_of here stood.is_at.there stood.is_past.small in
+                  let (now, allowed) = images c may in (
+                    opening_acts here,
+                    [],
+                    sym (append-nil (opening_acts here)),
+                    leads_on p past stood.is_past (opening_acts here) begun.is_life (opened_turn keys p past.word_of here o.found (disk call.new) begun at.content opened.content) keys c now allowed
+                        (opened_there keys p past.word_of here o.found (disk call.new) begun at.content opened.content c may) begun.then.small,
+                  );
+            }
+
+    -- ---- both
+
+    module _ (only_now : (x : S) (c : Image) → (disk x).left_since (disk x).moment c → (disk x).may_leave c) (output : Output) (sound : StandsOn ring_kind disk keys call.old call.new) (p : Params) (stood : Stood disk keys p at past call.tape call.old) where
+      by_run : Ran ring_kind ring_lives disk call.by call.tape keys call.old call.new call.before call.after t u records err → Promised disk keys p at past call
+      by_run r =
+          let same : r.p ≡ p = sym (one_p only_now p stood sound r.p r.opened.head) in
+          subst (λ (q : Params). Stood disk keys q at past call.tape call.old → Promised disk keys q at past call) same (λ so. inl (by_ran r so output)) stood
+
+  module _ (only_now : (x : S) (c : Image) → (disk x).left_since (disk x).moment c → (disk x).may_leave c) (includes_reads : (x : S) → (disk x).tells → (disk x).leaves → (disk x).may_leave (disk x).cells) (goes : GoesOn (disk call.old) (disk call.new))
+      (p : Params) (at : Standing) (past : PastLife) (stood : Stood disk keys p at past call.tape call.old) where
+    by_went : (records : List (EpochRecord ℕ)) (err : Option RunErr) → Output includes_reads goes at past records err → StandsOn ring_kind disk keys call.old call.new
+        → Went ring_kind ring_lives disk call.by call.tape keys call.old call.new call.before call.after t u records err → Promised disk keys p at past call
+    by_went records None output sound ran = by_run includes_reads goes at past records None only_now output sound p stood ran
+    by_went records (Some err) output sound (inr ran) = by_run includes_reads goes at past records (Some err) only_now output sound p stood ran
+    by_went records (Some err) output sound (inl (none, ended, lives)) = inr ((λ zero. no_err (none_told_at_0 (Some err) (sym output.0 ∙ zero))), early includes_reads goes at past records (Some err) only_now p stood sound err ended)
+      where
+        no_err : ◌≡◌ {A = Option RunErr} (Some err) None → ⊥
+        no_err e = cc e
+
+    pub done_promised : RunDone ring_kind ring_lives disk call.by call.tape keys call.old call.new call.before call.after t u call.status → Promised disk keys p at past call
+    done_promised d = by_went d.records d.err (d.status_is, d.output_is, d.all_written) d.sound d.went
+
+    -- nothing was done
+    pub none_promised : (n : ℕ) → call.status ≡ suc n → call.new ≡ call.old → Promised disk keys p at past call
+    none_promised n status same =
+        inr ((λ zero. no_zero (sym zero ∙ status)), read_only includes_reads goes at past [] None only_now p stood (subst (λ (x : S). Passes Same (disk call.old) (disk x)) (sym same) (same_none (disk call.old))))
+      where
+        no_zero : 0 ≡ suc n → ⊥
+        no_zero e = omega (arith, e)
+
+-- ---- by the words
+
+module _ {S W : Type 0} (disk : S → Disk) (flow : W → Flow) (beat : BeatKind) (tape : Given) (text : Option (Bor (List ℕ))) (old new : S) (was is : Option W) (before after : Outside) (status : ℕ)
+    (only_now : (x : S) (c : Image) → (disk x).left_since (disk x).moment c → (disk x).may_leave c) (includes_reads : (x : S) → (disk x).tells → (disk x).leaves → (disk x).may_leave (disk x).cells) (goes : GoesOn (disk old) (disk new)) where
+  abbrev pub called : Bool → ℕ → RunCall S
+  called turns k = record { old = old; new = new; before = before; after = after; traced_before = faults_of flow was; traced_after = faults_of flow is; by = manner beat (not turns) k; tape = tape; status = status }
+
+  module _ (turns : Bool) (k : ℕ) (keys : Keys) (p : Params) (at : Standing) (past : PastLife) (stood : Stood disk keys p at past tape old) where
+    abbrev Keeps : Type 0
+    Keeps = Promised disk keys p at past (called turns k)
+
+    -- what rose for the watch rose for its sink
+    sink_rose : (first : List ℕ) (t u : Trace) → HasTrace flow first was is t u → Rose t.faults u.faults → Rose (faults_of flow was) (faults_of flow is)
+    sink_rose first t u has rose =
+        subst (λ (x : Option W). Rose (faults_of flow x) (faults_of flow is)) (sym has.was_is) (subst (λ (x : Option W). Rose (flow has.before).faults (faults_of flow x)) (sym has.is_is)
+        (subst (λ n. Rose (flow has.before).faults n) (sym has.told.1) (subst (λ n. Rose n u.faults) (sym has.tells.1) (rose_later has.start.faults t.faults u.faults has.line.faults rose))))
+
+    abbrev Done : Trace → Trace → Type 0
+    Done t u = RunDone ring_kind ring_lives disk (manner beat (not turns) k) tape keys old new before after t u status
+
+    by_trace : (trace : Option (List ℕ)) → ByTrace flow was is before after status trace open_line Done old new → Keeps
+    by_trace None (kept, done) = done_promised disk keys (called turns k) blind blind (λ rose. absurd (no_rise rose)) only_now includes_reads goes p at past stood done
+    by_trace (Some file) (inl (none, kept, same, line)) = none_promised disk keys (called turns k) blind blind (λ rose. absurd (no_rise rose)) only_now includes_reads goes p at past stood 6 line.status_is same
+    by_trace (Some file) (inr (t, u, has, inl (broken, still, same, line))) = none_promised disk keys (called turns k) t u (sink_rose open_line t u has) only_now includes_reads goes p at past stood 6 line.status_is same
+    by_trace (Some file) (inr (t, u, has, inr (whole, done))) = done_promised disk keys (called turns k) t u (sink_rose open_line t u has) only_now includes_reads goes p at past stood done
+
+    pub told_promised : (lanes trace : Option (List ℕ)) → AreLanes lanes k → HasKeys text keys → RunTells disk flow beat tape [] text old new was is before after status lanes turns trace → Keeps
+    told_promised lanes trace are has (inl (kept, line)) = none_promised disk keys (called turns k) blind blind (λ rose. absurd (no_rise rose)) only_now includes_reads goes p at past stood 8 line.status_is kept.0
+    told_promised lanes trace are has (inr (inl (bad, line))) = absurd (no_bad_lanes lanes k are bad)
+    told_promised lanes trace are has (inr (inr (m, these, inl (f, refusal, line)))) = absurd (keys_stand text keys f has refusal)
+    told_promised lanes trace are has (inr (inr (m, these, inr (own, holds, by)))) =
+        by_trace trace (subst (λ (x : Keys). ByTrace flow was is before after status trace open_line (λ t u. RunDone ring_kind ring_lives disk (manner beat (not turns) k) tape x old new before after t u status) old new) (one_keys text own keys holds has)
+        (subst (λ n. ByTrace flow was is before after status trace open_line (λ t u. RunDone ring_kind ring_lives disk (manner beat (not turns) n) tape own old new before after t u status) old new) (one_lanes lanes m k these are) by))
