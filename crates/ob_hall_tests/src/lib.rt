@@ -1,4 +1,5 @@
-//! Tests of turns, bells and halls, alone and by threads: clients' calls, and clients' threads.
+//! Tests of turns, bells, claims and halls, alone and by threads: clients' calls, and clients'
+//! threads.
 #![tactic(auto)]
 
 #[cfg(test)]
@@ -7,6 +8,8 @@ mod asking;
 mod bells;
 #[cfg(test)]
 mod calls;
+#[cfg(test)]
+mod claims;
 #[cfg(test)]
 mod driver;
 #[cfg(test)]
