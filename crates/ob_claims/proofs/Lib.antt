@@ -1,4 +1,4 @@
 mod ClaimSteps
-mod Counts
+pub mod Counts
 mod Rounds
 mod Sums
