@@ -54,7 +54,7 @@ module _ (p : Params) (w w' : WordId → ℕ) (to from : ℕ → ℕ) (m : Permu
 
 -- ---- leaves from fills
 
-leaves_in_fills : (p : Params) (w w' : WordId → ℕ) (some : 0 < p.dummies) (ls ms : List LabelFill) → map (leaf_fill p w) ls ≡ map (leaf_fill p w') ms → map (leaf p some w w') ls ≡ map (leaf' p some w w') ms
+pub leaves_in_fills : (p : Params) (w w' : WordId → ℕ) (some : 0 < p.dummies) (ls ms : List LabelFill) → map (leaf_fill p w) ls ≡ map (leaf_fill p w') ms → map (leaf p some w w') ls ≡ map (leaf' p some w w') ms
 leaves_in_fills p w w' some ls ms e = sym (both_maps w ls) ∙ ap (map (λ (f : LeafFill). f.leaf)) e ∙ both_maps w' ms
   where
     both_maps : (v : WordId → ℕ) (xs : List LabelFill) → map (λ (f : LeafFill). f.leaf) (map (leaf_fill p v) xs) ≡ map (λ (l : LabelFill). (leaf_fill p v l).leaf) xs

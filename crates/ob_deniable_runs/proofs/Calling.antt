@@ -23,25 +23,25 @@ use Rattle.ob_vault.specs.Shown.{AreActsOf, AreShownBy}
 
 -- ---- shapes and puts of rows
 
-shapes_join : (xs ys us vs : List LifeWork) → SameShape xs us → SameShape ys vs → SameShape (xs ++ ys) (us ++ vs)
+pub shapes_join : (xs ys us vs : List LifeWork) → SameShape xs us → SameShape ys vs → SameShape (xs ++ ys) (us ++ vs)
 shapes_join [] ys [] vs one two = two
 shapes_join [] ys (u ∷ us) vs one two = absurd one
 shapes_join (x ∷ xs) ys [] vs one two = absurd one
 shapes_join (x ∷ xs) ys (u ∷ us) vs one two = (one.0, shapes_join xs ys us vs one.1 two)
 
-record IsCut (p : Params) (xs : List LifeWork) (work : List LifeWork) : Type 0 where
-  first : List LifeWork
-  rest : List LifeWork
-  is : work ≡ first ++ rest
-  shape : SameShape xs first
+pub record IsCut (p : Params) (xs : List LifeWork) (work : List LifeWork) : Type 0 where
+  pub first : List LifeWork
+  pub rest : List LifeWork
+  pub is : work ≡ first ++ rest
+  pub shape : SameShape xs first
 
-cut_at : (p : Params) (xs ys work : List LifeWork) → SameShape (xs ++ ys) work → IsCut p xs work
+pub cut_at : (p : Params) (xs ys work : List LifeWork) → SameShape (xs ++ ys) work → IsCut p xs work
 cut_at p [] ys work sh = record { first = []; rest = work; is = refl; shape = tt }
 cut_at p (x ∷ xs) ys [] sh = absurd sh
 cut_at p (x ∷ xs) ys (w ∷ work) sh = let r = cut_at p xs ys work sh.1 in record { first = w ∷ r.first; rest = r.rest; is = ap (λ (more : List LifeWork). w ∷ more) r.is; shape = (sh.0, r.shape) }
 
 -- the generation, and how many of its words were drawn, behind a work
-counted : ℕ × ℕ → List LifeWork → ℕ × ℕ
+pub counted : ℕ × ℕ → List LifeWork → ℕ × ℕ
 counted at [] = at
 counted at (Opens h ∷ rest) = counted (h, 0) rest
 counted at (Logs asks first ∷ rest) = counted (at.0, at.1 + length asks) rest
@@ -49,10 +49,10 @@ counted at (Shows ∷ rest) = counted at rest
 counted at (Lifts ∷ rest) = counted at rest
 counted at (Ends ws n ∷ rest) = counted (at.0, n) rest
 
-abbrev PutsFrom : Params → ℕ × ℕ → List LifeWork → Type 0
+abbrev pub PutsFrom : Params → ℕ × ℕ → List LifeWork → Type 0
 PutsFrom p at work = ArePutsNext p at.0 at.1 work
 
-puts_join : (p : Params) (at : ℕ × ℕ) (xs ys : List LifeWork) → PutsFrom p at xs → PutsFrom p (counted at xs) ys → PutsFrom p at (xs ++ ys)
+pub puts_join : (p : Params) (at : ℕ × ℕ) (xs ys : List LifeWork) → PutsFrom p at xs → PutsFrom p (counted at xs) ys → PutsFrom p at (xs ++ ys)
 unfolding counted
 puts_join p at [] ys one two = two
 puts_join p at (Opens h ∷ xs) ys one two = puts_join p (h, 0) xs ys one two
@@ -61,7 +61,7 @@ puts_join p at (Shows ∷ xs) ys one two = puts_join p at xs ys one two
 puts_join p at (Lifts ∷ xs) ys one two = puts_join p at xs ys one two
 puts_join p at (Ends ws n ∷ xs) ys one two = (one.0, one.1, puts_join p (at.0, n) xs ys one.2 two)
 
-puts_front : (p : Params) (at : ℕ × ℕ) (xs ys : List LifeWork) → PutsFrom p at (xs ++ ys) → PutsFrom p at xs
+pub puts_front : (p : Params) (at : ℕ × ℕ) (xs ys : List LifeWork) → PutsFrom p at (xs ++ ys) → PutsFrom p at xs
 puts_front p at [] ys all = tt
 puts_front p at (Opens h ∷ xs) ys all = puts_front p (h, 0) xs ys all
 puts_front p at (Logs asks first ∷ xs) ys all = puts_front p (at.0, at.1 + length asks) xs ys all
@@ -71,37 +71,37 @@ puts_front p at (Ends ws n ∷ xs) ys all = (all.0, all.1, puts_front p (at.0, n
 
 -- ---- a call
 
-kept_by : WordId → List (ℕ × Option (List ℕ)) → List (ℕ × Option WordId)
+pub kept_by : WordId → List (ℕ × Option (List ℕ)) → List (ℕ × Option WordId)
 kept_by w [] = []
 kept_by w ((key, None) ∷ rest) = (key, None) ∷ kept_by (next_word w) rest
 kept_by w ((key, Some value) ∷ rest) = (key, Some w) ∷ kept_by (next_word w) rest
 
-kept_next : (w : WordId) (writes : List (ℕ × Option (List ℕ))) → AreNextPuts w (kept_by w writes)
+pub kept_next : (w : WordId) (writes : List (ℕ × Option (List ℕ))) → AreNextPuts w (kept_by w writes)
 unfolding kept_by
 kept_next w [] = tt
 kept_next w ((key, None) ∷ rest) = (tt, kept_next (next_word w) rest)
 kept_next w ((key, Some value) ∷ rest) = (refl, kept_next (next_word w) rest)
 
-kept_told : (w : WordId) (writes : List (ℕ × Option (List ℕ))) → map told_write (kept_by w writes) ≡ map told_write writes
+pub kept_told : (w : WordId) (writes : List (ℕ × Option (List ℕ))) → map told_write (kept_by w writes) ≡ map told_write writes
 unfolding kept_by
 kept_told w [] = refl
 kept_told w ((key, None) ∷ rest) = ap (λ (ts : List (ℕ × Bool)). (key, false) ∷ ts) (kept_told (next_word w) rest)
 kept_told w ((key, Some value) ∷ rest) = ap (λ (ts : List (ℕ × Bool)). (key, true) ∷ ts) (kept_told (next_word w) rest)
 
-kept_many : (w : WordId) (writes : List (ℕ × Option (List ℕ))) → length (kept_by w writes) ≡ length writes
+pub kept_many : (w : WordId) (writes : List (ℕ × Option (List ℕ))) → length (kept_by w writes) ≡ length writes
 unfolding kept_by
 kept_many w [] = refl
 kept_many w ((key, None) ∷ rest) = ap suc (kept_many (next_word w) rest)
 kept_many w ((key, Some value) ∷ rest) = ap suc (kept_many (next_word w) rest)
 
 -- a work of this shape, whose puts are next, of which this holds
-record Makes (p : Params) (at : ℕ × ℕ) (acts : List LifeAct) (Is : List LifeWork → Type 0) : Type 0 where
-  work : List LifeWork
-  shape : SameShape (map work_of acts) work
-  puts : PutsFrom p at work
-  is : Is work
+pub record Makes (p : Params) (at : ℕ × ℕ) (acts : List LifeAct) (Is : List LifeWork → Type 0) : Type 0 where
+  pub work : List LifeWork
+  pub shape : SameShape (map work_of acts) work
+  pub puts : PutsFrom p at work
+  pub is : Is work
 
-call_made : (p : Params) (at : ℕ × ℕ) (call other : VaultCall) (acts : List LifeAct) → IsOtherCall p call other → AreActsOf call acts → Makes p at acts (IsWorkOfCall other)
+pub call_made : (p : Params) (at : ℕ × ℕ) (call other : VaultCall) (acts : List LifeAct) → IsOtherCall p call other → AreActsOf call acts → Makes p at acts (IsWorkOfCall other)
 call_made p at (Fetch asks) (Fetch others) acts like (b, same, is) = record {
   work = Logs others b.first ∷ Shows ∷ [];
   shape = subst (λ (xs : List LifeAct). SameShape (map work_of xs) (Logs others b.first ∷ Shows ∷ [])) (sym is) ((ap length same ∙ like, refl), (tt, tt));
@@ -120,7 +120,7 @@ call_made p at (End writes) (End others) acts like (ws, drawn, slot, is) =
 call_made p at (Fetch asks) (End others) acts like own = absurd like
 call_made p at (End writes) (Fetch others) acts like own = absurd like
 
-both_made : (p : Params) (at : ℕ × ℕ) (xs ys : List LifeAct) (A B : List LifeWork → Type 0) (one : Makes p at xs A) → Makes p (counted at one.work) ys B → Makes p at (xs ++ ys) (λ work. (first : List LifeWork) × (rest : List LifeWork) × (work ≡ first ++ rest) × A first × B rest)
+pub both_made : (p : Params) (at : ℕ × ℕ) (xs ys : List LifeAct) (A B : List LifeWork → Type 0) (one : Makes p at xs A) → Makes p (counted at one.work) ys B → Makes p at (xs ++ ys) (λ work. (first : List LifeWork) × (rest : List LifeWork) × (work ≡ first ++ rest) × A first × B rest)
 both_made p at xs ys A B one two = record {
   work = one.work ++ two.work;
   shape = subst (λ (w : List LifeWork). SameShape w (one.work ++ two.work)) (sym (map-append work_of xs ys)) (shapes_join (map work_of xs) (map work_of ys) one.work two.work one.shape two.shape);
@@ -141,7 +141,7 @@ calls_made p tape at s (call ∷ calls) (other ∷ others) (step ∷ steps) acts
 
 -- ---- the first of what a refused call does
 
-front_made : (p : Params) (at : ℕ × ℕ) (call other : VaultCall) (acts rest : List LifeAct) → IsOtherCall p call other → AreActsOf call (acts ++ rest) → Makes p at acts (IsWorkOfRefused (Some other))
+pub front_made : (p : Params) (at : ℕ × ℕ) (call other : VaultCall) (acts rest : List LifeAct) → IsOtherCall p call other → AreActsOf call (acts ++ rest) → Makes p at acts (IsWorkOfRefused (Some other))
 front_made p at call other acts rest like own =
     let all : Makes p at (acts ++ rest) (IsWorkOfCall other) = call_made p at call other (acts ++ rest) like own in
     let cut : IsCut p (map work_of acts) all.work = cut_at p (map work_of acts) (map work_of rest) all.work (subst (λ (w : List LifeWork). SameShape w all.work) (map-append work_of acts rest) all.shape) in
@@ -152,13 +152,13 @@ front_made p at call other acts rest like own =
       is = (cut.rest, subst (λ (w : List LifeWork). IsWorkOfCall other w) cut.is all.is);
     }
 
-none_some : (A : Type 0) (a : LifeAct) → ◌≡◌ {A = Option LifeAct} None (Some a) → A
+pub none_some : (A : Type 0) (a : LifeAct) → ◌≡◌ {A = Option LifeAct} None (Some a) → A
 none_some A a e = absurd (cc)
 
-same_some : (a b : LifeAct) → ◌≡◌ {A = Option LifeAct} (Some a) (Some b) → a ≡ b
+pub same_some : (a b : LifeAct) → ◌≡◌ {A = Option LifeAct} (Some a) (Some b) → a ≡ b
 same_some a b e = cc
 
-refused_made : (p : Params) (at : ℕ × ℕ) (refused other : Option VaultCall) (made found : List LifeAct) (in_flight : Option LifeAct) → IsOtherRefused p refused other → AreFirstActs refused made in_flight → Finds in_flight found → Makes p at (made ++ found) (IsWorkOfRefused other)
+pub refused_made : (p : Params) (at : ℕ × ℕ) (refused other : Option VaultCall) (made found : List LifeAct) (in_flight : Option LifeAct) → IsOtherRefused p refused other → AreFirstActs refused made in_flight → Finds in_flight found → Makes p at (made ++ found) (IsWorkOfRefused other)
 refused_made p at None None made found in_flight like (none, idle) (inl nothing) =
     record { work = []; shape = subst (λ (xs : List LifeAct). SameShape (map work_of (xs ++ found)) []) (sym none) (subst (λ (xs : List LifeAct). SameShape (map work_of xs) []) (sym nothing) tt); puts = tt; is = refl }
 refused_made p at None None made found in_flight like (none, idle) (inr (a, flies, is)) = none_some _ a (sym idle ∙ flies)
@@ -175,15 +175,15 @@ refused_made p at (Some call) (Some other) made found in_flight like (rest, own,
 
 -- ---- an opening
 
-again_same : (n : ℕ) → map work_of (repeated n) ≡ shows_again n
+pub again_same : (n : ℕ) → map work_of (repeated n) ≡ shows_again n
 again_same zero = refl
 again_same (suc n) = ap (λ (more : List LifeWork). Shows ∷ more) (again_same n)
 
-again_puts : (p : Params) (at : ℕ × ℕ) (n : ℕ) → PutsFrom p at (shows_again n)
+pub again_puts : (p : Params) (at : ℕ × ℕ) (n : ℕ) → PutsFrom p at (shows_again n)
 again_puts p at zero = tt
 again_puts p at (suc n) = again_puts p at n
 
-opening_made : (p : Params) (at : ℕ × ℕ) (s : LifeState) → Makes p at (opening_acts s) IsWorkOfOpening
+pub opening_made : (p : Params) (at : ℕ × ℕ) (s : LifeState) → Makes p at (opening_acts s) IsWorkOfOpening
 opening_made p at s = record {
   work = Opens (suc s.generation) ∷ shows_again (length s.log);
   shape = (refl, subst (λ (w : List LifeWork). SameShape w (shows_again (length s.log))) (sym (again_same (length s.log))) (own_shape (shows_again (length s.log))));
@@ -191,7 +191,7 @@ opening_made p at s = record {
   is = (suc s.generation, length s.log, refl);
 }
 
-first_of_opening : (p : Params) (at : ℕ × ℕ) (s : LifeState) (acts rest : List LifeAct) → opening_acts s ≡ acts ++ rest → Makes p at acts (λ work. (more : List LifeWork) × IsWorkOfOpening (work ++ more))
+pub first_of_opening : (p : Params) (at : ℕ × ℕ) (s : LifeState) (acts rest : List LifeAct) → opening_acts s ≡ acts ++ rest → Makes p at acts (λ work. (more : List LifeWork) × IsWorkOfOpening (work ++ more))
 first_of_opening p at s acts rest is =
     let all : Makes p at (acts ++ rest) IsWorkOfOpening = subst (λ (xs : List LifeAct). Makes p at xs IsWorkOfOpening) is (opening_made p at s) in
     let cut : IsCut p (map work_of acts) all.work = cut_at p (map work_of acts) (map work_of rest) all.work (subst (λ (w : List LifeWork). SameShape w all.work) (map-append work_of acts rest) all.shape) in
