@@ -1,0 +1,13 @@
+pub mod Obeying
+pub mod Lists
+pub mod Stays
+pub mod Keeping
+pub mod BatchDraws
+pub mod EndDraws
+pub mod Pairs
+pub mod Notes
+pub mod Numbers
+pub mod Matching
+pub mod Walking
+pub mod Sides
+pub mod RunsWalk
