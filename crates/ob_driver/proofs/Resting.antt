@@ -29,10 +29,10 @@ module _ (hall : Hall) (before mid : Pass) (d : DeskState) (driver : IsDriver ha
   pub mid_place : pass_place mid ≡ zero
   mid_place = (λ i. (entered.enters.knows i).by) ∙ driver.place
 
-  legal : IsLegal hall (history_of mid) d
+  pub legal : IsLegal hall (history_of mid) d
   legal = entered_legal hall before mid d driver.own entered
 
-  mine : entries_of 0 (history_of mid) ≡ entries_by before
+  pub mine : entries_of 0 (history_of mid) ≡ entries_by before
   unfolding mid_place
   mine = ap (λ (n : ℕ). entries_of n (history_of mid)) (sym mid_place) ∙ (entered.enters.own ∙ (λ i. (entered.enters.knows i).mine))
 

@@ -127,7 +127,7 @@ back_mild [] ys mild = mild
 back_mild (x ∷ xs) ys mild = back_mild xs ys (All-tail IsMild x (xs ++ ys) mild)
 
 -- Where the driver's calls are mild all are.
-history_mild : (x : DeskState) (es : List (Entry Steps)) (y : DeskState) → LeadsByTurns IsTurn x es y → All IsMild (calls_in (entries_of 0 es)) → All IsMild (calls_in es)
+pub history_mild : (x : DeskState) (es : List (Entry Steps)) (y : DeskState) → LeadsByTurns IsTurn x es y → All IsMild (calls_in (entries_of 0 es)) → All IsMild (calls_in es)
 history_mild x [] y leads mild = All-nil IsMild
 history_mild x (e ∷ es) y (z, calls, rest) mild = by_caller e.by refl (0 == e.by) refl mild (λ later. history_mild z es y rest later)
   where

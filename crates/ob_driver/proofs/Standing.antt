@@ -108,3 +108,7 @@ made_then a b c n k m x y = record {
 -- this turn's, and then others
 pub goes_then : (now after last : Pass) (count m : ℕ) → IsTurnAt now count → EndsItsTurn now after → MakesEntries after count last m → MakesFromItsTurn now count last m
 goes_then now after last count m at e y = λ told lt. made_then now after last told count m (goes_on_ended now after count at e told lt) y
+
+-- from this turn on, and then others
+pub goes_more : (now mid last : Pass) (count k m : ℕ) → MakesFromItsTurn now count mid k → MakesEntries mid k last m → MakesFromItsTurn now count last m
+goes_more now mid last count k m goes y = λ told lt. made_then now mid last told k m (goes told lt) y

@@ -101,7 +101,7 @@ pub record FailsOnce {V : Type 0} (k : Kind V) (beat : BeatKind) (hall : Hall) (
   pub one : IsOneThing acts
   pub fails : Fails k beat hall old c new acts err
 
--- An epoch was ended and published as this record, in one turn, and its lines aren't written yet.
+-- An epoch was closed, ended and published as this record, and its lines aren't written yet.
 pub record EndedOnce {V : Type 0} (k : Kind V) (beat : BeatKind) (hall : Hall) (old : Side V) (c : VaultCounts) (new : Side V) (next : VaultCounts) (told : EpochRecord ℕ) : Type 0 where
   pub look : Look
   pub batches : List Batch

@@ -1,4 +1,4 @@
--- Private: parts of the driver's turns: a batch read within one, and an epoch closed, ended and published.
+-- Private: parts of the driver's turns: a batch read within one, and what is told of an epoch that was closed.
 use Rattle.std.specs.Prelude.{◌≡◌, ℕ, suc, true, List, [], ◌∷◌, ◌++◌, Option, Err}
 use Rattle.ob_base.specs.Causes.{Rose}
 use Rattle.ob_base.specs.declared.fault.Fault.{Fault}
@@ -16,7 +16,7 @@ use Rattle.ob_desk.specs.declared.calls.Look.{Look}
 use Rattle.ob_hall.specs.Passes.{Hall, Pass}
 use Rattle.ob_conduct.specs.declared.run_err.RunErr.{RunErr}
 use Rattle.ob_conduct.specs.declared.run_err.RunErr.TheVariants as failed
-use Rattle.ob_conduct.specs.Acts.{Batch, look_calls, rest_calls, rest_fetches, close_calls, publish_calls, stop_for, fault_in, fault_of}
+use Rattle.ob_conduct.specs.Acts.{Batch, look_calls, rest_calls, rest_fetches, publish_calls, stop_for, fault_in, fault_of}
 use Rattle.ob_conduct.specs.Scenes.{Scene, AllNoted}
 use Rattle.ob_conduct.specs.Ready.{IsBetweenActs, IsDueRecord}
 use Rattle.ob_driver.specs.Resting.{params_of, IsInTurn, IsWhere, noted_by}
@@ -63,22 +63,18 @@ abbrev pub StopsInside : {V : Type 0} → Kind V → Hall → Pass → Scene V �
 StopsInside k hall before old (failed.Fault fault) after new = (batches : List Batch) × RefusesInside k hall before old batches fault after new
 StopsInside k hall before old failed.Unwatched after new = (batches : List Batch) × (c : VaultCounts) × ReadsInside k hall before old batches after new c × (new.trace.broken ≡ true)
 
--- The turn ended with the close of the epoch and its publish, between which the vault ended it with its writes.
-pub record Ends {V : Type 0} (k : Kind V) (epoch : ℕ) (before : Pass) (old : Scene V) (told : EpochRecord ℕ) (after : Pass) (new : Scene V) : Type 0 where
-  pub writes : List (ℕ × Option (List ℕ))
+-- The vault ended the epoch that was closed with its writes, and then it was published in a turn.
+pub record Ends {V : Type 0} (k : Kind V) (epoch : ℕ) (writes : List (ℕ × Option (List ℕ))) (before : Pass) (old : Scene V) (told : EpochRecord ℕ) (after : Pass) (new : Scene V) : Type 0 where
   pub left : ℕ
-  pub made : MakesTurn before after (noted_by before ++ (close_calls writes ++ publish_calls left told))
+  pub made : MakesTurn before after (publish_calls left told)
   pub asks : AsksAll k old ((End writes, Ended) ∷ []) new
   pub due : IsDueRecord epoch writes told
 
--- The turn ended with the close and what the desk is told of an end that was refused, or is in doubt.
-pub record EndRefused {V : Type 0} (k : Kind V) (epoch : ℕ) (before : Pass) (old : Scene V) (err : RunErr) (after : Pass) (new : Scene V) : Type 0 where
-  pub writes : List (ℕ × Option (List ℕ))
+-- The vault refused its end, or left it in doubt, and then the desk was told so in a turn.
+pub record EndRefused {V : Type 0} (k : Kind V) (epoch : ℕ) (writes : List (ℕ × Option (List ℕ))) (before : Pass) (old : Scene V) (err : RunErr) (after : Pass) (new : Scene V) : Type 0 where
   pub refused : EndErr
-  pub made : MakesTurn before after (noted_by before ++ (close_calls writes ++ (stop_for refused, desk.Done) ∷ []))
+  pub made : MakesTurn before after ((stop_for refused, desk.Done) ∷ [])
   pub asks : AsksAll k old ((End writes, end_answer (Err refused)) ∷ []) new
   pub fault_is : err ≡ failed.Fault (fault_in refused)
   pub is_fault : IsEndFault epoch refused
-  pub due : EpochRecord ℕ
-  pub is_due : IsDueRecord epoch writes due
   pub cause : IsStoreFault (fault_of err) → Rose (k.disk old.vault).faults (k.disk new.vault).faults

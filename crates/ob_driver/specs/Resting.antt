@@ -29,6 +29,10 @@ resting c = record { epoch = suc c.epoch; has_closed = false; due = None; left =
 abbrev pub fetching : VaultCounts → List ℕ → Rounds
 fetching c keys = record { epoch = suc c.epoch; has_closed = false; due = None; left = c.left - 1; flying = keys }
 
+-- and where an epoch was closed with these writes, that the vault hasn't ended yet, of so many batches each
+abbrev pub ending : ℕ → VaultCounts → List (ℕ × Option (List ℕ)) → Rounds
+ending batches c writes = record { epoch = suc (suc c.epoch); has_closed = true; due = Some (record { epoch = suc c.epoch; writes = writes }); left = batches; flying = [] }
+
 -- how far the epochs are by the pass's own calls
 abbrev pub rounds_by : Hall → Pass → Rounds
 rounds_by hall pass = rounds_behind (params_of hall).batches (rounds_of (opening_of hall)) (own_calls pass)
@@ -59,6 +63,13 @@ pub record IsOut (hall : Hall) (pass : Pass) (c : VaultCounts) (keys : List (Opt
   pub flying : List ℕ
   pub rounds : rounds_by hall pass ≡ fetching c flying
   pub keys_are : keys ≡ map Some flying ++ replicate ((params_of hall).places - length flying) None
+
+-- It closed an epoch, with these writes, and has still to tell what came of its end.
+pub record IsEnding (hall : Hall) (pass : Pass) (c : VaultCounts) (writes : List (ℕ × Option (List ℕ))) : Type 0 where
+  pub driver : IsDriver hall pass
+  pub idle : IsOutOfTurn pass
+  pub rounds : rounds_by hall pass ≡ ending (params_of hall).batches c writes
+  pub told : told_by pass ≤ c.epoch
 
 -- ---- in a turn
 

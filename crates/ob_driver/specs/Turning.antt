@@ -20,7 +20,7 @@ pub record MakesTurn (before after : Pass) (calls : Steps) : Type 0 where
   pub calls_are : calls_in (turn ∷ []) ≡ calls
   pub place : pass_place after ≡ pass_place before
 
--- What the driver does in one turn. A batch is taken in one, and delivered or refused in another; a close stands behind its look, and its publish, or what the desk is told of an end that was refused, in the same turn or in another.
+-- What the driver does in one turn. A batch is taken in one, and delivered or refused in another. An epoch is closed in the turn of its look, behind the batches that were left; and its publish, or what the desk is told of an end that was refused, is another.
 abbrev pub IsOneTurn : List Act → Type 0
 IsOneTurn (Halts fault ∷ []) = Unit {0}
 IsOneTurn (Rests look ∷ []) = Unit {0}
@@ -32,8 +32,6 @@ IsOneTurn (RestUnwatched look batches ∷ []) = Unit {0}
 IsOneTurn (Closes look batches writes ∷ []) = Unit {0}
 IsOneTurn (Publishes writes left told ∷ []) = Unit {0}
 IsOneTurn (Refuses writes refused ∷ []) = Unit {0}
-IsOneTurn (Closes look batches writes ∷ Publishes ended left told ∷ []) = ended ≡ writes
-IsOneTurn (Closes look batches writes ∷ Refuses asked refused ∷ []) = asked ≡ writes
 IsOneTurn (Unprinted ∷ []) = Unit {0}
 IsOneTurn (Unwatched ∷ []) = Unit {0}
 IsOneTurn _ = ⊥

@@ -31,8 +31,8 @@ use ob_store::Watch;
 use std::sync::Wait;
 use std::thread::Threads;
 
-// Ends the epoch within the turn, and then writes its lines; where the watch broke in it the desk
-// is stopped behind that. Answers that something was done.
+// Closes the epoch within the turn, ends and publishes it, and then writes its lines; where the
+// watch broke in it the desk is stopped behind that. Answers that something was done.
 fn end_and_tell<R: Threads + Wait + Sync, V: Vault, W: Watch, O: Sink>(
     rt: &R,
     params: &Params,
@@ -69,7 +69,7 @@ fn end_and_tell<R: Threads + Wait + Sync, V: Vault, W: Watch, O: Sink>(
         (V.counts vault.old)
         (side pass.new vault.new (W.trace watch.new) (outflow O.Sink output.new)) err) }
 {
-    let told = match end_epoch(rt, params, hall, pass, desk, vault, watch, room) {
+    let told = match end_epoch(rt, params, hall, pass, desk, vault, watch, room, turns) {
         Ok(told) => told,
         Err(err) => return Err(err),
     };

@@ -3,7 +3,7 @@ use Rattle.ob_io.specs.Streams.{outflow}
 use Rattle.ob_serial.specs.Views.{record_of}
 use Rattle.ob_serial.specs.VaultKinds.{kind_of}
 use Rattle.ob_driver.proofs.Lines.{told_once, told_unwatched, untold_once}
-use Rattle.ob_driver.proofs.Standing.{goes_on_ended, goes_then}
+use Rattle.ob_driver.proofs.Standing.{goes_more}
 use Rattle.ob_driver.proofs.looking.end_and_tell.Goals as goal
 
 pub stop-requires-clause-driver : goal.stop-requires-clause-driver
@@ -42,16 +42,16 @@ pub returns-in-Err-clause-refused : goal.returns-in-Err-clause-refused
 returns-in-Err-clause-refused g c = λ beat look noted may end. c.in-Err.ensures.refused beat look (outflow g.O.Sink c.args.output.now) noted may end
 
 pub returns-in-Ok-text-clause-stand : goal.returns-in-Ok-text-clause-stand
-returns-in-Ok-text-clause-stand g c = goes_on_ended c.args.pass.now c.end_epoch.new.pass c.args.turns.now c.requires.turns c.in-Ok.ensures.ends
+returns-in-Ok-text-clause-stand g c = c.in-Ok.ensures.stand
 
 pub returns-clause-stand : goal.returns-clause-stand
-returns-clause-stand g c = goes_then c.args.pass.now c.end_epoch.new.pass c.stop-in-Err-text.new.pass c.args.turns.now c.stop-in-Err-text.new.turns c.requires.turns c.in-Ok.ensures.ends c.stop-in-Err-text.ensures.stand
+returns-clause-stand g c = goes_more c.args.pass.now c.end_epoch.new.pass c.stop-in-Err-text.new.pass c.args.turns.now c.end_epoch.new.turns c.stop-in-Err-text.new.turns c.in-Ok.ensures.stand c.stop-in-Err-text.ensures.stand
 
 pub returns-then-broken-clause-stand : goal.returns-then-broken-clause-stand
-returns-then-broken-clause-stand g c = goes_then c.args.pass.now c.end_epoch.new.pass c.stop.new.pass c.args.turns.now c.stop.new.turns c.requires.turns c.in-Ok.ensures.ends c.stop.ensures.stand
+returns-then-broken-clause-stand g c = goes_more c.args.pass.now c.end_epoch.new.pass c.stop.new.pass c.args.turns.now c.end_epoch.new.turns c.stop.new.turns c.in-Ok.ensures.stand c.stop.ensures.stand
 
 pub returns-in-Err-clause-stand : goal.returns-in-Err-clause-stand
-returns-in-Err-clause-stand g c = goes_on_ended c.args.pass.now c.end_epoch.new.pass c.args.turns.now c.requires.turns c.in-Err.ensures.ends
+returns-in-Err-clause-stand g c = c.in-Err.ensures.stand
 
 pub returns-in-Ok-text-clause-acts : goal.returns-in-Ok-text-clause-acts
 returns-in-Ok-text-clause-acts g c = refl
@@ -67,6 +67,9 @@ end_epoch-requires-clause-goes_on g c κs within = c.requires.goes_on
 
 pub end_epoch-requires-clause-whole : goal.end_epoch-requires-clause-whole
 end_epoch-requires-clause-whole g c κs within = c.requires.whole
+
+pub end_epoch-requires-clause-turns : goal.end_epoch-requires-clause-turns
+end_epoch-requires-clause-turns g c κs within = c.requires.turns
 
 pub end_epoch-requires-clause-room : goal.end_epoch-requires-clause-room
 end_epoch-requires-clause-room g c κs within = c.requires.room
