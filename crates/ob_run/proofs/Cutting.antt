@@ -9,7 +9,7 @@ use Rattle.ob_turn.specs.History.{LeadsByTurns}
 use Rattle.ob_hall.specs.Turns.{IsTurn}
 use Rattle.ob_hall.specs.Passes.{Steps, calls_in}
 use Rattle.ob_hall.proofs.Chaining.{calls_append}
-use Rattle.ob_conduct.specs.Acts.{Act, Says, history, calls, IsAllowed}
+use Rattle.ob_conduct.specs.Acts.{Act, Says, Halts, Rests, Takes, Delivers, DeliverFails, FetchFails, RestUnwatched, Closes, Publishes, Refuses, Unprinted, Unwatched, history, calls, IsAllowed}
 use Rattle.ob_conduct.specs.Moves.{IsSaid}
 use Rattle.ob_conduct.proofs.Going.{history_append, calls_append as vault_append}
 use Rattle.ob_driver.specs.Turning.{IsOneTurn}
@@ -41,6 +41,23 @@ front_all P (x ∷ xs) ys all = All-cons P x xs (All-head P x (xs ++ ys) all) (f
 pub behind_all : (P : Act → Type 0) (xs ys : List Act) → All P (xs ++ ys) → All P ys
 behind_all P [] ys all = all
 behind_all P (x ∷ xs) ys all = behind_all P xs ys (All-tail P x (xs ++ ys) all)
+
+-- ---- a turn of the driver's is one act
+
+pub lone_turn : (act x : Act) (xs : List Act) → IsOneTurn (act ∷ x ∷ xs) → ⊥
+lone_turn (Says client steps) x xs one = one
+lone_turn (Halts fault) x xs one = one
+lone_turn (Rests look) x xs one = one
+lone_turn (Takes look keys) x xs one = one
+lone_turn (Delivers batch) x xs one = one
+lone_turn (DeliverFails keys fault) x xs one = one
+lone_turn (FetchFails look batches keys fault) x xs one = one
+lone_turn (RestUnwatched look batches) x xs one = one
+lone_turn (Closes look batches writes) x xs one = one
+lone_turn (Publishes writes left told) x xs one = one
+lone_turn (Refuses writes refused) x xs one = one
+lone_turn Unprinted x xs one = one
+lone_turn Unwatched x xs one = one
 
 -- ---- what acts of entries are
 

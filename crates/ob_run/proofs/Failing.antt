@@ -15,7 +15,6 @@ use Rattle.ob_serial.specs.declared.vault.EndErr.TheVariants.{Before, Unsure}
 use Rattle.ob_desk.specs.Desk as desk
 use Rattle.ob_desk.specs.Desk.{DeskState, published}
 use Rattle.ob_desk.specs.Beats.{BeatKind}
-use Rattle.ob_desk.specs.declared.calls.Look.{Look}
 use Rattle.ob_session.specs.Steps.{Leads}
 use Rattle.ob_turn.specs.declared.turn.Entry.{Entry}
 use Rattle.ob_turn.specs.History.{LeadsByTurns}
@@ -39,7 +38,7 @@ use Rattle.ob_run.proofs.Cutting.{not_snoc, snoc_same, front_all, behind_all, wo
 use Rattle.ob_run.proofs.Forestalling.{Desks, desks, Held, held_later, said_held, all_before, IsCalm, EndsWith, calm_turn, rest_stop, IsSecond, EndsCalm, IsCarried, CarriedTurn, carried_turn, EndsCarried, StandsBefore, before_second}
 use Rattle.ob_run.proofs.MapServing.{due_behind, AreEnded, ended_split}
 use Rattle.ob_run.proofs.Entries.{driven_ended}
-use Rattle.ob_run.proofs.Unended.{EndsClosed, closed_before, closes_turn, unended, unended_alone}
+use Rattle.ob_run.proofs.Unended.{EndsClosed, closed_before, closes_turn, unended}
 
 -- ---- the desk before an act that stands behind another
 
@@ -90,8 +89,7 @@ module _ (beat : BeatKind) (clients : List ℕ) (act : Act) (entries : List (Ent
     )
 
     held_behind : CarriedTurn l.these ds.x ds.y → Held act x front
-    held_behind (inr none) = still_held beat clients act entries earlier front opened x woven legal allowed l ds none
-    held_behind (inl (z, alone, same_stop)) =
+    held_behind (z, alone, same_stop) =
         held_alone z alone same_stop
         (held_before beat clients act l.before l.earlier l.front opened ds.x l.woven ds.legal (front_all (IsAllowed beat) l.front (l.these ++ l.behind) (subst (All (IsAllowed beat)) l.acts_are allowed))
         (record { init = e.init; last = e.begun; are = sym (append-nil l.earlier) ∙ (carried_is [] z alone).0; calm = e.calm }))
@@ -146,10 +144,9 @@ module _ {V : Type 0} (k : Kind V) (old : Scene V) (d x y : DeskState) (next : �
   untold act none know = none-some err (sym none ∙ know.0)
 
   tells : (these : List Act) → IsOneTurn these → EndsWith (Knows next err after) these → Leads x (history these) y → ((z : Act) → these ≡ z ∷ [] → IsSecond z → Held z x front)
-      → ((look : Look) (batches : List Batch) (writes asked : List (ℕ × Option (List ℕ))) (refused : EndErr) → these ≡ Closes look batches writes ∷ Refuses asked refused ∷ [] → asked ≡ writes → IsEndFault next refused → IsUnended k old (front ++ Closes look batches writes ∷ []) asked refused)
       → ((asked : List (ℕ × Option (List ℕ))) (refused : EndErr) → these ≡ Refuses asked refused ∷ [] → IsEndFault next refused → IsUnended k old front asked refused)
       → Tells k old d after err front these
-  tells (Halts g ∷ []) one know leads held ends alone = record {
+  tells (Halts g ∷ []) one know leads held ends = record {
     begun = [];
     act = Halts g;
     are = refl;
@@ -157,7 +154,7 @@ module _ {V : Type 0} (k : Kind V) (old : Scene V) (d x y : DeskState) (next : �
     reason = (know [] (Halts g) refl).1;
     stopped = stopped_so (Halts g) [] (ap (λ (s : DeskState). s.stop) (leads.3 ∙ leads.2.1) ∙ (sym leads.2.0 ∙ (ap stop_of (know [] (Halts g) refl).0)));
   }
-  tells (DeliverFails keys g ∷ []) one know leads held ends alone = record {
+  tells (DeliverFails keys g ∷ []) one know leads held ends = record {
     begun = [];
     act = DeliverFails keys g;
     are = refl;
@@ -165,7 +162,7 @@ module _ {V : Type 0} (k : Kind V) (old : Scene V) (d x y : DeskState) (next : �
     reason = (know [] (DeliverFails keys g) refl).1;
     stopped = second_so (DeliverFails keys g) (held (DeliverFails keys g) refl tt) (stop_run x (history (DeliverFails keys g ∷ [])) y leads ∙ ap (λ (o : Option Fault). option_or x.stop o) (ap stop_of (know [] (DeliverFails keys g) refl).0));
   }
-  tells (FetchFails look batches keys g ∷ []) one know leads held ends alone = record {
+  tells (FetchFails look batches keys g ∷ []) one know leads held ends = record {
     begun = [];
     act = FetchFails look batches keys g;
     are = refl;
@@ -175,27 +172,16 @@ module _ {V : Type 0} (k : Kind V) (old : Scene V) (d x y : DeskState) (next : �
         (stop_run x (history (FetchFails look batches keys g ∷ [])) y leads
         ∙ (rest_stop x.stop batches ((desk.TakeBatch, desk.Batch keys) ∷ (desk.Stop g, desk.Done) ∷ []) [] ∙ (ap (λ (s : Option Fault). option_or s (Some g)) (sym leads.2.0) ∙ (ap stop_of (know [] (FetchFails look batches keys g) refl).0))));
   }
-  tells (Closes look batches writes ∷ Refuses asked refused ∷ []) one know leads held ends alone = record {
-    begun = Closes look batches writes ∷ [];
-    act = Refuses asked refused;
-    are = refl;
-    told = (know (Closes look batches writes ∷ []) (Refuses asked refused) refl).0;
-    reason = ends look batches writes asked refused refl one (know (Closes look batches writes ∷ []) (Refuses asked refused) refl).1.0;
-    stopped = stopped_so (Refuses asked refused) (Closes look batches writes ∷ [])
-        (stop_run x (history (Closes look batches writes ∷ Refuses asked refused ∷ [])) y leads
-        ∙ (rest_stop x.stop batches ((desk.Close, desk.Writes writes) ∷ []) ((stop_for refused, desk.Done) ∷ [])
-        ∙ (refused_stop x.stop refused ∙ (ap (λ (s : Option Fault). option_or s (Some (fault_in refused))) (sym leads.2.0) ∙ (ap stop_of (know (Closes look batches writes ∷ []) (Refuses asked refused) refl).0)))));
-  }
-  tells (Refuses asked refused ∷ []) one know leads held ends alone = record {
+  tells (Refuses asked refused ∷ []) one know leads held ends = record {
     begun = [];
     act = Refuses asked refused;
     are = refl;
     told = (know [] (Refuses asked refused) refl).0;
-    reason = subst (λ (xs : List Act). IsUnended k old xs asked refused) (sym (append-nil front)) (alone asked refused refl (know [] (Refuses asked refused) refl).1.0);
+    reason = subst (λ (xs : List Act). IsUnended k old xs asked refused) (sym (append-nil front)) (ends asked refused refl (know [] (Refuses asked refused) refl).1.0);
     stopped = second_so (Refuses asked refused) (held (Refuses asked refused) refl tt)
         (stop_run x (history (Refuses asked refused ∷ [])) y leads ∙ (refused_stop x.stop refused ∙ ap (λ (o : Option Fault). option_or x.stop o) (ap stop_of (know [] (Refuses asked refused) refl).0)));
   }
-  tells (Unprinted ∷ []) one know leads held ends alone = record {
+  tells (Unprinted ∷ []) one know leads held ends = record {
     begun = [];
     act = Unprinted;
     are = refl;
@@ -203,7 +189,7 @@ module _ {V : Type 0} (k : Kind V) (old : Scene V) (d x y : DeskState) (next : �
     reason = tt;
     stopped = second_so Unprinted (held Unprinted refl tt) (stop_run x (history (Unprinted ∷ [])) y leads ∙ ap (λ (o : Option Fault). option_or x.stop o) (ap stop_of (know [] Unprinted refl).0));
   }
-  tells (Unwatched ∷ []) one know leads held ends alone = record {
+  tells (Unwatched ∷ []) one know leads held ends = record {
     begun = [];
     act = Unwatched;
     are = refl;
@@ -211,7 +197,7 @@ module _ {V : Type 0} (k : Kind V) (old : Scene V) (d x y : DeskState) (next : �
     reason = (know [] Unwatched refl).1;
     stopped = second_so Unwatched (held Unwatched refl tt) (stop_run x (history (Unwatched ∷ [])) y leads ∙ ap (λ (o : Option Fault). option_or x.stop o) (ap stop_of (know [] Unwatched refl).0));
   }
-  tells (RestUnwatched look batches ∷ []) one know leads held ends alone = record {
+  tells (RestUnwatched look batches ∷ []) one know leads held ends = record {
     begun = [];
     act = RestUnwatched look batches;
     are = refl;
@@ -221,13 +207,12 @@ module _ {V : Type 0} (k : Kind V) (old : Scene V) (d x y : DeskState) (next : �
         (stop_run x (history (RestUnwatched look batches ∷ [])) y leads
         ∙ (rest_stop x.stop batches (stop_calls SinkFault) [] ∙ (ap (λ (s : Option Fault). option_or s (Some SinkFault)) (sym leads.2.0) ∙ ap stop_of (know [] (RestUnwatched look batches) refl).0)));
   }
-  tells (Rests look ∷ []) one know leads held ends alone = absurd (untold (Rests look) refl (know [] (Rests look) refl))
-  tells (Takes look keys ∷ []) one know leads held ends alone = absurd (untold (Takes look keys) refl (know [] (Takes look keys) refl))
-  tells (Delivers batch ∷ []) one know leads held ends alone = absurd (untold (Delivers batch) refl (know [] (Delivers batch) refl))
-  tells (Closes look batches writes ∷ []) one know leads held ends alone = absurd (untold (Closes look batches writes) refl (know [] (Closes look batches writes) refl))
-  tells (Publishes ended left told ∷ []) one know leads held ends alone = absurd (untold (Publishes ended left told) refl (know [] (Publishes ended left told) refl))
-  tells (Closes look batches writes ∷ Publishes ended left told ∷ []) one know leads held ends alone = absurd (untold (Publishes ended left told) refl (know (Closes look batches writes ∷ []) (Publishes ended left told) refl))
-  tells _ one know leads held ends alone = absurd one
+  tells (Rests look ∷ []) one know leads held ends = absurd (untold (Rests look) refl (know [] (Rests look) refl))
+  tells (Takes look keys ∷ []) one know leads held ends = absurd (untold (Takes look keys) refl (know [] (Takes look keys) refl))
+  tells (Delivers batch ∷ []) one know leads held ends = absurd (untold (Delivers batch) refl (know [] (Delivers batch) refl))
+  tells (Closes look batches writes ∷ []) one know leads held ends = absurd (untold (Closes look batches writes) refl (know [] (Closes look batches writes) refl))
+  tells (Publishes ended left told ∷ []) one know leads held ends = absurd (untold (Publishes ended left told) refl (know [] (Publishes ended left told) refl))
+  tells _ one know leads held ends = absurd one
 
 -- ---- the whole
 
@@ -251,19 +236,9 @@ module _ {V : Type 0} (k : Kind V) (beat : BeatKind) (hall : Hall) (a b : Side V
     ends_driven : AreEnded None (l.earlier ++ l.these)
     ends_driven = subst (AreEnded None) l.driven_is (driven_ended driven things)
 
-    ends : (look : Look) (batches : List Batch) (writes asked : List (ℕ × Option (List ℕ))) (refused : EndErr) → l.these ≡ Closes look batches writes ∷ Refuses asked refused ∷ [] → asked ≡ writes → IsEndFault f.next refused
-        → IsUnended k (scene opened a.vault a.trace) (l.front ++ Closes look batches writes ∷ []) asked refused
-    ends look batches writes asked refused is same is_fault =
-        let acts_are : w.acts ≡ (l.front ++ Closes look batches writes ∷ []) ++ Refuses asked refused ∷ l.behind = l.acts_are ∙ (ap (λ (ys : List Act). l.front ++ (ys ++ l.behind)) is ∙ sym (append_assoc l.front (Closes look batches writes ∷ []) (Refuses asked refused ∷ l.behind))) in
-        let told : records w.acts ≡ records (l.front ++ Closes look batches writes ∷ []) ++ [] = tells_before w.acts (l.front ++ Closes look batches writes ∷ []) (Refuses asked refused) l.behind acts_are said opened d w.leads in
-        let count : length (records driven) ≡ length (records (l.front ++ Closes look batches writes ∷ [])) = ap length (sym w.records_are ∙ (told ∙ append-nil (records (l.front ++ Closes look batches writes ∷ [])))) in
-        unended k opened ds.x ds.y l.before l.earlier l.front a.vault b.vault a.trace b.trace f.acts_are.notes look batches writes asked refused fresh ds.legal l.woven (ended_split None l.earlier l.these ends_driven).0 ds.front (subst (λ (ys : List Act). Leads ds.x (history ys) ds.y) is ds.its)
-        (subst (λ (ys : List Act). AllNoted k a.vault a.trace (calls ys) f.acts_are.notes b.vault b.trace) (l.driven_is ∙ ap (λ (ys : List Act). l.earlier ++ ys) is) f.acts_are.chain) (woven_calls (client_numbers opened) l.before l.earlier l.front l.woven) same f.next
-        (f.told.counted ∙ ap₂ (λ (n m : ℕ). n + m) (sym first) count) is_fault
-
     -- the end of an epoch that was closed in a turn before
-    alone : (asked : List (ℕ × Option (List ℕ))) (refused : EndErr) → l.these ≡ Refuses asked refused ∷ [] → IsEndFault f.next refused → IsUnended k (scene opened a.vault a.trace) l.front asked refused
-    alone asked refused is is_fault =
+    ends : (asked : List (ℕ × Option (List ℕ))) (refused : EndErr) → l.these ≡ Refuses asked refused ∷ [] → IsEndFault f.next refused → IsUnended k (scene opened a.vault a.trace) l.front asked refused
+    ends asked refused is is_fault =
         let (early, late) = ended_split None l.earlier l.these ends_driven in
         let due : due_behind None l.earlier ≡ Some asked = (subst (AreEnded (due_behind None l.earlier)) is late).0 in
         let e : EndsClosed l.earlier asked = closed_before l.earlier asked due in
@@ -276,13 +251,13 @@ module _ {V : Type 0} (k : Kind V) (beat : BeatKind) (hall : Hall) (a b : Side V
         let acts_are : w.acts ≡ l.front ++ Refuses asked refused ∷ l.behind = l.acts_are ∙ ap (λ (ys : List Act). l.front ++ (ys ++ l.behind)) is in
         let told : records w.acts ≡ records l.front ++ published (desk_calls (Refuses asked refused)) = tells_before w.acts l.front (Refuses asked refused) l.behind acts_are said opened d w.leads in
         let count : length (records driven) ≡ length (records l.front) = ap length (sym w.records_are ∙ (told ∙ append-nil (records l.front))) in
-        unended_alone k opened ds.x l.before l.earlier l.front a.vault b.vault a.trace b.trace f.acts_are.notes asked refused fresh ds.legal l.woven early ds.front
+        unended k opened ds.x l.before l.earlier l.front a.vault b.vault a.trace b.trace f.acts_are.notes asked refused fresh ds.legal l.woven early ds.front
         (subst (λ (ys : List Act). AllNoted k a.vault a.trace (calls ys) f.acts_are.notes b.vault b.trace) (l.driven_is ∙ ap (λ (ys : List Act). l.earlier ++ ys) is) f.acts_are.chain) (woven_calls (client_numbers opened) l.before l.earlier l.front l.woven)
         (record { first = c.front; look = e.look; batches = e.batches; behind = c.behind; front_is = c.acts_are ∙ ap (λ (ys : List Act). c.front ++ (ys ++ c.behind)) shut; said = others })
         f.next (f.told.counted ∙ ap₂ (λ (n m : ℕ). n + m) (sym first) count) is_fault
 
     told_by : Tells k (scene opened a.vault a.trace) d b.trace err l.front l.these
-    told_by = tells k (scene opened a.vault a.trace) d ds.x ds.y f.next b.trace err l.front l.behind ds.rest l.these l.one know ds.its held ends alone
+    told_by = tells k (scene opened a.vault a.trace) d ds.x ds.y f.next b.trace err l.front l.behind ds.rest l.these l.one know ds.its held ends
 
     asked_before : (begun : List Act) → l.earlier ++ begun ≡ f.front → calls (l.front ++ begun) ≡ calls f.front
     asked_before begun is =

@@ -122,8 +122,6 @@ calm_turn (Takes look keys ∷ []) x y one calm leads = stop_run x (history (Tak
 calm_turn (Closes look batches writes ∷ []) x y one calm leads = stop_run x (history (Closes look batches writes ∷ [])) y leads ∙ (rest_stop x.stop batches _ _ ∙ sym leads.2.0)
 calm_turn (Publishes ended left told ∷ []) x y one calm leads = absurd (calm [] (Publishes ended left told) refl)
 calm_turn (Refuses asked refused ∷ []) x y one calm leads = absurd (calm [] (Refuses asked refused) refl)
-calm_turn (Closes look batches writes ∷ Publishes ended left told ∷ []) x y one calm leads = absurd (calm (Closes look batches writes ∷ []) (Publishes ended left told) refl)
-calm_turn (Closes look batches writes ∷ Refuses asked refused ∷ []) x y one calm leads = absurd (calm (Closes look batches writes ∷ []) (Refuses asked refused) refl)
 calm_turn (Halts fault ∷ []) x y one calm leads = absurd (calm [] (Halts fault) refl)
 calm_turn (Rests look ∷ []) x y one calm leads = absurd (calm [] (Rests look) refl)
 calm_turn (Delivers batch ∷ []) x y one calm leads = absurd (calm [] (Delivers batch) refl)
@@ -142,19 +140,16 @@ IsCarried (Delivers batch) = Unit {0}
 IsCarried (Publishes writes left told) = Unit {0}
 IsCarried _ = ⊥
 
--- It is a turn of its own, which leaves a desk stopped or not; or it stands in the turn of a look, where the desk wasn't stopped.
+-- It is a turn of its own, which leaves a desk stopped or not.
 abbrev pub CarriedTurn : List Act → DeskState → DeskState → Type 0
-CarriedTurn these x y = ((z : Act) × (these ≡ z ∷ []) × (y.stop ≡ x.stop)) ⊎ (y.stop ≡ None)
+CarriedTurn these x y = (z : Act) × (these ≡ z ∷ []) × (y.stop ≡ x.stop)
 
 pub carried_turn : (these : List Act) (x y : DeskState) → IsOneTurn these → EndsWith IsCarried these → Leads x (history these) y → CarriedTurn these x y
-carried_turn (Delivers batch ∷ []) x y one ends leads = inl (Delivers batch, refl, stop_run x (history (Delivers batch ∷ [])) y leads)
-carried_turn (Publishes ended left told ∷ []) x y one ends leads = inl (Publishes ended left told, refl, stop_run x (history (Publishes ended left told ∷ [])) y leads)
-carried_turn (Closes look batches writes ∷ Publishes ended left told ∷ []) x y one ends leads =
-    inr (stop_run x (history (Closes look batches writes ∷ Publishes ended left told ∷ [])) y leads ∙ (rest_stop x.stop batches _ _ ∙ sym leads.2.0))
+carried_turn (Delivers batch ∷ []) x y one ends leads = (Delivers batch, refl, stop_run x (history (Delivers batch ∷ [])) y leads)
+carried_turn (Publishes ended left told ∷ []) x y one ends leads = (Publishes ended left told, refl, stop_run x (history (Publishes ended left told ∷ [])) y leads)
 carried_turn (Takes look keys ∷ []) x y one ends leads = absurd (ends [] (Takes look keys) refl)
 carried_turn (Closes look batches writes ∷ []) x y one ends leads = absurd (ends [] (Closes look batches writes) refl)
 carried_turn (Refuses asked refused ∷ []) x y one ends leads = absurd (ends [] (Refuses asked refused) refl)
-carried_turn (Closes look batches writes ∷ Refuses asked refused ∷ []) x y one ends leads = absurd (ends (Closes look batches writes ∷ []) (Refuses asked refused) refl)
 carried_turn (Halts fault ∷ []) x y one ends leads = absurd (ends [] (Halts fault) refl)
 carried_turn (Rests look ∷ []) x y one ends leads = absurd (ends [] (Rests look) refl)
 carried_turn (DeliverFails keys fault ∷ []) x y one ends leads = absurd (ends [] (DeliverFails keys fault) refl)

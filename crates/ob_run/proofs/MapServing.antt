@@ -12,14 +12,13 @@ use Rattle.ob_serial.specs.declared.vault.EndErr.{EndErr}
 use Rattle.ob_serial.specs.declared.vault.EndErr.TheVariants.{Before, Unsure}
 use Rattle.ob_order.specs.Works.{last_writes}
 use Rattle.ob_desk.specs.Desk as desk
-use Rattle.ob_desk.specs.Desk.{DeskState, Part, Setup, Call, Reply, CloseStep, Run, base_map}
+use Rattle.ob_desk.specs.Desk.{DeskState, Part, Setup, CloseStep, Run, base_map}
 use Rattle.ob_desk.specs.declared.calls.Look.{Look}
 use Rattle.ob_session.specs.Steps.{Leads}
 use Rattle.ob_hall.specs.Passes.{Steps}
 use Rattle.ob_conduct.specs.Acts.{Act, Halts, Rests, Takes, Delivers, DeliverFails, FetchFails, RestUnwatched, Closes, Publishes, Refuses, Unprinted, Unwatched, Batch, history, calls, look_calls, rest_calls, rest_fetches, close_calls, publish_calls, stop_calls, stop_for}
 use Rattle.ob_conduct.specs.Rounds.{IsOneThing}
 use Rattle.ob_conduct.specs.Records.{HoldsMap}
-use Rattle.ob_conduct.proofs.Moving.{run_join}
 use Rattle.ob_driver.specs.Turning.{IsOneTurn}
 use Rattle.ob_run.proofs.Chains.{leads_split, called_split, IsPlain, plain_run, plain_more, plain_one, still_holds, fed, rest_plain}
 
@@ -141,34 +140,6 @@ module _ {V : Type 0} (k : Kind V) (m : Map nat_cmp) (d new : DeskState) (v w : 
   closed_plain : (look : Look) (batches : List Batch) (writes : List (ℕ × Option (List ℕ))) → All (IsPlain m) (rest_calls batches) → All (IsPlain m) (look_calls look ++ (rest_calls batches ++ close_calls writes))
   closed_plain look batches writes rest = look_plain m look (rest_calls batches ++ close_calls writes) (All-append (IsPlain m) (rest_calls batches) (close_calls writes) rest (plain_one m desk.Close (desk.Writes writes) (tt, λ x. refl)))
 
-  end_fails : (look : Look) (batches : List Batch) (writes : List (ℕ × Option (List ℕ))) (refused : EndErr) → Leads d (history (Closes look batches writes ∷ Refuses writes refused ∷ [])) new → AllCalled k v (calls (Closes look batches writes ∷ Refuses writes refused ∷ [])) w
-      → Serves k m d (history (Closes look batches writes ∷ Refuses writes refused ∷ [])) new w
-  end_fails look batches writes refused leads chain =
-      let (mid, front, back) = called_split k v (rest_fetches batches) ((End writes, end_answer (Err refused)) ∷ []) w chain in
-      let (rest, later) = rest_plain k m batches v mid front held in
-      plain k m d new v w (history (Closes look batches writes ∷ Refuses writes refused ∷ []))
-      (All-append (IsPlain m) (look_calls look ++ (rest_calls batches ++ close_calls writes)) ((stop_for refused, desk.Done) ∷ []) (closed_plain look batches writes rest) (stop_plain m refused)) leads
-      (refused_end k m d new mid w writes refused back later)
-
-  ends : (look : Look) (batches : List Batch) (writes : List (ℕ × Option (List ℕ))) (left : ℕ) (told : EpochRecord ℕ) → Leads d (history (Closes look batches writes ∷ Publishes writes left told ∷ [])) new
-      → AllCalled k v (calls (Closes look batches writes ∷ Publishes writes left told ∷ [])) w → Serves k m d (history (Closes look batches writes ∷ Publishes writes left told ∷ [])) new w
-  ends look batches writes left told leads chain =
-      let (mid, front, back) = called_split k v (rest_fetches batches) ((End writes, Ended) ∷ []) w chain in
-      let (rest, later) = rest_plain k m batches v mid front held in
-      let (far, one, end) = back in
-      let (shut, before, behind) = leads_split d (look_calls look ++ (rest_calls batches ++ close_calls writes)) (publish_calls left told) new leads in
-      let again : Leads d ((look_calls look ++ rest_calls batches) ++ close_calls writes) shut = subst (λ (s : Steps). Leads d s shut) (sym (append_assoc (look_calls look) (rest_calls batches) (close_calls writes))) before in
-      let (open_desk, looked, closes) = leads_split d (look_calls look ++ rest_calls batches) (close_calls writes) shut again in
-      let (there, may_close, closed, is_shut) = closes in
-      let (last_desk, may, published, is_new) = behind in
-      let same : vaults.with_writes m writes ≡ base_map m shut = ended_map open_desk shut writes m (subst (λ (x : DeskState). CloseStep open_desk writes x) (sym is_shut) closed) in
-      record {
-        next = base_map m shut;
-        run = run_join m d (look_calls look ++ (rest_calls batches ++ close_calls writes)) m shut (publish_calls left told) (base_map m shut) new (plain_run m d (look_calls look ++ (rest_calls batches ++ close_calls writes)) shut (closed_plain look batches writes rest) before)
-            (last_desk, may, published, tt, (refl, is_new));
-        holds = subst (λ (x : V). HoldsMap k x (base_map m shut)) (sym end) (vault_next later.0 (End writes) Ended, one.holds later.0 later.1, ap (λ (n : Map nat_cmp). vaults.with_writes n writes) later.2 ∙ same);
-      }
-
   -- an epoch was closed, and the vault hasn't ended it yet
   closes : (look : Look) (batches : List Batch) (writes : Writes) → Leads d (history (Closes look batches writes ∷ [])) new → AllCalled k v (calls (Closes look batches writes ∷ [])) w → ServesDue k m d (history (Closes look batches writes ∷ [])) new w (Some writes)
   closes look batches writes leads chain =
@@ -206,8 +177,6 @@ module _ {V : Type 0} (k : Kind V) (m : Map nat_cmp) (d new : DeskState) (v w : 
   turn_serves due (Delivers batch ∷ []) one kept owed leads (mid, called, same) = none_due _ (plain k m d new v w _ (plain_one m (desk.Deliver batch.keys batch.values) desk.Done (fed k v mid batch.keys batch.values m called held, λ x. refl)) leads (subst (λ (x : V). HoldsMap k x m) (sym same) (still_holds k v mid (Fetch batch.keys) (Values batch.values) m called held (λ u. refl))))
   turn_serves due (DeliverFails keys fault ∷ []) one kept owed leads (mid, called, same) = none_due _ (plain k m d new v w _ (plain_one m (desk.Stop fault) desk.Done (tt, λ x. refl)) leads (subst (λ (x : V). HoldsMap k x m) (sym same) (still_holds k v mid (Fetch keys) (RefusedBy fault) m called held (λ u. refl))))
   turn_serves due (FetchFails look batches keys fault ∷ []) one kept owed leads chain = none_due _ (batch_fails look batches keys fault leads chain)
-  turn_serves due (Closes look batches writes ∷ Publishes ended left told ∷ []) one kept owed leads chain = none_due _ (ends look batches writes left told leads (subst (λ (ws : List (ℕ × Option (List ℕ))). AllCalled k v (calls (Closes look batches writes ∷ Publishes ws left told ∷ [])) w) one chain))
-  turn_serves due (Closes look batches writes ∷ Refuses asked refused ∷ []) one kept owed leads chain = none_due _ (end_fails look batches writes refused leads (subst (λ (ws : List (ℕ × Option (List ℕ))). AllCalled k v (calls (Closes look batches writes ∷ Refuses ws refused ∷ [])) w) one chain))
   turn_serves due (Unprinted ∷ []) one kept owed leads chain = none_due _ (plain k m d new v w _ (plain_one m (desk.Stop SinkFault) desk.Done (tt, λ x. refl)) leads (none_called k m d new v w chain held))
   turn_serves due (Unwatched ∷ []) one kept owed leads chain = none_due _ (plain k m d new v w _ (plain_one m (desk.Stop SinkFault) desk.Done (tt, λ x. refl)) leads (none_called k m d new v w chain held))
   turn_serves due (RestUnwatched look batches ∷ []) one kept owed leads chain = none_due _ (rest_unwatched look batches leads chain)

@@ -1,15 +1,16 @@
 -- Rounds in a whole history: the acts of the entries that stand in it in rounds.
-use Rattle.std.proofs.Common.{◌≡◌, ◌∙◌, ◌≤◌, ◌+◌, ◌==◌, ◌||◌, ℕ, zero, suc, Bool, true, false, if◌then◌else◌, All, List, [], ◌∷◌, ◌++◌, length, flat_map, slice_get, Some, refl, sym, ap, ap₂, subst, inl, inr, append_assoc, length-append, eq-eqb, arith}
+use Rattle.std.proofs.Common.{◌≡◌, ◌∙◌, ◌≤◌, ◌==◌, ◌||◌, ℕ, zero, suc, Bool, true, false, if◌then◌else◌, All, List, [], ◌∷◌, ◌++◌, flat_map, slice_get, Some, refl, sym, ap, ap₂, subst, inl, inr, append_assoc, eq-eqb}
 use Rattle.std.proofs.lemmas.Option.{none-some, same_Some}
 use Rattle.std.proofs.lemmas.List.Elements.{All-nil, All-cons, All-head, All-tail, All-append, All-weaker}
 use Rattle.ob_turn.specs.declared.turn.Entry.{Entry}
 use Rattle.ob_hall.specs.Passes.{Steps, calls_in}
-use Rattle.ob_conduct.specs.Acts.{Act, Says, Halts, Rests, Takes, Delivers, DeliverFails, FetchFails, RestUnwatched, Closes, Publishes, Refuses, Unprinted, Unwatched, history, desk_calls}
+use Rattle.ob_conduct.specs.Acts.{Act, Says, Halts, Rests, Takes, Delivers, DeliverFails, FetchFails, RestUnwatched, Closes, Publishes, Refuses, Unprinted, Unwatched}
 use Rattle.ob_conduct.specs.Rounds.{AreDriven, AreTurns, IsOneThing, acts_of, InRounds}
 use Rattle.ob_driver.specs.Turning.{IsOneTurn, AreActs}
 use Rattle.ob_driver.specs.Places.{StandIn}
 use Rattle.ob_run.specs.Woven.{IsEntryOf, AreWoven}
 use Rattle.ob_run.specs.Threaded.{is_by_hand, without_others}
+use Rattle.ob_run.proofs.Cutting.{lone_turn}
 use Rattle.ob_run.proofs.WovenRun.{turn_driven}
 use Rattle.ob_run.proofs.Standing.{count, ComesInRounds, IsOthers, IsWithoutOthers, stand_within, are_all}
 
@@ -97,34 +98,12 @@ pub record IsEntryRound (clients hand : List ℕ) (round : EntryRound) : Type 0 
   pub turns_are : AreActs round.turns round.thing
   pub one : IsOneThing round.thing
 
--- ---- one turn of the driver's is told by its first act and its calls
+-- ---- one turn of the driver's is one act
 
--- behind the first act it has a call for each act
-pub record BeginsTurn (acts : List Act) : Type 0 where
-  pub first : Act
-  pub rest : List Act
-  pub are : acts ≡ first ∷ rest
-  pub long : length (history acts) ≡ length (desk_calls first) + length rest
-
-one_act : (act : Act) → BeginsTurn (act ∷ [])
-one_act act = record { first = act; rest = []; are = refl; long = length-append (desk_calls act) [] }
-
-begins_turn : (acts : List Act) → IsOneTurn acts → BeginsTurn acts
+begins_turn : (acts : List Act) → IsOneTurn acts → (act : Act) × (acts ≡ act ∷ [])
 begins_turn [] one = absurd one
-begins_turn (act ∷ []) one = one_act act
-begins_turn (Closes look batches writes ∷ Publishes ended left told ∷ []) one = record {
-  first = Closes look batches writes;
-  rest = Publishes ended left told ∷ [];
-  are = refl;
-  long = length-append (desk_calls (Closes look batches writes)) (desk_calls (Publishes ended left told));
-}
-begins_turn (Closes look batches writes ∷ Refuses asked refused ∷ []) one = record {
-  first = Closes look batches writes;
-  rest = Refuses asked refused ∷ [];
-  are = refl;
-  long = length-append (desk_calls (Closes look batches writes)) (desk_calls (Refuses asked refused));
-}
-begins_turn _ one = absurd one
+begins_turn (act ∷ []) one = (act, refl)
+begins_turn (act ∷ x ∷ xs) one = absurd (lone_turn act x xs one)
 
 same_first : (x y : Act) (xs ys : List Act) → ◌≡◌ {A = List Act} (x ∷ xs) (y ∷ ys) → x ≡ y
 same_first x y xs ys same = cc same
@@ -132,24 +111,12 @@ same_first x y xs ys same = cc same
 same_rest : (x y : Act) (xs ys : List Act) → ◌≡◌ {A = List Act} (x ∷ xs) (y ∷ ys) → xs ≡ ys
 same_rest x y xs ys same = cc same
 
-cut_same : (a b x y : List Act) → length a ≡ length b → a ++ x ≡ b ++ y → (a ≡ b) × (x ≡ y)
-cut_same [] [] x y long same = (refl, same)
-cut_same [] (q ∷ b) x y long same = absurd (cc long)
-cut_same (p ∷ a) [] x y long same = absurd (cc long)
-cut_same (p ∷ a) (q ∷ b) x y long same =
-    let (rest, behind) = cut_same a b x y (less_one (length a) (length b) long) (same_rest p q (a ++ x) (b ++ y) same) in
-    (ap₂ (λ (z : Act) (l : List Act). z ∷ l) (same_first p q (a ++ x) (b ++ y) same) rest, behind)
-
-same_long : (n a b c d : ℕ) → c ≡ n + a → d ≡ n + b → c ≡ d → suc a ≡ suc b
-same_long n a b c d one other same = omega (arith, one, other, same)
-
-same_turn : (a b x y : List Act) → IsOneTurn a → IsOneTurn b → history a ≡ history b → a ++ x ≡ b ++ y → (a ≡ b) × (x ≡ y)
-same_turn a b x y one other calls same =
-    let p = begins_turn a one in
-    let q = begins_turn b other in
-    let first : p.first ≡ q.first = same_first p.first q.first (p.rest ++ x) (q.rest ++ y) (ap (λ (l : List Act). l ++ x) (sym p.are) ∙ (same ∙ ap (λ (l : List Act). l ++ y) q.are)) in
-    let long : suc (length p.rest) ≡ suc (length q.rest) = same_long (length (desk_calls q.first)) (length p.rest) (length q.rest) (length (history a)) (length (history b)) (p.long ∙ ap (λ (z : Act). length (desk_calls z) + length p.rest) first) q.long (ap length calls) in
-    cut_same a b x y (ap length p.are ∙ (long ∙ sym (ap length q.are))) same
+same_turn : (a b x y : List Act) → IsOneTurn a → IsOneTurn b → a ++ x ≡ b ++ y → (a ≡ b) × (x ≡ y)
+same_turn a b x y one other same =
+    let (p, first) = begins_turn a one in
+    let (q, second) = begins_turn b other in
+    let whole : ◌≡◌ {A = List Act} (p ∷ x) (q ∷ y) = ap (λ (l : List Act). l ++ x) (sym first) ∙ (same ∙ ap (λ (l : List Act). l ++ y) second) in
+    (first ∙ (ap (λ (z : Act). z ∷ []) (same_first p q x y whole) ∙ sym second), same_rest p q x y whole)
 
 -- ---- the acts of rounds
 
@@ -197,7 +164,7 @@ module _ (clients : List ℕ) where
   take_turns (e ∷ es) more thing things own acts driver (first, next, thing_is, one, calls_are, are) own_is (mine, later, these, behind, own_are, acts_are, entry, woven) =
       let its : IsEntryOf clients 0 (calls_in (e ∷ [])) mine these = subst (λ n. IsEntryOf clients n (calls_in (e ∷ [])) mine these) (All-head (λ (x : Entry Steps). x.by ≡ 0) e es driver) entry in
       let whole : mine ++ later ≡ first ++ (next ++ things) = sym own_are ∙ (own_is ∙ (ap (λ (l : List Act). l ++ things) thing_is ∙ append_assoc first next things)) in
-      let (same, others) = same_turn mine first later (next ++ things) its.0 one (sym its.1 ∙ calls_are) whole in
+      let (same, others) = same_turn mine first later (next ++ things) its.0 one whole in
       let t = take_turns es more next things later behind (All-tail (λ (x : Entry Steps). x.by ≡ 0) e es driver) are others woven in record {
         rest = t.rest;
         acts_are = acts_are ∙ (ap₂ (λ (x y : List Act). x ++ y) (its.2 ∙ same) t.acts_are ∙ (sym (append_assoc first next t.rest) ∙ ap (λ (l : List Act). l ++ t.rest) (sym thing_is)));

@@ -1,16 +1,15 @@
 -- The epoch that is closed behind a front of the acts, and whose end was refused or left in doubt.
-use Rattle.std.proofs.Common.{◌≡◌, ◌∙◌, ◌⊎◌, ◌+◌, ℕ, All, List, [], ◌∷◌, ◌++◌, length, Option, None, Some, Err, refl, sym, ap, ap₂, subst, inl, inr, append-nil, append_assoc, nat_cmp}
-use Rattle.std.proofs.lemmas.List.Elements.{All-head, All-tail, All-append}
+use Rattle.std.proofs.Common.{◌≡◌, ◌∙◌, ◌⊎◌, ◌+◌, ℕ, All, List, [], ◌∷◌, ◌++◌, length, Option, None, Some, Err, refl, sym, ap, ap₂, subst, inl, inr, append-nil, append_assoc}
+use Rattle.std.proofs.lemmas.List.Elements.{All-head, All-tail}
 use Rattle.std.proofs.lemmas.Option.{none-some, same_Some}
 use Rattle.ob_store.specs.declared.watch.Note.{Note}
 use Rattle.ob_store.specs.Lines.{Trace}
-use Rattle.ob_serial.specs.Serial.{Map, EpochRecord}
+use Rattle.ob_serial.specs.Serial.{EpochRecord}
 use Rattle.ob_serial.specs.Vaults.{VaultCall, VaultAnswer, End}
 use Rattle.ob_serial.specs.VaultViews.{IsEndFault, end_answer}
 use Rattle.ob_serial.specs.VaultKinds.{Kind}
 use Rattle.ob_serial.specs.declared.vault.EndErr.{EndErr}
-use Rattle.ob_desk.specs.Desk as desk
-use Rattle.ob_desk.specs.Desk.{DeskState, Call, Reply, Run, closing, record_of, published}
+use Rattle.ob_desk.specs.Desk.{DeskState, closing, record_of, published}
 use Rattle.ob_desk.specs.declared.calls.Look.{Look}
 use Rattle.ob_session.specs.Steps.{Leads}
 use Rattle.ob_session.proofs.Saying.{leads_join}
@@ -19,21 +18,22 @@ use Rattle.ob_turn.specs.History.{LeadsByTurns}
 use Rattle.ob_hall.specs.Turns.{client_numbers, IsTurn}
 use Rattle.ob_hall.specs.Passes.{Steps, IsNew}
 use Rattle.ob_hall.proofs.Staying.{own_closed}
-use Rattle.ob_conduct.specs.Acts.{Act, Batch, Says, Halts, Rests, Takes, Delivers, DeliverFails, FetchFails, RestUnwatched, Closes, Publishes, Refuses, Unprinted, Unwatched, history, calls, records, desk_calls, look_calls, rest_calls, rest_fetches, close_calls}
+use Rattle.ob_conduct.specs.Acts.{Act, Batch, Says, Halts, Rests, Takes, Delivers, DeliverFails, FetchFails, RestUnwatched, Closes, Publishes, Refuses, Unprinted, Unwatched, history, calls, records, desk_calls, look_calls, rest_calls, close_calls}
 use Rattle.ob_conduct.specs.Scenes.{scene, AllNoted}
 use Rattle.ob_conduct.specs.Ready.{IsDueRecord}
 use Rattle.ob_conduct.specs.Moves.{IsSaid, IsUnended}
 use Rattle.ob_conduct.proofs.Behind.{leads_split, tells_before}
-use Rattle.ob_conduct.proofs.Moving.{run_join, called, all_shown}
+use Rattle.ob_conduct.proofs.Moving.{called, all_shown}
 use Rattle.ob_conduct.proofs.Going.{history_append, calls_append as vault_append, records_append, published_append}
 use Rattle.ob_driver.specs.Resting.{IsMild}
 use Rattle.ob_driver.specs.Turning.{IsOneTurn}
 use Rattle.ob_driver.proofs.Dues.{due_closed}
 use Rattle.ob_run.specs.Woven.{AreWoven}
-use Rattle.ob_run.proofs.Chains.{noted_split, IsPlain, plain_run, plain_more, plain_one, rest_plain}
+use Rattle.ob_run.proofs.Chains.{noted_split}
 use Rattle.ob_run.proofs.MapServing.{Serves, Writes, next_due, due_behind, AreEnded}
 use Rattle.ob_run.proofs.Entries.{serves}
 use Rattle.ob_run.proofs.Stops.{was_calm, told_so_far}
+use Rattle.ob_run.proofs.Cutting.{lone_turn}
 
 -- ---- the driver's turn that closed it
 
@@ -84,9 +84,7 @@ closed_before acts writes is = by (due_from None acts writes is)
 pub closes_turn : (these : List Act) (look : Look) (batches : List Batch) (writes : Writes) → IsOneTurn these → ((zs : List Act) (z : Act) → these ≡ zs ++ z ∷ [] → z ≡ Closes look batches writes) → these ≡ Closes look batches writes ∷ []
 closes_turn [] look batches writes one ends = absurd one
 closes_turn (z ∷ []) look batches writes one ends = ap (λ (y : Act). y ∷ []) (ends [] z refl)
-closes_turn (Closes seen read ws ∷ Publishes ended left told ∷ []) look batches writes one ends = let same : Publishes ended left told ≡ Closes look batches writes = ends (Closes seen read ws ∷ []) (Publishes ended left told) refl in absurd (cc same)
-closes_turn (Closes seen read ws ∷ Refuses asked refused ∷ []) look batches writes one ends = let same : Refuses asked refused ≡ Closes look batches writes = ends (Closes seen read ws ∷ []) (Refuses asked refused) refl in absurd (cc same)
-closes_turn _ look batches writes one ends = absurd one
+closes_turn (z ∷ x ∷ xs) look batches writes one ends = absurd (lone_turn z x xs one)
 
 -- clients' turns leave it closed
 said_closed : (acts : List Act) (d new : DeskState) → All IsSaid acts → Leads d (history acts) new → new.closed ≡ d.closed
@@ -123,59 +121,6 @@ module _ (front : List Act) (look : Look) (batches : List Batch) (writes : List 
       ap published (front_is ∙ (ap (λ (s : Steps). history front ++ s) (sym (append_assoc (look_calls look) (rest_calls batches) (close_calls writes))) ∙ sym (append_assoc (history front) (look_calls look ++ rest_calls batches) (close_calls writes))))
       ∙ (published_append (history front ++ (look_calls look ++ rest_calls batches)) (close_calls writes) ∙ append-nil (published (history front ++ (look_calls look ++ rest_calls batches))))
 
--- ---- what is so behind the close
-
-closes_plain : (m : Map nat_cmp) (look : Look) (batches : List Batch) (writes : List (ℕ × Option (List ℕ))) → All (IsPlain m) (rest_calls batches) → All (IsPlain m) (desk_calls (Closes look batches writes))
-closes_plain m look batches writes rest =
-    plain_more m desk.IsStopped (desk.StoppedBy None) ((desk.Looks, desk.Seen look) ∷ (rest_calls batches ++ close_calls writes)) (tt, λ d. refl)
-    (plain_more m desk.Looks (desk.Seen look) (rest_calls batches ++ close_calls writes) (tt, λ d. refl)
-    (All-append (IsPlain m) (rest_calls batches) (close_calls writes) rest (plain_one m desk.Close (desk.Writes writes) (tt, λ d. refl))))
-
-module _ {V : Type 0} (k : Kind V) (opened x y : DeskState) (before : List (Entry Steps)) (earlier front : List Act) (old new : V) (trace after : Trace) (notes : List Note) (look : Look) (batches : List Batch) (writes asked : List (ℕ × Option (List ℕ))) (refused : EndErr) where
-  -- the vault's calls up to there
-  asks_is : calls (earlier ++ (Closes look batches writes ∷ Refuses asked refused ∷ [])) ≡ (calls earlier ++ rest_fetches batches) ++ (End asked, end_answer (Err refused)) ∷ []
-  asks_is = vault_append earlier (Closes look batches writes ∷ Refuses asked refused ∷ []) ∙ sym (append_assoc (calls earlier) (rest_fetches batches) ((End asked, end_answer (Err refused)) ∷ []))
-
-  pub unended : IsNew opened → LeadsByTurns IsTurn opened before x → AreWoven (client_numbers opened) before earlier front → AreEnded None earlier → Leads opened (history front) x → Leads x (history (Closes look batches writes ∷ Refuses asked refused ∷ [])) y
-      → AllNoted k old trace (calls (earlier ++ (Closes look batches writes ∷ Refuses asked refused ∷ []))) notes new after → calls front ≡ calls earlier
-      → asked ≡ writes → (next : ℕ) → next ≡ opened.running.epoch + length (records (front ++ Closes look batches writes ∷ [])) → IsEndFault next refused
-      → IsUnended k (scene opened old trace) (front ++ Closes look batches writes ∷ []) asked refused
-  unended fresh legal woven kept first its chain front_calls same next next_is is_fault =
-      let (mid, shuts, stops) = leads_split x (desk_calls (Closes look batches writes)) (history (Refuses asked refused ∷ [])) y its in
-      let (at, looked, closes) = leads_split x (look_calls look ++ rest_calls batches) (close_calls writes) mid (subst (λ (s : Steps). Leads x s mid) (sym (append_assoc (look_calls look) (rest_calls batches) (close_calls writes))) shuts) in
-      let (there, may, e, is_there) = closes in
-      let up_to : Leads opened (history front ++ (look_calls look ++ rest_calls batches)) at = leads_join opened (history front) x (look_calls look ++ rest_calls batches) at first looked in
-      let all_mild : All IsMild (history front ++ (look_calls look ++ rest_calls batches)) = (was_calm opened (history front ++ (look_calls look ++ rest_calls batches)) at up_to may.3).1 in
-      let epoch : at.running.epoch ≡ opened.running.epoch + length (records (front ++ Closes look batches writes ∷ [])) =
-      told_so_far opened (history front ++ (look_calls look ++ rest_calls batches)) at up_to all_mild (ap (λ (d : DeskState). d.closed) fresh.is) may.0
-      ∙ ap (λ (rs : List (EpochRecord ℕ)). opened.running.epoch + length rs) (sym (told_is front look batches writes)) in
-      let due : IsDueRecord at.running.epoch asked (record_of (closing at.running)) = subst (λ (ws : List (ℕ × Option (List ℕ))). IsDueRecord at.running.epoch ws (record_of (closing at.running))) (sym same)
-      (due_closed opened at there (history front ++ (look_calls look ++ rest_calls batches)) [] writes fresh all_mild up_to (there, may, e, refl)) in
-      let (v, told, begun, ended, fetched, last) = noted_split k old trace (calls earlier ++ rest_fetches batches) ((End asked, end_answer (Err refused)) ∷ []) notes new after
-      (subst (λ (xs : List (VaultCall × VaultAnswer)). AllNoted k old trace xs notes new after) asks_is chain) in
-      let (u, said, some, others, early, late) = noted_split k old trace (calls earlier) (rest_fetches batches) begun v told fetched in
-      record {
-        mid = scene mid v told;
-        moves = record {
-          leads = subst (λ (s : Steps). Leads opened s mid) (sym (front_is front look batches writes)) (leads_join opened (history front) x (desk_calls (Closes look batches writes)) mid first shuts);
-          notes = begun;
-          chain = subst (λ (xs : List (VaultCall × VaultAnswer)). AllNoted k old trace xs begun v told) (sym (vault_append front (Closes look batches writes ∷ []) ∙ ap₂ (λ (xs ys : List (VaultCall × VaultAnswer)). xs ++ ys) front_calls (append-nil (rest_fetches batches)))) fetched;
-          shown = all_shown k old trace (calls earlier ++ rest_fetches batches) begun v told fetched;
-          run = λ m held.
-              let s : Serves k m opened (history front) x u = serves k (client_numbers opened) before opened x old u m earlier front None refl legal woven kept tt (called k old trace (calls earlier) some u said early) held in
-              let (rest, later) = rest_plain k s.next batches u v (called k u said (rest_fetches batches) others v told late) s.holds in (
-                s.next,
-                subst (λ (steps : Steps). Run m opened steps s.next mid) (sym (front_is front look batches writes))
-                    (run_join m opened (history front) s.next x (desk_calls (Closes look batches writes)) s.next mid s.run (plain_run s.next x (desk_calls (Closes look batches writes)) mid (closes_plain s.next look batches writes rest) shuts)),
-                later,
-              );
-        };
-        closed = closing at.running;
-        is_closed = ap (λ (d : DeskState). d.closed) (is_there ∙ e.state);
-        due = subst (λ (n : ℕ). IsDueRecord n asked (record_of (closing at.running))) epoch due;
-        is_fault = subst (λ (n : ℕ). IsEndFault n refused) next_is is_fault;
-      }
-
 -- ---- where it was closed in a turn before, behind which clients had theirs
 
 -- Among these acts is the close, and clients' turns alone stand behind it.
@@ -188,11 +133,11 @@ pub record IsShut (front : List Act) (writes : List (ℕ × Option (List ℕ))) 
   pub said : All IsSaid behind
 
 module _ {V : Type 0} (k : Kind V) (opened x : DeskState) (before : List (Entry Steps)) (earlier front : List Act) (old new : V) (trace after : Trace) (notes : List Note) (asked : List (ℕ × Option (List ℕ))) (refused : EndErr) where
-  pub unended_alone : IsNew opened → LeadsByTurns IsTurn opened before x → AreWoven (client_numbers opened) before earlier front → AreEnded None earlier → Leads opened (history front) x
+  pub unended : IsNew opened → LeadsByTurns IsTurn opened before x → AreWoven (client_numbers opened) before earlier front → AreEnded None earlier → Leads opened (history front) x
       → AllNoted k old trace (calls (earlier ++ Refuses asked refused ∷ [])) notes new after → calls front ≡ calls earlier
       → IsShut front asked → (next : ℕ) → next ≡ opened.running.epoch + length (records front) → IsEndFault next refused
       → IsUnended k (scene opened old trace) front asked refused
-  unended_alone fresh legal woven kept leads chain front_calls s next next_is is_fault =
+  unended fresh legal woven kept leads chain front_calls s next next_is is_fault =
       let (x0, firsts, more) = leads_split opened (history s.first) (history (Closes s.look s.batches asked ∷ s.behind)) x (subst (λ (h : Steps). Leads opened h x) (ap history s.front_is ∙ history_append s.first (Closes s.look s.batches asked ∷ s.behind)) leads) in
       let (y0, shuts, later) = leads_split x0 (desk_calls (Closes s.look s.batches asked)) (history s.behind) x more in
       let (at, looked, closes) = leads_split x0 (look_calls s.look ++ rest_calls s.batches) (close_calls asked) y0 (subst (λ (h : Steps). Leads x0 h y0) (sym (append_assoc (look_calls s.look) (rest_calls s.batches) (close_calls asked))) shuts) in
