@@ -9,14 +9,15 @@ use Rattle.ob_base.specs.declared.params.Params.{Params}
 use Rattle.ob_io.specs.Streams.{Flow}
 use Rattle.ob_store.specs.Lines.{Trace}
 use Rattle.ob_serial.specs.VaultKinds.{Kind}
-use Rattle.ob_serial.specs.Serial.{EpochRecord}
+use Rattle.ob_serial.specs.Serial.{EpochRecord, Map}
+use Rattle.std.specs.Ordering.{nat_cmp}
 use Rattle.ob_serial.specs.declared.records.Outcome.{Outcome}
 use Rattle.ob_serial.specs.declared.records.Outcome.TheVariants.{Committed, Aborted, Unsure}
 use Rattle.ob_serial.specs.declared.records.Why.TheVariants.{Conflict, Depends, ReadsFull, WritesFull, EpochEnd, Asked, Stopped}
 use Rattle.ob_serial.specs.declared.vault.EndErr.{EndErr}
 use Rattle.ob_serial.specs.declared.vault.EndErr.TheVariants as refused
 use Rattle.ob_desk.specs.Desk as desk
-use Rattle.ob_desk.specs.Desk.{DeskState, MayOpen, Call, Reply, new_desk, published, record_of}
+use Rattle.ob_desk.specs.Desk.{DeskState, MayOpen, Call, Reply, Run, new_desk, published, record_of}
 use Rattle.ob_desk.specs.declared.calls.Look.{Look}
 use Rattle.ob_desk.specs.Beats.{BeatKind}
 use Rattle.ob_session.specs.Steps.{Leads}
@@ -37,7 +38,7 @@ use Rattle.ob_conduct.specs.Rounds.{KeepRule, plan_rule}
 use Rattle.ob_conduct.specs.declared.run_err.RunErr.{RunErr}
 use Rattle.ob_conduct.specs.Acts.{Act, Says, Halts, Rests, Takes, Delivers, DeliverFails, FetchFails, RestUnwatched, Closes, Publishes, Refuses, Unprinted, Unwatched, desk_calls, stop_for, history, records}
 use Rattle.ob_conduct.specs.Scenes.{scene, RunState, run_state, RunnerKind, seat_of}
-use Rattle.ob_conduct.specs.Records.{IsOver}
+use Rattle.ob_conduct.specs.Records.{IsOver, contents}
 use Rattle.ob_conduct.specs.Moves.{IsSaid, IsUnended}
 use Rattle.ob_conduct.specs.Conducted.{Conducted}
 use Rattle.ob_conduct.proofs.Turning.{keeps_weaker}
@@ -164,15 +165,18 @@ module _ {V U : Type 0} (k : Kind V) (beat : BeatKind) (kind : RunnerKind U (Lis
     well : AreWell beat None acts
     well = all_well p (suc epoch) left script.clients may beat acts d.allowed new d.leads
 
-    pub is_served : (Shape : List Act → Type 0) → Shape acts → IsServed Shape beat p epoch left script (records acts)
-    is_served Shape rounds = record {
-      acts = acts;
+    pub is_served : (Shape : List Act → Type 0) (IsMap : Map nat_cmp → Type 0) → Shape acts → ((m : Map nat_cmp) → IsMap m → Run m base (history acts) (contents m (records acts)) new) → IsServed Shape IsMap beat p epoch left script (records acts)
+    is_served Shape IsMap rounds fed = record {
+      evidence = record {
+        acts = acts;
+        allowed = d.allowed;
+        turns = keeps_script kind means script before_runners acts planned d.keeps;
+        rounds = rounds;
+        desk = new;
+        leads = d.leads;
+        fed = fed;
+      };
       told_are = refl;
-      allowed = d.allowed;
-      turns = keeps_script kind means script before_runners acts planned d.keeps;
-      rounds = rounds;
-      desk = new;
-      leads = d.leads;
       first = first_served;
       shown = outcomes_are_shown (record { params = p }) (suc epoch) left script.clients (history acts) new may d.leads;
       due = due_of beat None acts well;
@@ -185,14 +189,14 @@ module _ {V U : Type 0} (k : Kind V) (beat : BeatKind) (kind : RunnerKind U (Lis
     }
 
     -- the acts are those of the run
-    pub its_acts : (Shape : List Act → Type 0) (rounds : Shape acts) → (is_served Shape rounds).acts ≡ acts
+    pub its_acts : (Shape : List Act → Type 0) (IsMap : Map nat_cmp → Type 0) (rounds : Shape acts) (fed : (m : Map nat_cmp) → IsMap m → Run m base (history acts) (contents m (records acts)) new) → (is_served Shape IsMap rounds fed).evidence.acts ≡ acts
     unfolding is_served
-    its_acts Shape rounds = refl
+    its_acts Shape IsMap rounds fed = refl
 
     -- and the desk is the run's
-    pub its_desk : (Shape : List Act → Type 0) (rounds : Shape acts) → (is_served Shape rounds).desk ≡ new
+    pub its_desk : (Shape : List Act → Type 0) (IsMap : Map nat_cmp → Type 0) (rounds : Shape acts) (fed : (m : Map nat_cmp) → IsMap m → Run m base (history acts) (contents m (records acts)) new) → (is_served Shape IsMap rounds fed).evidence.desk ≡ new
     unfolding is_served
-    its_desk Shape rounds = refl
+    its_desk Shape IsMap rounds fed = refl
 
     -- where each client has signed off, all of it
     pub all_served : IsOver new → ClientsServedAll script (records acts)

@@ -1,12 +1,13 @@
 -- What the records of a run tell of the scripts that were run.
 use Rattle.std.specs.Prelude.{ℕ, suc, ◌≡◌, ◌⊎◌, ◌<◌, true, All, List, [], ◌∷◌, length, Option, Some, None}
+use Rattle.std.specs.Ordering.{nat_cmp}
 use Rattle.ob_base.specs.declared.params.Params.{Params}
 use Rattle.ob_base.specs.declared.op.Op.{Op}
 use Rattle.ob_serial.specs.declared.records.Outcome.{Outcome}
 use Rattle.ob_serial.specs.declared.records.Outcome.TheVariants.{Committed, Aborted, Unsure}
 use Rattle.ob_serial.specs.declared.records.Why.TheVariants.{ReadsFull, WritesFull, EpochEnd, Asked}
-use Rattle.ob_serial.specs.Serial.{TxnRecord, EpochRecord}
-use Rattle.ob_desk.specs.Desk.{DeskState, new_desk}
+use Rattle.ob_serial.specs.Serial.{EpochRecord, Map, TxnRecord}
+use Rattle.ob_desk.specs.Desk.{DeskState, Run, new_desk}
 use Rattle.ob_desk.specs.declared.calls.Look.{Look}
 use Rattle.ob_desk.specs.Beats.{BeatKind}
 use Rattle.ob_session.specs.Steps.{Leads}
@@ -16,6 +17,7 @@ use Rattle.ob_script.specs.Script.{ScriptTxn, Scripts, asks_by}
 use Rattle.ob_runner.specs.Meaning.{Meets, MeetsFront, MeetsNoSum}
 use Rattle.ob_script.specs.declared.line.Ending.TheVariants.{Commit, Abort}
 use Rattle.ob_runner.specs.Turns.{IsScriptTurn}
+use Rattle.ob_conduct.specs.Records.{contents}
 use Rattle.ob_conduct.specs.Rounds.{TurnRule, KeepRule}
 use Rattle.ob_conduct.specs.Acts.{Act, Closes, Publishes, history, records, PassesTest, IsAllowed}
 
@@ -75,23 +77,29 @@ IsLonely _ = ⊥
 abbrev pub script_rule : Scripts → TurnRule
 script_rule script client said steps = IsScriptTurn (asks_by client script.txns) client said steps
 
--- A run of a script, whatever the vault: from a new desk on, whose first epoch is the one behind this, with so many batches left; its acts have
--- this shape.
-pub record IsServed (Shape : List Act → Type 0) (beat : BeatKind) (p : Params) (epoch left : ℕ) (script : Scripts) (told : List (EpochRecord ℕ)) : Type 0 where
-  -- what was done, in order: calls of the desk, each of them allowed where it is made, of which the records are told
+-- How the script was run, whatever the vault: from a new desk on, whose first epoch is the one behind this, with so many batches left; the
+-- acts have this shape.
+pub record Evidence (Shape : List Act → Type 0) (IsMap : Map nat_cmp → Type 0) (beat : BeatKind) (p : Params) (epoch left : ℕ) (script : Scripts) : Type 0 where
+  -- what was done, in order: calls of the desk, each of them allowed where it is made
   pub acts : List Act
-  pub told_are : told ≡ records acts
   pub allowed : All (IsAllowed beat) acts
   -- In its acts each client makes its script's next call, by what it was told.
   pub turns : KeepRule (script_rule script) [] acts
   pub rounds : Shape acts
   pub desk : DeskState
   pub leads : Leads (new_desk (record { params = p }) (suc epoch) left script.clients) (history acts) desk
+  -- What batches delivered is the map's, of each such map, so the acts are a run from it.
+  pub fed : (m : Map nat_cmp) → IsMap m → Run m (new_desk (record { params = p }) (suc epoch) left script.clients) (history acts) (contents m (records acts)) desk
+
+-- A run of a script, of whose acts the records are told.
+pub record IsServed (Shape : List Act → Type 0) (IsMap : Map nat_cmp → Type 0) (beat : BeatKind) (p : Params) (epoch left : ℕ) (script : Scripts) (told : List (EpochRecord ℕ)) : Type 0 where
+  pub evidence : Evidence Shape IsMap beat p epoch left script
+  pub told_are : told ≡ records evidence.acts
   -- Each client's transactions are a front of its script's, in order, each once, with the operations that it means.
   pub first : ClientsServed script told
   -- How each transaction ended is shown by its record; and for the end of its epoch one is aborted only where the beat was due.
   pub shown : All (λ r. All (λ t. IsOutcome p r t t.outcome) r.txns) told
-  pub due : AreDue beat None acts
+  pub due : AreDue beat None evidence.acts
   -- epochs and tickets are numbered one by one, and each epoch has a transaction
   pub numbered : AreNumbered (suc epoch) told
   pub some : All (λ r. 0 < length r.txns) told

@@ -28,8 +28,8 @@ use Rattle.ob_base.specs.declared.fault.Field.{Field}
 use Rattle.ob_base.specs.declared.fault.Field.TheVariants.{LANES}
 use Rattle.ob_words.specs.Reading.{asked_by, format_asked, run_asked}
 use Rattle.ob_words.specs.Work.{AreParams, IsBadNumber, AreLanes, AreBadLanes, HasKeys, IsKeysRefused}
-use Rattle.ob_top.specs.Outside.{Given, blind, HasTrace, Outside, IsOnlyTold}
-use Rattle.ob_top.specs.Formats.{FormatTold, FormatDone}
+use Rattle.ob_top.specs.Outside.{ErrTold, Given, blind, HasTrace, Outside, IsOnlyTold, outside}
+use Rattle.ob_top.specs.Formats.{FormatEnds, FormatDone}
 use Rattle.ob_vault.specs.RingKind.{RingMayStop, ring_kind}
 use Rattle.ob_vault.specs.Lives.{ring_lives}
 use Rattle.ob_vault.specs.Keeping.{AreStandingLaws}
@@ -50,21 +50,21 @@ use Rattle.ob_words.proofs.Named.{no_bad_number, no_bad_lanes, one_keys, keys_st
 rose_added : (text : List ℕ) (t u : Trace) → AddsOnly text t u → t.broken ≡ false → u.broken ≡ true → Rose t.faults u.faults
 rose_added text t u adds whole broken = subst (λ (b : Bool). BreaksOnly false b t.faults u.faults) broken (subst (λ (b : Bool). BreaksOnly b u.broken t.faults u.faults) whole adds.breaks)
 
-format_fault : {S : Type 0} (disk : S → Disk) (tape : Given) (keys : Keys) (p : Params) (old new : S) (before after : Outside) (t u : Trace) (f : Option RunErr) → FormatTold ring_kind ring_lives disk tape keys p old new before.output after.output t u f
-    → (Rose (disk old).faults (disk new).faults → ⊥) → (Rose before.output.faults after.output.faults → ⊥) → (t.broken ≡ false) → (Rose t.faults u.faults → ⊥) → (status_of (told_fault f) ≡ 0) ⊎ (status_of (told_fault f) ≡ 9)
-format_fault disk tape keys p old new before after t u None told store output whole watch = inl refl
-format_fault disk tape keys p old new before after t u (Some failed.Unwatched) told store output whole watch = absurd (watch (rose_added (lines_of (ring_kind.format_notes p)) t u told.2.0 whole told.2.1))
-format_fault disk tape keys p old new before after t u (Some (failed.Fault fault.SinkFault)) told store output whole watch = absurd (output told.1)
-format_fault disk tape keys p old new before after t u (Some (failed.Fault (fault.StoreFault unsure))) told store output whole watch = absurd (store told.1)
-format_fault disk tape keys p old new before after t u (Some (failed.Fault fault.Memory)) told store output whole watch = inr refl
-format_fault disk tape keys p old new before after t u (Some (failed.Fault fault.Usage)) told store output whole watch = inr (ap (λ (x : Fault). status_of (Some x)) told.0)
-format_fault disk tape keys p old new before after t u (Some (failed.Fault (fault.BadScript line))) told store output whole watch = inr (ap (λ (x : Fault). status_of (Some x)) told.0)
-format_fault disk tape keys p old new before after t u (Some (failed.Fault (fault.BadParams field))) told store output whole watch = inr (ap (λ (x : Fault). status_of (Some x)) told.0)
-format_fault disk tape keys p old new before after t u (Some (failed.Fault fault.NotStore)) told store output whole watch = inr (ap (λ (x : Fault). status_of (Some x)) told.0)
-format_fault disk tape keys p old new before after t u (Some (failed.Fault (fault.Damaged cell check kept computed))) told store output whole watch = inr (ap (λ (x : Fault). status_of (Some x)) told.0)
-format_fault disk tape keys p old new before after t u (Some (failed.Fault (fault.StashFull rows))) told store output whole watch = inr (ap (λ (x : Fault). status_of (Some x)) told.0)
-format_fault disk tape keys p old new before after t u (Some (failed.Fault (fault.Worn number))) told store output whole watch = inr (ap (λ (x : Fault). status_of (Some x)) told.0)
-format_fault disk tape keys p old new before after t u (Some (failed.Fault fault.SourceFault)) told store output whole watch = inr (ap (λ (x : Fault). status_of (Some x)) told.0)
+format_fault : {S : Type 0} (disk : S → Disk) (tape : Given) (keys : Keys) (p : Params) (old new : S) (before written after : Flow) (t u : Trace) (f : Option RunErr) → FormatEnds ring_kind ring_lives disk tape keys p old new before written t u f → ErrTold written after f
+    → (Rose (disk old).faults (disk new).faults → ⊥) → (Rose before.faults after.faults → ⊥) → (t.broken ≡ false) → (Rose t.faults u.faults → ⊥) → (status_of (told_fault f) ≡ 0) ⊎ (status_of (told_fault f) ≡ 9)
+format_fault disk tape keys p old new before written after t u None told line store output whole watch = inl refl
+format_fault disk tape keys p old new before written after t u (Some failed.Unwatched) told line store output whole watch = absurd (watch (rose_added (lines_of (ring_kind.format_notes p)) t u told.2.0 whole told.2.1))
+format_fault disk tape keys p old new before written after t u (Some (failed.Fault fault.SinkFault)) told line store output whole watch = absurd (output (subst (λ (o : Flow). Rose before.faults o.faults) (sym line) told.1))
+format_fault disk tape keys p old new before written after t u (Some (failed.Fault (fault.StoreFault unsure))) told line store output whole watch = absurd (store told.1)
+format_fault disk tape keys p old new before written after t u (Some (failed.Fault fault.Memory)) told line store output whole watch = inr refl
+format_fault disk tape keys p old new before written after t u (Some (failed.Fault fault.Usage)) told line store output whole watch = inr (ap (λ (x : Fault). status_of (Some x)) told.0)
+format_fault disk tape keys p old new before written after t u (Some (failed.Fault (fault.BadScript bad))) told line store output whole watch = inr (ap (λ (x : Fault). status_of (Some x)) told.0)
+format_fault disk tape keys p old new before written after t u (Some (failed.Fault (fault.BadParams field))) told line store output whole watch = inr (ap (λ (x : Fault). status_of (Some x)) told.0)
+format_fault disk tape keys p old new before written after t u (Some (failed.Fault fault.NotStore)) told line store output whole watch = inr (ap (λ (x : Fault). status_of (Some x)) told.0)
+format_fault disk tape keys p old new before written after t u (Some (failed.Fault (fault.Damaged cell check kept computed))) told line store output whole watch = inr (ap (λ (x : Fault). status_of (Some x)) told.0)
+format_fault disk tape keys p old new before written after t u (Some (failed.Fault (fault.StashFull rows))) told line store output whole watch = inr (ap (λ (x : Fault). status_of (Some x)) told.0)
+format_fault disk tape keys p old new before written after t u (Some (failed.Fault (fault.Worn number))) told line store output whole watch = inr (ap (λ (x : Fault). status_of (Some x)) told.0)
+format_fault disk tape keys p old new before written after t u (Some (failed.Fault fault.SourceFault)) told line store output whole watch = inr (ap (λ (x : Fault). status_of (Some x)) told.0)
 
 -- ---- run
 
@@ -126,71 +126,73 @@ module _ (store : StoreKind) (laws : AreStandingLaws store) (life : LifeWords st
     pub records : List (EpochRecord ℕ)
     pub first : Trace
     pub last : Trace
-    pub ran : Ran store life disk by tape can.keys old new before after first last records (Some (failed.Fault told))
+    pub written : Flow
+    pub ran : Ran store life disk by tape can.keys old new before (outside after.input written) first last records (Some (failed.Fault told))
 
-  module _ (by : Manner) (tape : Given) (records : List (EpochRecord ℕ)) (t u : Trace) (whole : t.broken ≡ false) (watch : Rose t.faults u.faults → ⊥) where
-    ran_keys : (f : Option RunErr) (r : Ran store life disk by tape can.keys old new before after t u records f) → r.p.keys ≡ can.p.keys
+  module _ (by : Manner) (tape : Given) (records : List (EpochRecord ℕ)) (t u : Trace) (written : Flow) (whole : t.broken ≡ false) (watch : Rose t.faults u.faults → ⊥) where
+    ran_keys : (f : Option RunErr) (r : Ran store life disk by tape can.keys old new before (outside after.input written) t u records f) → r.p.keys ≡ can.p.keys
     ran_keys f r = many_keys r.p r.opened.head
 
-    ran_epoch : (f : Option RunErr) (r : Ran store life disk by tape can.keys old new before after t u records f) → store.epoch r.found ≡ can.at.epoch
+    ran_epoch : (f : Option RunErr) (r : Ran store life disk by tape can.keys old new before (outside after.input written) t u records f) → store.epoch r.found ≡ can.at.epoch
     ran_epoch f r = laws.finds can.keys can.p can.generation (disk old).cells can.at r.found can.stands (subst (λ (q : Params). store.finds can.keys q (disk old).cells r.found) (one_p r.p r.opened.head) (r.opened.finds can.tells))
 
-    ran_script : (f : Option RunErr) (r : Ran store life disk by tape can.keys old new before after t u records f) → r.script ≡ script
+    ran_script : (f : Option RunErr) (r : Ran store life disk by tape can.keys old new before (outside after.input written) t u records f) → r.script ≡ script
     ran_script f r = came_one r.p.keys r.script (ran_keys f r) r.opened.came
 
-    ran_few : (f : Option RunErr) (r : Ran store life disk by tape can.keys old new before after t u records f) → length records ≤ length script.txns
+    ran_few : (f : Option RunErr) (r : Ran store life disk by tape can.keys old new before (outside after.input written) t u records f) → length r.serving.records ≤ length script.txns
     ran_few f r =
-        let served = r.is_served.served in
-        let epochs = few_epochs records served.some in
-        let txns = few_txns r.script.txns records served.first in
-        subst (λ (s : Scripts). length records ≤ length s.txns) (ran_script f r) (omega (arith, epochs, txns))
+        let served = r.serving.is_served.served in
+        let epochs = few_epochs r.serving.records served.some in
+        let txns = few_txns r.script.txns r.serving.records served.first in
+        subst (λ (s : Scripts). length r.serving.records ≤ length s.txns) (ran_script f r) (omega (arith, epochs, txns))
 
     -- what stands was opened, so its map was found
-    ran_map : (f : Option RunErr) (r : Ran store life disk by tape can.keys old new before after t u records f) → store.is_map can.keys can.p (disk r.between) r.found can.at.content
+    ran_map : (f : Option RunErr) (r : Ran store life disk by tape can.keys old new before (outside after.input written) t u records f) → store.is_map can.keys can.p (disk r.between) r.found can.at.content
     ran_map f r =
         let same = one_p r.p r.opened.head in
         subst (λ (q : Params). store.is_map can.keys q (disk r.between) r.found can.at.content) same
         (r.stood can.at can.tells (can.generation, subst (λ (q : Params). store.stands can.keys q can.generation (disk old).cells can.at) (sym same) can.stands)).content
 
     -- a fault of the kind is one that may stop it even so
-    may_stop : (f : Fault) (r : Ran store life disk by tape can.keys old new before after t u records (Some (failed.Fault f))) (h : store.Hidden) (so_far : List Shape) (call : Option VaultCall)
-        → store.causes can.keys r.p r.found (disk r.between) (disk new) h so_far (length records) call tape.words f → store.may_stop can.p f
+    may_stop : (f : Fault) (r : Ran store life disk by tape can.keys old new before (outside after.input written) t u records (Some (failed.Fault f))) (h : store.Hidden) (so_far : List Shape) (call : Option VaultCall)
+        → store.causes can.keys r.p r.found (disk r.between) (disk new) h so_far (length r.serving.records) call tape.words f → store.may_stop can.p f
     may_stop f r h so_far call cause =
-        laws.serves can.keys can.p can.generation (length script.txns) (length records) r.found (disk r.between) (disk new) h so_far call tape.words f can.at.content
+        laws.serves can.keys can.p can.generation (length script.txns) (length r.serving.records) r.found (disk r.between) (disk new) h so_far call tape.words f can.at.content
         (subst (λ e. store.lasts can.p can.generation e (length script.txns)) (sym (ran_epoch (Some (failed.Fault f)) r)) can.lasts) (ran_few (Some (failed.Fault f)) r) (ran_map (Some (failed.Fault f)) r)
-        (subst (λ (q : Params). store.causes can.keys q r.found (disk r.between) (disk new) h so_far (length records) call tape.words f) (one_p r.p r.opened.head) cause)
+        (subst (λ (q : Params). store.causes can.keys q r.found (disk r.between) (disk new) h so_far (length r.serving.records) call tape.words f) (one_p r.p r.opened.head) cause)
 
-    ran_fault : (f : Fault) (r : Ran store life disk by tape can.keys old new before after t u records (Some (failed.Fault f))) (h : store.Hidden) (so_far : List Shape) (call : Option VaultCall)
-        → EndsFor store can.keys r.p r.found (disk r.between) h so_far (length records) call tape.words (disk old) (disk new) before.output after.output t u (Some (failed.Fault f))
+    ran_fault : (f : Fault) (r : Ran store life disk by tape can.keys old new before (outside after.input written) t u records (Some (failed.Fault f))) (h : store.Hidden) (so_far : List Shape) (call : Option VaultCall)
+        → EndsFor store can.keys r.p r.found (disk r.between) h so_far (length r.serving.records) call tape.words (disk r.between) (disk new) before.output written r.midway u (Some (failed.Fault f))
+        → ErrTold written after.output (Some (failed.Fault f))
         → (status_of (Some f) ≡ 9) ⊎ store.may_stop can.p f
-    ran_fault fault.Memory r h so_far call cause = inl refl
-    ran_fault fault.SinkFault r h so_far call cause = absurd (can.output_holds cause)
-    ran_fault (fault.StoreFault unsure) r h so_far call cause = absurd (can.store_holds cause.0)
-    ran_fault (fault.Worn number) r h so_far call cause = inr (may_stop (fault.Worn number) r h so_far call cause)
-    ran_fault fault.Usage r h so_far call cause = inr (may_stop fault.Usage r h so_far call cause)
-    ran_fault (fault.BadScript line) r h so_far call cause = inr (may_stop (fault.BadScript line) r h so_far call cause)
-    ran_fault (fault.BadParams field) r h so_far call cause = inr (may_stop (fault.BadParams field) r h so_far call cause)
-    ran_fault fault.NotStore r h so_far call cause = inr (may_stop fault.NotStore r h so_far call cause)
-    ran_fault (fault.Damaged cell check kept computed) r h so_far call cause = inr (may_stop (fault.Damaged cell check kept computed) r h so_far call cause)
-    ran_fault (fault.StashFull rows) r h so_far call cause = inr (may_stop (fault.StashFull rows) r h so_far call cause)
-    ran_fault fault.SourceFault r h so_far call cause = inr (may_stop fault.SourceFault r h so_far call cause)
+    ran_fault fault.Memory r h so_far call cause line = inl refl
+    ran_fault fault.SinkFault r h so_far call cause line = absurd (can.output_holds (subst (λ (o : Flow). Rose before.output.faults o.faults) (sym line) cause))
+    ran_fault (fault.StoreFault unsure) r h so_far call cause line = absurd (can.store_holds (rose_later (disk old).faults (disk r.between).faults (disk new).faults r.faults cause.0))
+    ran_fault (fault.Worn number) r h so_far call cause line = inr (may_stop (fault.Worn number) r h so_far call cause)
+    ran_fault fault.Usage r h so_far call cause line = inr (may_stop fault.Usage r h so_far call cause)
+    ran_fault (fault.BadScript bad) r h so_far call cause line = inr (may_stop (fault.BadScript bad) r h so_far call cause)
+    ran_fault (fault.BadParams field) r h so_far call cause line = inr (may_stop (fault.BadParams field) r h so_far call cause)
+    ran_fault fault.NotStore r h so_far call cause line = inr (may_stop fault.NotStore r h so_far call cause)
+    ran_fault (fault.Damaged cell check kept computed) r h so_far call cause line = inr (may_stop (fault.Damaged cell check kept computed) r h so_far call cause)
+    ran_fault (fault.StashFull rows) r h so_far call cause line = inr (may_stop (fault.StashFull rows) r h so_far call cause)
+    ran_fault fault.SourceFault r h so_far call cause line = inr (may_stop fault.SourceFault r h so_far call cause)
 
     -- it answers 0, or 9, or tells of a fault that may stop it even so
     abbrev pub Answers : ℕ → Type 0
     Answers status = (status ≡ 0) ⊎ ((status ≡ 9) ⊎ StopsFor by tape status)
 
-    by_fault : (status : ℕ) (f : Fault) → status ≡ status_of (Some f) → Ran store life disk by tape can.keys old new before after t u records (Some (failed.Fault f)) → (status_of (Some f) ≡ 9) ⊎ store.may_stop can.p f → Answers status
+    by_fault : (status : ℕ) (f : Fault) → status ≡ status_of (Some f) → Ran store life disk by tape can.keys old new before (outside after.input written) t u records (Some (failed.Fault f)) → (status_of (Some f) ≡ 9) ⊎ store.may_stop can.p f → Answers status
     by_fault status f is ran (inl nine) = inr (inl (is ∙ nine))
-    by_fault status f is ran (inr may) = inr (inr (record { told = f; may = may; status_is = is; records = records; first = t; last = u; ran = ran }))
+    by_fault status f is ran (inr may) = inr (inr (record { told = f; may = may; status_is = is; records = records; first = t; last = u; written = written; ran = ran }))
 
-    answers : (status : ℕ) (f : Option RunErr) → status ≡ status_of (told_fault f) → Went store life disk by tape can.keys old new before after t u records f → Answers status
-    answers status None is ran = inl is
-    answers status (Some f) is (inl (none, ended, lives)) = inr (inl (is ∙ early by.lanes t u f whole watch ended))
-    answers status (Some (failed.Fault f)) is (inr ran) = by_fault status f is ran (ran_fault f ran ran.traced.behind (shapes (calls ran.is_served.served.acts)) (refused (calls ran.is_served.served.acts)) ran.cause)
-    answers status (Some failed.Unwatched) is (inr ran) = absurd (watch ran.cause.1)
+    answers : (status : ℕ) (f : Option RunErr) → status ≡ status_of (told_fault f) → ErrTold written after.output f → Went store life disk by tape can.keys old new before (outside after.input written) t u records f → Answers status
+    answers status None is line ran = inl is
+    answers status (Some f) is line (inl (none, ended, lives)) = inr (inl (is ∙ early by.lanes t u f whole watch ended))
+    answers status (Some (failed.Fault f)) is line (inr ran) = by_fault status f is ran (ran_fault f ran ran.serving.traced.behind (shapes (calls ran.serving.is_served.served.evidence.acts)) (refused (calls ran.serving.is_served.served.evidence.acts)) ran.serving.cause line)
+    answers status (Some failed.Unwatched) is line (inr ran) = absurd (watch (rose_later t.faults ran.midway.faults u.faults ran.opening_shown.faults ran.serving.cause.1))
 
   pub run_answers : (by : Manner) (tape : Given) (status : ℕ) (t u : Trace) → t.broken ≡ false → (Rose t.faults u.faults → ⊥) → RunDone store life disk by tape can.keys old new before after t u status → (status ≡ 0) ⊎ ((status ≡ 9) ⊎ StopsFor by tape status)
-  run_answers by tape status t u whole watch d = answers by tape d.records t u whole watch status d.err d.status_is d.went
+  run_answers by tape status t u whole watch d = answers by tape d.records t u d.written whole watch status d.err d.status_is d.line d.went
 
 -- ---- the trace
 
@@ -242,7 +244,7 @@ module _ {S W : Type 0} (disk : S → Disk) (flow : W → Flow) (beat : BeatKind
   format_whole can (inr (inl (field, bad, (kept, told)))) = absurd (no_bad_number can.numbers can.p field can.params bad)
   format_whole can (inr (inr (p, are, inl (f, refused, (kept, told))))) = absurd (keys_stand text can.keys f can.has refused)
   format_whole can (inr (inr (p, are, inr (keys, has, by)))) = of_trace flow was is before after status (start_line p) can.trace (λ t u. FormatDone ring_kind ring_lives disk tape keys p old new before after t u status) old new can.trace_holds by ((status ≡ 0) ⊎ (status ≡ 9))
-      (λ t u whole watch d. ⊎_elim (λ none. inl (d.status_is ∙ none)) (λ nine. inr (d.status_is ∙ nine)) (format_fault disk tape keys p old new before after t u d.err d.told can.store_holds can.output_holds whole watch))
+      (λ t u whole watch d. ⊎_elim (λ none. inl (d.status_is ∙ none)) (λ nine. inr (d.status_is ∙ nine)) (format_fault disk tape keys p old new before.output d.written after.output t u d.err d.told d.line can.store_holds can.output_holds whole watch))
 
   module _ (script : Scripts) (can : CanRun flow words text (disk old) (disk new) was is before after ring_kind script) where
     abbrev by : Manner
@@ -251,18 +253,18 @@ module _ {S W : Type 0} (disk : S → Disk) (flow : W → Flow) (beat : BeatKind
     abbrev Full : Type 0
     Full = StopsFull disk flow beat tape words text was is before after status by can.keys can.p old new
 
-    by_stop : (f : Fault) → RingMayStop can.p f → status ≡ status_of (Some f) → (records : List (EpochRecord ℕ)) (t u : Trace) → Ran ring_kind ring_lives disk by tape can.keys old new before after t u records (Some (failed.Fault f)) → Full
-    by_stop (fault.StashFull rows) (past, few) is records t u ran = record { status_is = is; fewer = omega (arith, past, few); records = records; rows = rows; first = t; last = u; ran = ran }
-    by_stop fault.Memory may is records t u ran = absurd may
-    by_stop fault.Usage may is records t u ran = absurd may
-    by_stop (fault.BadScript line) may is records t u ran = absurd may
-    by_stop (fault.BadParams field) may is records t u ran = absurd may
-    by_stop fault.NotStore may is records t u ran = absurd may
-    by_stop (fault.Damaged cell check kept computed) may is records t u ran = absurd may
-    by_stop (fault.StoreFault unsure) may is records t u ran = absurd may
-    by_stop (fault.Worn number) may is records t u ran = absurd may
-    by_stop fault.SourceFault may is records t u ran = absurd may
-    by_stop fault.SinkFault may is records t u ran = absurd may
+    by_stop : (f : Fault) → RingMayStop can.p f → status ≡ status_of (Some f) → (records : List (EpochRecord ℕ)) (t u : Trace) (written : Flow) → Ran ring_kind ring_lives disk by tape can.keys old new before (outside after.input written) t u records (Some (failed.Fault f)) → Full
+    by_stop (fault.StashFull rows) (past, few) is records t u written ran = record { status_is = is; fewer = omega (arith, past, few); records = records; rows = rows; first = t; last = u; written = written; ran = ran }
+    by_stop fault.Memory may is records t u written ran = absurd may
+    by_stop fault.Usage may is records t u written ran = absurd may
+    by_stop (fault.BadScript line) may is records t u written ran = absurd may
+    by_stop (fault.BadParams field) may is records t u written ran = absurd may
+    by_stop fault.NotStore may is records t u written ran = absurd may
+    by_stop (fault.Damaged cell check kept computed) may is records t u written ran = absurd may
+    by_stop (fault.StoreFault unsure) may is records t u written ran = absurd may
+    by_stop (fault.Worn number) may is records t u written ran = absurd may
+    by_stop fault.SourceFault may is records t u written ran = absurd may
+    by_stop fault.SinkFault may is records t u written ran = absurd may
 
     abbrev Stopped : Type 0
     Stopped = StopsFor ring_kind ring_keeps ring_lives disk words text old new flow was is before after script can by tape status
@@ -270,7 +272,7 @@ module _ {S W : Type 0} (disk : S → Disk) (flow : W → Flow) (beat : BeatKind
     by_answer : (status ≡ 0) ⊎ ((status ≡ 9) ⊎ Stopped) → (status ≡ 0) ⊎ ((status ≡ 9) ⊎ Full)
     by_answer (inl none) = inl none
     by_answer (inr (inl nine)) = inr (inl nine)
-    by_answer (inr (inr s)) = inr (inr (by_stop s.told s.may s.status_is s.records s.first s.last s.ran))
+    by_answer (inr (inr s)) = inr (inr (by_stop s.told s.may s.status_is s.records s.first s.last s.written s.ran))
 
     run_whole : RunTells can.lanes can.turns can.trace → (status ≡ 0) ⊎ ((status ≡ 9) ⊎ Full)
     run_whole (inl (kept, told)) = inr (inl told.status_is)

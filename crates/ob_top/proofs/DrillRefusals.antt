@@ -121,7 +121,7 @@ module _ {V S : Type 0} (k : Kind V) (counts : V → VaultCounts) (agrees : (x :
     -- the script was served as `run` serves one
     served_as : (mid : V) (result : Result (Unit {0}) RunErr) → WasRun k counts beat p script runners first mid result
         → (s : ServedOver ring_kind ring_lives disk (manner beat true 4) keys p f (f.run).sealer script (told_by (runs mid)) (runs first).store (runs mid).store no_output no_output blind blind (err_of result))
-        × CallsBehind k first (calls s.is_served.served.acts) mid (err_of result)
+        × CallsBehind k first (calls s.is_served.served.evidence.acts) mid (err_of result)
     served_as mid result run =
         serves_lent first k beat true p script blind runners no_output mid blind run.ran no_output result _ _ (run.desk, run.by) refl (subst AreSound (sym script_is) (drill_sound n)) are disk counts_now only_now runs words lent keys 4 found f f.run goes run_is refl epoch_is left_is
         (omega (arith, begins)) (omega (arith, left)) lanes (omega arith, omega arith) has none started
@@ -130,8 +130,8 @@ module _ {V S : Type 0} (k : Kind V) (counts : V → VaultCounts) (agrees : (x :
     pub served_and_read : (last : V) (d : Drilled) → HasDrilled k counts beat p script runners first last d → IsServedAndRead disk beat keys p n f (runs first).store (runs last).store
     served_and_read last d h =
         let (s, its) = subst (λ (x : Scripts). (s : ServedOver ring_kind ring_lives disk (manner beat true 4) keys p f (f.run).sealer x (told_by (runs h.mid)) (runs first).store (runs h.mid).store no_output no_output blind blind None) × CallsBehind k first
-        (calls s.is_served.served.acts) h.mid None) script_is (served_as h.mid (Ok tt) h.run) in
-        let asked = calls s.is_served.served.acts in
+        (calls s.is_served.served.evidence.acts) h.mid None) script_is (served_as h.mid (Ok tt) h.run) in
+        let asked = calls s.is_served.served.evidence.acts in
         let reads = h.reads.steps in
         let read = reads_called k h.mid blind reads last blind h.reads.chain in
         let all = answered_join asked reads (its.answered refl) (reads_answered k h.mid _ reads last (holds_behind k first asked h.mid _ its.called held) read h.reads.reads) in
@@ -149,8 +149,8 @@ module _ {V S : Type 0} (k : Kind V) (counts : V → VaultCounts) (agrees : (x :
         let s = (served_as last (Err err) run).0 in
         let epochs = few_epochs s.records s.is_served.served.some in
         let txns = few_txns script.txns s.records s.is_served.served.first in
-        subst (λ (x : Fault). (x ≡ Memory) ⊎ IsStoreFault x) (sym same) (run_wants p numbers keys f opened (disk (runs last).store) begins is_map s.traced.behind (shapes (calls s.is_served.served.acts)) (length s.records)
-        (refused (calls s.is_served.served.acts)) (runs last).drawn opened err (omega (arith, epochs, txns, many_txns, few)) s.cause)
+        subst (λ (x : Fault). (x ≡ Memory) ⊎ IsStoreFault x) (sym same) (run_wants p numbers keys f opened (disk (runs last).store) begins is_map s.traced.behind (shapes (calls s.is_served.served.evidence.acts)) (length s.records)
+        (refused (calls s.is_served.served.evidence.acts)) (runs last).drawn opened err (omega (arith, epochs, txns, many_txns, few)) s.cause)
     drill_wants last fault (inr (mid, run, inl (memory, reads))) = inl memory
     drill_wants last fault (inr (mid, run, inr r)) =
         let i = its k counts agrees p numbers n few beat script script_is first (epoch_is ∙ ap (λ (x : Run). x.epoch) run_is ∙ begins) (left_is ∙ ap (λ (x : Run). x.left) run_is ∙ left) runners are (held_with f.run empty) held refl mid run in

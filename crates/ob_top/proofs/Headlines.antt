@@ -1,5 +1,5 @@
 -- The headline, from what a run has done.
-use Rattle.std.proofs.Common.{◌≡◌, ◌∙◌, ◌+◌, ℕ, suc, Bool, not, List, [], ◌∷◌, ◌++◌, length, Option, Some, None, refl, sym, subst, inl, inr, arith}
+use Rattle.std.proofs.Common.{◌≤◌, ◌≡◌, ◌∙◌, ◌+◌, ℕ, suc, Bool, not, List, [], ◌∷◌, ◌++◌, length, map, Option, Some, None, refl, sym, subst, inl, inr, arith, ap}
 use Rattle.std.proofs.lemmas.List.{append-nil}
 use Rattle.std.specs.Borrow.{Bor}
 use Rattle.std.specs.Ordering.{nat_cmp}
@@ -35,8 +35,8 @@ use Rattle.ob_store.specs.Disk.{Disk, Image}
 use Rattle.ob_store.specs.Images.{IsImageOf, LeavesOnly, Passes, Same}
 use Rattle.ob_store.specs.Lines.{Trace, open_line}
 use Rattle.ob_vault.proofs.Standing.{ring_keeps}
-use Rattle.ob_vault.proofs.Whole.{whole_run}
-use Rattle.ob_vault.specs.Acts.{AreTapeWords}
+use Rattle.ob_vault.proofs.Whole.{reached_join, whole_run}
+use Rattle.ob_vault.specs.Acts.{AreBatchesSmall, AreTapeWords}
 use Rattle.ob_vault.specs.Kinds.{AllStand, IsOpenedAt, Stands, StandsAsBefore}
 use Rattle.ob_vault.specs.Lives.{IsLeftInLife, IsNextInLife, IsOpenedInLife, IsRunInLife, opening_acts, ring_lives}
 use Rattle.ob_vault.specs.RingKind.{RingFound, ring_hidden, ring_kind}
@@ -47,15 +47,16 @@ use Rattle.ob_top.specs.Calls.{RunCall, EndPoint, IsRunCause, end_point}
 use Rattle.ob_top.specs.Endings.{told_fault}
 use Rattle.ob_top.specs.Headline.{Headline, RunTold, Stood}
 use Rattle.ob_top.specs.Listed.{AreListed}
-use Rattle.ob_top.specs.Outside.{Given, HasTrace, Outside, blind}
+use Rattle.ob_top.specs.Outside.{ErrTold, Given, HasTrace, Outside, blind, outside}
 use Rattle.ob_top.specs.Pasts.{LeadsTo, PastLife, life_of, with_acts}
 use Rattle.ob_top.specs.Promised.{Promised, Unserved, faults_of}
-use Rattle.ob_top.specs.Runs.{EndsEarly, EndsFor, EndsWith, IsNextEpoch, LeftByWholeRun, Ran, RunDone, Went, manner}
+use Rattle.ob_top.specs.Runs.{EndsEarly, EndsFor, EndsWith, IsNextEpoch, IsLeftOnDisk, Ran, RunDone, Went, manner}
 use Rattle.ob_top.specs.Sound.{StandsOn}
 use Rattle.ob_top.specs.Top.{ByTrace}
 use Rattle.ob_top.proofs.Completing.{RunTells}
 use Rattle.ob_top.proofs.Counted.{one_lanes}
-use Rattle.ob_top.proofs.Lasting.{fresh_on, leads_on, opened_there, opened_turn, stopped_next}
+use Rattle.ob_top.proofs.Living.{whole_lives}
+use Rattle.ob_top.proofs.Lasting.{fresh_on, leads_on, past_on, opened_there, opened_turn, stopped_next}
 use Rattle.ob_top.proofs.Sounding.{none_told_at_0}
 
 no_rise : Rose 0 0 → ⊥
@@ -73,27 +74,28 @@ next_of IsMap m epoch script records (Some r) is comes = record {
 
 module _ {S : Type 0} (disk : S → Disk) (keys : Keys) (call : RunCall S) (t u : Trace) (traced : Rose t.faults u.faults → Rose call.traced_before call.traced_after) where
   -- why it ended
-  cause_of : (p : Params) (found : RingFound) (opened : S) (so_far : List Shape) (end : EndPoint) (err : Option RunErr)
-      → EndsFor ring_kind keys p found (disk opened) end.behind so_far end.epochs end.call end.words (disk call.old) (disk call.new) call.before.output call.after.output t u err → IsRunCause disk keys p call found opened end err
-  cause_of p found opened so_far end None cause = tt
-  cause_of p found opened so_far end (Some failed.Unwatched) (broken, rose) = traced rose
-  cause_of p found opened so_far end (Some (failed.Fault Memory)) cause = tt
-  cause_of p found opened so_far end (Some (failed.Fault SinkFault)) cause = cause
-  cause_of p found opened so_far end (Some (failed.Fault (StoreFault unsure))) cause = cause
-  cause_of p found opened so_far end (Some (failed.Fault (Worn number))) cause = cause
-  cause_of p found opened so_far end (Some (failed.Fault Usage)) cause = cause
-  cause_of p found opened so_far end (Some (failed.Fault (BadScript line))) cause = cause
-  cause_of p found opened so_far end (Some (failed.Fault (BadParams field))) cause = cause
-  cause_of p found opened so_far end (Some (failed.Fault NotStore)) cause = cause
-  cause_of p found opened so_far end (Some (failed.Fault (Damaged cell check kept computed))) cause = cause
-  cause_of p found opened so_far end (Some (failed.Fault (StashFull rows))) cause = cause
-  cause_of p found opened so_far end (Some (failed.Fault SourceFault)) cause = cause
+  module _ (between : S) (midway : Trace) (written : Flow) (later : (disk call.old).faults ≤ (disk between).faults) (watch_later : t.faults ≤ midway.faults) where
+    cause_of : (p : Params) (found : RingFound) (so_far : List Shape) (end : EndPoint) (err : Option RunErr) → ErrTold written call.after.output err
+        → EndsFor ring_kind keys p found (disk between) end.behind so_far end.epochs end.call end.words (disk between) (disk call.new) call.before.output written midway u err → IsRunCause disk keys p call found between end err
+    cause_of p found so_far end None line cause = tt
+    cause_of p found so_far end (Some failed.Unwatched) line (broken, rose) = traced (rose_later t.faults midway.faults u.faults watch_later rose)
+    cause_of p found so_far end (Some (failed.Fault Memory)) line cause = tt
+    cause_of p found so_far end (Some (failed.Fault SinkFault)) line cause = subst (λ (o : Flow). Rose call.before.output.faults o.faults) (sym line) cause
+    cause_of p found so_far end (Some (failed.Fault (StoreFault unsure))) line (rose, which) = (rose_later (disk call.old).faults (disk between).faults (disk call.new).faults later rose, which)
+    cause_of p found so_far end (Some (failed.Fault (Worn number))) line cause = cause
+    cause_of p found so_far end (Some (failed.Fault Usage)) line cause = cause
+    cause_of p found so_far end (Some (failed.Fault (BadScript bad))) line cause = cause
+    cause_of p found so_far end (Some (failed.Fault (BadParams field))) line cause = cause
+    cause_of p found so_far end (Some (failed.Fault NotStore)) line cause = cause
+    cause_of p found so_far end (Some (failed.Fault (Damaged cell check kept computed))) line cause = cause
+    cause_of p found so_far end (Some (failed.Fault (StashFull rows))) line cause = cause
+    cause_of p found so_far end (Some (failed.Fault SourceFault)) line cause = cause
 
-  module _ (includes_reads : (x : S) → (disk x).tells → (disk x).leaves → (disk x).may_leave (disk x).cells) (goes : GoesOn (disk call.old) (disk call.new)) (at : Standing) (past : PastLife) (records : List (EpochRecord ℕ)) (err : Option RunErr) where
-    abbrev Output : Type 0
-    Output = (call.status ≡ status_of (told_fault err)) × IsPrinted call.before.output call.after.output (report decimal records ++ fault_line (told_fault err)) × (err ≡ None → call.after.output.bytes ≡ appended call.before.output.bytes (report decimal records))
+  module _ (includes_reads : (x : S) → (disk x).tells → (disk x).leaves → (disk x).may_leave (disk x).cells) (goes : GoesOn (disk call.old) (disk call.new)) (at : Standing) (past : PastLife) (err : Option RunErr) (written : Flow) (line : ErrTold written call.after.output err) where
+    abbrev Output : List (EpochRecord ℕ) → Type 0
+    Output records = (call.status ≡ status_of (told_fault err)) × IsPrinted call.before.output call.after.output (report decimal records ++ fault_line (told_fault err)) × (err ≡ None → call.after.output.bytes ≡ appended call.before.output.bytes (report decimal records))
 
-    module _ (r : Ran ring_kind ring_lives disk call.by call.tape keys call.old call.new call.before call.after t u records err) (stood : Stood disk keys r.p at past call.tape call.old) where
+    module _ (records : List (EpochRecord ℕ)) (r : Ran ring_kind ring_lives disk call.by call.tape keys call.old call.new call.before (outside call.after.input written) t u records err) (stood : Stood disk keys r.p at past call.tape call.old) where
       abbrev p : Params
       p = r.p
 
@@ -101,26 +103,26 @@ module _ {S : Type 0} (disk : S → Disk) (keys : Keys) (call : RunCall S) (t u 
       s = life_of p past
 
       abbrev asked : List (VaultCall × VaultAnswer)
-      asked = calls r.is_served.served.acts
+      asked = calls r.serving.is_served.served.evidence.acts
 
       pub opened_at : IsOpenedAt ring_kind keys p at r.found (disk r.between)
       opened_at = r.stood at stood.tells.0 stood.is_at.stands
 
-      pub left : LeftByWholeRun ring_kind keys p r.found at r.script records err r.is_served.served.acts disk (disk call.old) (disk r.between) (disk call.new)
-      left = r.left at stood.tells.0 stood.is_at.stands stood.sound
+      pub left : IsLeftOnDisk ring_kind keys p r.found at r.script r.serving.records err r.serving.is_served.served.evidence.acts disk (disk r.between) (disk call.new)
+      left = r.serving.left at (r.durable stood.tells.0).0 (r.durable stood.tells.0).1 opened_at
 
       tape_words : AreTapeWords past.word_of (ring_hidden r.found).generation call.tape.words
-      tape_words = subst (λ g. AreTapeWords past.word_of g call.tape.words) r.in_generation stood.words
+      tape_words = subst (λ g. AreTapeWords past.word_of g call.tape.words) r.serving.in_generation stood.words
 
       opened_in_life : IsOpenedInLife p past.word_of r.found s
       opened_in_life = r.opens_life stood.tells.0 past.word_of s stood.is_at.there stood.is_past.small
 
-      abbrev in_life : IsRunInLife keys call.by.lanes p past.word_of s r.found (disk r.between) (answered asked) r.traced.steps r.traced.behind (refused asked) call.tape.words r.traced.more (disk call.new)
-      in_life = whole_run keys call.by.lanes p (disk call.old).cells r.found (disk r.between) (disk call.new) (answered asked) r.traced.steps r.traced.behind (refused asked) call.tape.words r.traced.more (r.opens_life stood.tells.0) r.goes_on past.word_of s stood.is_at.there
+      abbrev in_life : IsRunInLife keys call.by.lanes p past.word_of s r.found (disk r.between) (answered asked) r.serving.traced.steps r.serving.traced.behind (refused asked) call.tape.words r.serving.traced.more (disk call.new)
+      in_life = whole_run keys call.by.lanes p (disk call.old).cells r.found (disk r.between) (disk call.new) (answered asked) r.serving.traced.steps r.serving.traced.behind (refused asked) call.tape.words r.serving.traced.more (r.opens_life stood.tells.0) r.serving.goes_on past.word_of s stood.is_at.there
           stood.is_past.small tape_words
 
-      module _ (w : IsRunInLife keys call.by.lanes p past.word_of s r.found (disk r.between) (answered asked) r.traced.steps r.traced.behind (refused asked) call.tape.words r.traced.more (disk call.new)) where
-        abbrev l : IsLeftInLife keys call.by.lanes p past.word_of (reached p past.word_of (reached p past.word_of s (opening_acts s)) w.goes.acts) r.traced.behind (refused asked) call.tape.words r.traced.more (disk call.new)
+      module _ (w : IsRunInLife keys call.by.lanes p past.word_of s r.found (disk r.between) (answered asked) r.serving.traced.steps r.serving.traced.behind (refused asked) call.tape.words r.serving.traced.more (disk call.new)) where
+        abbrev l : IsLeftInLife keys call.by.lanes p past.word_of (reached p past.word_of (reached p past.word_of s (opening_acts s)) w.goes.acts) r.serving.traced.behind (refused asked) call.tape.words r.serving.traced.more (disk call.new)
         l = w.goes.left at.content opened_at.content
 
         abbrev told : RunTold S
@@ -129,10 +131,10 @@ module _ {S : Type 0} (disk : S → Disk) (keys : Keys) (call : RunCall S) (t u 
           found = r.found;
           start = r.start;
           opened = r.between;
-          records = records;
+          records = r.serving.records;
           next = left.next;
           err = err;
-          events = r.events;
+          events = r.serving.events;
           shown = w.goes.acts;
           cut = l.made;
           flying = l.in_flight;
@@ -143,6 +145,9 @@ module _ {S : Type 0} (disk : S → Disk) (keys : Keys) (call : RunCall S) (t u 
 
         life_made : IsLife p past.word_of s (made ++ l.made)
         life_made = life_goes_on p past.word_of s made l.made w.is_life (subst (λ (x : LifeState). IsLife p past.word_of x l.made) (sym w.leads) l.is_life)
+
+        small_made : AreBatchesSmall (reached p past.word_of s (made ++ l.made)).log
+        small_made = subst (λ (x : LifeState). AreBatchesSmall x.log) (sym (reached_join p past.word_of s made l.made ∙ ap (λ (x : LifeState). reached p past.word_of x l.made) w.leads)) l.small.0
 
         abbrev Next : Image → Type 0
         Next c = (found : List LifeAct) × Finds l.in_flight found × LeadsTo keys p (with_acts past (made ++ (l.made ++ found))) c
@@ -158,40 +163,40 @@ module _ {S : Type 0} (disk : S → Disk) (keys : Keys) (call : RunCall S) (t u 
         next_there c (inl may) = left_there c may
         next_there c (inr (tells, same)) = subst Next (sym same) (left_there (disk call.new).cells (includes_reads call.new tells (goes.leaves.0 stood.tells.1)))
 
-        listed : AreListed ring_kind keys p at (ring_kind.left p r.found) r.script.clients r.is_served.served.acts
-        listed = subst (λ n. AreListed ring_kind keys p (record { epoch = n; content = at.content }) (ring_kind.left p r.found) r.script.clients r.is_served.served.acts) opened_at.epoch (r.world at.content opened_at.content)
+        listed : AreListed ring_kind keys p at (ring_kind.left p r.found) r.script.clients r.serving.is_served.served.evidence.acts
+        listed = subst (λ n. AreListed ring_kind keys p (record { epoch = n; content = at.content }) (ring_kind.left p r.found) r.script.clients r.serving.is_served.served.evidence.acts) opened_at.epoch (r.serving.world at.content opened_at.content)
 
-        all_told : err ≡ None → (client : ℕ) → TellAll client (txns_by client records) (told_of (said_by client (history r.is_served.served.acts)))
+        all_told : err ≡ None → (client : ℕ) → TellAll client (txns_by client r.serving.records) (told_of (said_by client (history r.serving.is_served.served.evidence.acts)))
         all_told none client =
-            let served = r.is_served.served in
-            let over : IsOver served.desk = subst (λ (e : Option RunErr). EndsWith e served.acts served.desk) none r.is_served.ends in
-            subst (λ (rs : List (EpochRecord ℕ)). TellAll client (txns_by client rs) (told_of (said_by client (history served.acts)))) (sym served.told_are)
-            (records_tell.all (record { params = p }) (suc (ring_kind.epoch r.found)) (ring_kind.left p r.found) r.script.clients (history served.acts) served.desk client r.is_served.opens served.leads over.at_rest)
+            let served = r.serving.is_served.served in
+            let over : IsOver served.evidence.desk = subst (λ (e : Option RunErr). EndsWith e served.evidence.acts served.evidence.desk) none r.serving.is_served.ends in
+            subst (λ (rs : List (EpochRecord ℕ)). TellAll client (txns_by client rs) (told_of (said_by client (history served.evidence.acts)))) (sym served.told_are)
+            (records_tell.all (record { params = p }) (suc (ring_kind.epoch r.found)) (ring_kind.left p r.found) r.script.clients (history served.evidence.acts) served.evidence.desk client r.serving.is_served.opens served.evidence.leads over.at_rest)
 
-        pub headline : Output → Headline disk keys p at past call told
+        pub headline : Output r.serving.records → Headline disk keys p at past call told
         headline output = record {
           came = (r.opened, opened_at);
-          serial = r.is_served.one_by_one at.content opened_at.content;
-          scripts = (r.is_served.served.first, r.is_served.all);
-          served = r.is_served.served;
+          serial = r.serving.is_served.one_by_one at.content opened_at.content;
+          scripts = (r.serving.is_served.served.first, r.serving.is_served.all);
+          served = r.serving.is_served.served;
           world = listed;
-          over = (r.is_served.ends, all_told);
+          over = (r.serving.is_served.ends, all_told);
           output = output;
-          opening = left.opening;
+          opening = r.opening_left at stood.tells.0 stood.is_at.stands stood.sound;
           prefix = left.stages;
-          next = (left.closed, next_of (ring_kind.is_map keys p (disk r.between) r.found) at.content (suc at.epoch + length records) r.script records left.next opened_at.content left.is_next);
+          next = (left.closed, next_of (ring_kind.is_map keys p (disk r.between) r.found) at.content (suc at.epoch + length r.serving.records) r.script r.serving.records left.next opened_at.content left.is_next);
           kept = left.now;
-          seen = (r.opening_seen, r.serving_seen);
-          trace = r.traced;
-          cause = cause_of p r.found r.between (shapes asked) (end_point (length records) r.traced) err r.cause;
-          filled = (r.in_generation, opened_in_life, w.goes.shown, record { first = l.first; shown = l.shown });
-          fresh = fresh_on p past stood.is_past (made ++ l.made) life_made (w.turn_left at.content opened_at.content);
-          pads = r.lives;
-          again = (next_there, λ none. (r.tells none stood.tells.0, goes.leaves.0 stood.tells.1));
+          seen = (r.opening_seen, r.serving.seen);
+          trace = r.serving.traced;
+          cause = cause_of r.between r.midway written r.faults r.opening_shown.faults p r.found (shapes asked) (end_point (length r.serving.records) r.serving.traced) err line r.serving.cause;
+          filled = (r.serving.in_generation, opened_in_life, w.goes.shown, record { first = l.first; shown = l.shown });
+          fresh = (past_on p past stood.is_past (made ++ l.made) life_made (w.turn_left at.content opened_at.content) small_made, fresh_on p past stood.is_past (made ++ l.made) life_made (w.turn_left at.content opened_at.content));
+          pads = whole_lives disk keys call.old r.between call.new r.sealing (map (λ s. s.1) asked) r.serving.goes r.begun r.serving.seals_on;
+          again = (next_there, λ none. (r.serving.tells none (r.durable stood.tells.0).0, goes.leaves.0 stood.tells.1));
         }
 
-      pub by_ran : Output → (run : RunTold S) × Headline disk keys p at past call run
-      by_ran output = (told in_life, headline in_life output)
+      pub by_ran : Output records → (run : RunTold S) × Headline disk keys p at past call run
+      by_ran output = (told in_life, headline in_life (subst Output (sym r.told) output))
 
     -- ---- where nothing was run
 
@@ -265,30 +270,30 @@ module _ {S : Type 0} (disk : S → Disk) (keys : Keys) (call : RunCall S) (t u 
 
     -- ---- both
 
-    module _ (only_now : (x : S) (c : Image) → (disk x).left_since (disk x).moment c → (disk x).may_leave c) (output : Output) (sound : StandsOn ring_kind disk keys call.old call.new) (p : Params) (stood : Stood disk keys p at past call.tape call.old) where
-      by_run : Ran ring_kind ring_lives disk call.by call.tape keys call.old call.new call.before call.after t u records err → Promised disk keys p at past call
+    module _ (only_now : (x : S) (c : Image) → (disk x).left_since (disk x).moment c → (disk x).may_leave c) (records : List (EpochRecord ℕ)) (output : Output records) (sound : StandsOn ring_kind disk keys call.old call.new) (p : Params) (stood : Stood disk keys p at past call.tape call.old) where
+      by_run : Ran ring_kind ring_lives disk call.by call.tape keys call.old call.new call.before (outside call.after.input written) t u records err → Promised disk keys p at past call
       by_run r =
           let same : r.p ≡ p = sym (one_p only_now p stood sound r.p r.opened.head) in
-          subst (λ (q : Params). Stood disk keys q at past call.tape call.old → Promised disk keys q at past call) same (λ so. inl (by_ran r so output)) stood
+          subst (λ (q : Params). Stood disk keys q at past call.tape call.old → Promised disk keys q at past call) same (λ so. inl (by_ran records r so output)) stood
 
   module _ (only_now : (x : S) (c : Image) → (disk x).left_since (disk x).moment c → (disk x).may_leave c) (includes_reads : (x : S) → (disk x).tells → (disk x).leaves → (disk x).may_leave (disk x).cells) (goes : GoesOn (disk call.old) (disk call.new))
       (p : Params) (at : Standing) (past : PastLife) (stood : Stood disk keys p at past call.tape call.old) where
-    by_went : (records : List (EpochRecord ℕ)) (err : Option RunErr) → Output includes_reads goes at past records err → StandsOn ring_kind disk keys call.old call.new
-        → Went ring_kind ring_lives disk call.by call.tape keys call.old call.new call.before call.after t u records err → Promised disk keys p at past call
-    by_went records None output sound ran = by_run includes_reads goes at past records None only_now output sound p stood ran
-    by_went records (Some err) output sound (inr ran) = by_run includes_reads goes at past records (Some err) only_now output sound p stood ran
-    by_went records (Some err) output sound (inl (none, ended, lives)) = inr ((λ zero. no_err (none_told_at_0 (Some err) (sym output.0 ∙ zero))), early includes_reads goes at past records (Some err) only_now p stood sound err ended)
+    by_went : (records : List (EpochRecord ℕ)) (err : Option RunErr) (written : Flow) (line : ErrTold written call.after.output err) → Output includes_reads goes at past err written line records → StandsOn ring_kind disk keys call.old call.new
+        → Went ring_kind ring_lives disk call.by call.tape keys call.old call.new call.before (outside call.after.input written) t u records err → Promised disk keys p at past call
+    by_went records None written line output sound ran = by_run includes_reads goes at past None written line only_now records output sound p stood ran
+    by_went records (Some err) written line output sound (inr ran) = by_run includes_reads goes at past (Some err) written line only_now records output sound p stood ran
+    by_went records (Some err) written line output sound (inl (none, ended, lives)) = inr ((λ zero. no_err (none_told_at_0 (Some err) (sym output.0 ∙ zero))), early includes_reads goes at past (Some err) written line only_now p stood sound err ended)
       where
         no_err : ◌≡◌ {A = Option RunErr} (Some err) None → ⊥
         no_err e = cc e
 
     pub done_promised : RunDone ring_kind ring_lives disk call.by call.tape keys call.old call.new call.before call.after t u call.status → Promised disk keys p at past call
-    done_promised d = by_went d.records d.err (d.status_is, d.output_is, d.all_written) d.sound d.went
+    done_promised d = by_went d.records d.err d.written d.line (d.status_is, d.output_is, d.all_written) d.sound d.went
 
     -- nothing was done
     pub none_promised : (n : ℕ) → call.status ≡ suc n → call.new ≡ call.old → Promised disk keys p at past call
     none_promised n status same =
-        inr ((λ zero. no_zero (sym zero ∙ status)), read_only includes_reads goes at past [] None only_now p stood (subst (λ (x : S). Passes Same (disk call.old) (disk x)) (sym same) (same_none (disk call.old))))
+        inr ((λ zero. no_zero (sym zero ∙ status)), read_only includes_reads goes at past None call.after.output refl only_now p stood (subst (λ (x : S). Passes Same (disk call.old) (disk x)) (sym same) (same_none (disk call.old))))
       where
         no_zero : 0 ≡ suc n → ⊥
         no_zero e = omega (arith, e)

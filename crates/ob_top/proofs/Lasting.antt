@@ -91,10 +91,13 @@ module _ (p : Params) (past : PastLife) (is_past : IsPastLife p past) (more : Li
         words = no_word_twice p past.word_of past.slot (past.acts ++ more) some is_past.ranked life_on turn_on;
       }
 
+  pub past_on : AreBatchesSmall on.log → IsPastLife p (with_acts past more)
+  past_on small = record { ranked = is_past.ranked; is_life = life_on; in_turn = turn_on; small = subst (λ (u : LifeState). AreBatchesSmall u.log) (sym there_too) small }
+
   -- an image of where it is
   pub leads_on : (keys : Keys) (c : Image) (at : Standing) → Stands ring_kind keys p c at → StandsInLife keys p past.word_of on c → AreBatchesSmall on.log → LeadsTo keys p (with_acts past more) c
   leads_on keys c at stands there small = record {
-    is_past = record { ranked = is_past.ranked; is_life = life_on; in_turn = turn_on; small = subst (λ (u : LifeState). AreBatchesSmall u.log) (sym there_too) small };
+    is_past = past_on small;
     at = at;
     is_at = record { stands = stands; there = subst (λ (u : LifeState). StandsInLife keys p past.word_of u c) (sym there_too) there };
   }

@@ -131,7 +131,7 @@ pub serves_lent : {V S : Type 0} (first : V) (k : Kind V) (beat : BeatKind) (thr
     → (keys : Keys) (most : ℕ) (found : Found) (f : RingFound) (start : Run) → GoesOnFrom keys p found f → (runs first).run ≡ start → f.run ≡ start → epoch ≡ (runs first).run.epoch → left ≡ (runs first).run.left
     → start.epoch < 2 ^ 62 → start.left ≤ p.batches → (runs first).lanes ≡ most → (1 ≤ most) × (most ≤ 16) → HasPlanned f.run f.content f.records → (runs first).drawn ≡ [] → (runs first).present ≡ start.sealer.generation
     → (s : ServedOver ring_kind ring_lives disk (manner beat threads most) keys p f f.run.sealer script (told_by (runs last)) (runs first).store (runs last).store before after trace seen (err_of result))
-    × CallsBehind k first (calls s.is_served.served.acts) last (err_of result)
+    × CallsBehind k first (calls s.is_served.served.evidence.acts) last (err_of result)
 serves_lent first k beat threads p script trace runners before last seen ran after result epoch left done unbroken sound are disk counts_now only_now runs words lent keys most found f start goes is same epoch_is left_is small few lanes many has none present_is =
     let (new, run) = done in
     let run_is : (runs first).run ≡ f.run = is ∙ sym same in

@@ -61,7 +61,7 @@ module _ {V S : Type 0} (k : Kind V) (disk : S → Disk) (counts_now : (x : S) (
       → RunsBy threads k kind beat (run_state (scene (new_desk (record { params = p }) (suc epoch) left script.clients) first trace) runners before) end result
       → IsRingLender → RingAt k disk runs keys most p f (disk (runs first).store) (ring_public p f) (ring_hidden f) 0 first
       → (s : ServedOver ring_kind ring_lives disk (manner beat threads most) keys p f (f.run).sealer script (told_by (runs end.scene.vault)) (runs first).store (runs end.scene.vault).store before end.output trace end.scene.trace (err_of result))
-      × CallsBehind k first (calls s.is_served.served.acts) end.scene.vault (err_of result)
+      × CallsBehind k first (calls s.is_served.served.evidence.acts) end.scene.vault (err_of result)
   ring_serves beat threads kind means script sound may trace runners before end result epoch left unbroken named planned epoch_is left_is run l begun =
       serves_on k ring_kind disk (λ v. (runs v).store) keys most p f first (RingBehind k disk runs words keys most p f (disk (runs first).store)) (λ v. told_by (runs v)) (ring_does k disk runs words keys most p f (disk (runs first).store)) tells ring_lives at_rest at_stop
       beat threads kind means (f.run).sealer script sound may trace runners before end result epoch left unbroken named planned epoch_is left_is run l begun

@@ -1,5 +1,5 @@
 -- How what was begun and what was served join into a run.
-use Rattle.std.proofs.Common.{◌≡◌, false, ◌≤◌, ◌⊎◌, ℕ, List, [], length, map, Option, Some, None, refl, inl, inr, subst, arith, ◌∷◌}
+use Rattle.std.proofs.Common.{◌≡◌, false, ◌≤◌, ℕ, List, [], Option, Some, None, refl, inl, inr, subst, arith, ◌∷◌}
 use Rattle.ob_base.specs.declared.params.Params.{Params}
 use Rattle.ob_conduct.specs.declared.run_err.RunErr.{RunErr}
 use Rattle.ob_conduct.specs.declared.run_err.RunErr.TheVariants as failed
@@ -7,32 +7,26 @@ use Rattle.ob_store.specs.Lines.{Shows, Trace}
 use Rattle.ob_seal.specs.declared.keys.Keys.{Keys}
 use Rattle.ob_seal.specs.Sealing.{Sealing}
 use Rattle.ob_base.specs.declared.fault.Fault.{Fault}
-use Rattle.ob_base.specs.declared.fault.Fault.TheVariants.{Memory, Usage, BadScript, BadParams, NotStore, Damaged, StoreFault, StashFull, Worn, SourceFault, SinkFault}
+use Rattle.ob_base.specs.declared.fault.Fault.TheVariants.{SinkFault}
 use Rattle.ob_io.proofs.Pieces.{appended-none}
 use Rattle.ob_io.specs.Streams.{Flow}
 use Rattle.ob_store.specs.Disk.{Clock, Disk, Image, NotAfter}
 use Rattle.ob_store.specs.Images.{LeavesOnly, IsSynced}
-use Rattle.ob_store.proofs.Moments.{then_on, weakened}
-use Rattle.ob_serial.specs.Vaults.{Standing, StandsIn, VaultCall}
+use Rattle.ob_serial.specs.Vaults.{Standing}
 use Rattle.ob_pads.specs.Lives.{LivesOn}
 use Rattle.ob_recover.specs.Telling.{ArePhasesMade}
-use Rattle.ob_vault.specs.Shapes.{Shape, refused, shapes}
+use Rattle.ob_vault.specs.Shapes.{refused}
 use Rattle.ob_vault.specs.Keeping.{AreStandingLaws}
 use Rattle.ob_vault.specs.KindLives.{LifeWords}
 use Rattle.ob_vault.specs.Openings.{OpensStanding}
-use Rattle.ob_vault.specs.Kinds.{StoreKind, Stands, AllStand, StandsAsBefore, IsOpenedAt, opened_with}
-use Rattle.ob_conduct.specs.Acts.{Act, calls}
-use Rattle.ob_conduct.specs.Left.{IsLeftStanding}
-use Rattle.ob_store.proofs.Events.{joined}
-use Rattle.ob_store.proofs.Serving.{rose_later}
+use Rattle.ob_vault.specs.Kinds.{StoreKind, Stands, AllStand, StandsAsBefore, IsOpenedAt}
 use Rattle.ob_store.proofs.Showing.{shows_then}
 use Rattle.ob_store.specs.declared.watch.Note.TheVariants as note
 use Rattle.ob_serial.specs.Serial.{EpochRecord}
 use Rattle.ob_script.specs.Script.{Scripts}
 use Rattle.ob_top.specs.Outside.{Given, Outside, outside}
-use Rattle.ob_top.specs.Runs.{Manner, EndsEarly, IsOpened, EndsFor, beginning_notes, IsLeftOnDisk, LeftByWholeRun, IsReadAndOpened, ServedOver, Ran, Went, RunOn, ShownBehindHead, begin_phases}
+use Rattle.ob_top.specs.Runs.{Manner, EndsEarly, IsOpened, beginning_notes, IsReadAndOpened, ServedOver, Ran, Went, RunOn, ShownBehindHead, begin_phases}
 use Rattle.ob_top.proofs.Lines.{Stand, stand_all, stand_unless}
-use Rattle.ob_top.proofs.Living.{whole_lives}
 use Rattle.ob_top.proofs.Sounding.{early_sound, ran_sound}
 
 -- the output is no cause of a head's or an opening's refusal
@@ -66,43 +60,10 @@ module _ (store : StoreKind) (quiet : IsQuiet store) (life : LifeWords store) wh
     sound = early_sound store laws life disk counts_now keys old new by.lanes t u before after err early;
   }
 
-  module _ (keys : Keys) (p : Params) (found : store.Found) (h : store.Hidden) (so_far : List Shape) (n : ℕ) (call : Option VaultCall) (words : List ℕ) (old mid new : Disk) (before after : Flow) (t midway u : Trace) (later : old.faults ≤ mid.faults) (watch_later : t.faults ≤ midway.faults) where
-    -- the store's count rose since an earlier moment too, and so did that of the watch's sink
-    pub cause_since : (err : Option RunErr) → EndsFor store keys p found mid h so_far n call words mid new before after midway u err → EndsFor store keys p found mid h so_far n call words old new before after t u err
-    cause_since None cause = cause
-    cause_since (Some failed.Unwatched) (broken, rose) = (broken, rose_later t.faults midway.faults u.faults watch_later rose)
-    cause_since (Some (failed.Fault Memory)) cause = cause
-    cause_since (Some (failed.Fault SinkFault)) cause = cause
-    cause_since (Some (failed.Fault (StoreFault unsure))) (rose, which) = (rose_later old.faults mid.faults new.faults later rose, which)
-    cause_since (Some (failed.Fault (Worn number))) cause = cause
-    cause_since (Some (failed.Fault Usage)) cause = cause
-    cause_since (Some (failed.Fault (BadScript line))) cause = cause
-    cause_since (Some (failed.Fault (BadParams field))) cause = cause
-    cause_since (Some (failed.Fault NotStore)) cause = cause
-    cause_since (Some (failed.Fault (Damaged cell check kept computed))) cause = cause
-    cause_since (Some (failed.Fault (StashFull rows))) cause = cause
-    cause_since (Some (failed.Fault SourceFault)) cause = cause
-
   pub went_of : {S : Type 0} (disk : S → Disk) (by : Manner) (tape : Given) (keys : Keys) (old new : S) (before after : Outside) (t u : Trace) (records : List (EpochRecord ℕ)) (err : Option RunErr) → Ran store life disk by tape keys old new before after t u records err → Went store life
       disk by tape keys old new before after t u records err
   went_of disk by tape keys old new before after t u records None ran = ran
   went_of disk by tape keys old new before after t u records (Some err) ran = inr ran
-
-  -- What a crash leaves of the opening and of the serving.
-  left_both : {S : Type 0} (disk : S → Disk) (keys : Keys) (old mid new : Disk) (p : Params) (found : store.Found) (at : Standing) (script : Scripts) (records : List (EpochRecord ℕ)) (err : Option RunErr) (acts : List Act)
-      → LeavesOnly old mid (StandsAsBefore store keys p old) → IsLeftOnDisk store keys p found at script records err acts disk mid new → LeftByWholeRun store keys p found at script records err acts disk old mid new
-  left_both disk keys old mid new p found at script records err acts first l = record {
-    next = l.next;
-    is_next = l.is_next;
-    closed = l.closed;
-    opening = first;
-    stages = l.stages;
-    since = then_on old mid new (λ c. StandsAsBefore store keys p old c ⊎ StandsIn (store.stands keys p (store.generation found)) (IsLeftStanding (opened_with p (store.left p found) at) records l.next) c)
-        (weakened old mid (StandsAsBefore store keys p old) (λ c. StandsAsBefore store keys p old c ⊎ StandsIn (store.stands keys p (store.generation found)) (IsLeftStanding (opened_with p (store.left p found) at) records l.next) c) (λ c is. inl is) first)
-        (weakened mid new (StandsIn (store.stands keys p (store.generation found)) (IsLeftStanding (opened_with p (store.left p found) at) records l.next))
-        (λ c. StandsAsBefore store keys p old c ⊎ StandsIn (store.stands keys p (store.generation found)) (IsLeftStanding (opened_with p (store.left p found) at) records l.next) c) (λ c is. inr is) l.since);
-    now = l.now;
-  }
 
   -- The script was run over the store that was opened.
   pub ran : (laws : AreStandingLaws store) {S : Type 0} (disk : S → Disk)
@@ -127,28 +88,20 @@ module _ (store : StoreKind) (quiet : IsQuiet store) (life : LifeWords store) wh
         start = start;
         opened = opened;
         between = between;
-        is_served = s.is_served;
-        world = s.world;
-        cause = cause_since keys p found s.traced.behind (shapes (calls s.is_served.served.acts)) (length s.records) (refused (calls s.is_served.served.acts)) tape.words (disk old) (disk between) (disk new) output output_new t midway u later begins.faults err s.cause;
-        events = s.events;
-        traced = s.traced;
-        in_generation = s.in_generation;
+        sealing = sealing;
+        begun = begun;
+        durable = durable;
+        faults = later;
         opening_seen = seen;
-        serving_seen = s.seen;
-        seen = joined seen.events s.events (disk old).seen (disk between).seen (disk new).seen seen.noted s.seen;
         midway = midway;
         opening_shown = begins;
         whole_midway = whole;
-        shown = s.shown;
-        watched = s.watched;
         opens = opens;
-        tells = λ none told. s.tells none (durable told).0;
         stood = stood;
-        left = λ at tells stands all. let (told, settled) = durable tells in
-            left_both disk keys (disk old) (disk between) (disk new) p found at script s.records err s.is_served.served.acts (before at tells stands all) (s.left at told settled (stood at tells stands));
-        lives = whole_lives disk keys old between new sealing (map (λ s. s.1) (calls s.is_served.served.acts)) s.goes begun s.lives;
+        opening_left = before;
         opens_life = found_so;
-        goes_on = s.goes_on;
+        serving = s;
+        told = refl;
       } in
       record {
         records = s.records;

@@ -225,11 +225,11 @@ module _ {V : Type 0} (k : Kind V) (p : Params) (numbers : numbers_of p ≡ dril
         let (acts, d, shaped) = runs_shaped true k script_runners beat _ _ (Ok tt) run in
         let (answered, over, written, still) = d.ends in
         let begun : HoldsMap k first finite.empty = (v, held, none) in
-        let served = is_served k beat script_runners runs_scripts p epoch left script (drill_sound n) may first trace runners no_output _ acts (Ok tt) are.clients_are planned d (AreShaped true (map client_of runners)) shaped in
-        let same = sym (its_acts k beat script_runners runs_scripts p epoch left script (drill_sound n) may first trace runners no_output _ acts (Ok tt) are.clients_are planned d (AreShaped true (map client_of runners)) shaped) in
-        let same_desk = sym (its_desk k beat script_runners runs_scripts p epoch left script (drill_sound n) may first trace runners no_output _ acts (Ok tt) are.clients_are planned d (AreShaped true (map client_of runners)) shaped) in
+        let served = is_served k beat script_runners runs_scripts p epoch left script (drill_sound n) may first trace runners no_output _ acts (Ok tt) are.clients_are planned d (AreShaped true (map client_of runners)) (λ m. ⊥) shaped (λ m none. absurd none) in
+        let same = sym (its_acts k beat script_runners runs_scripts p epoch left script (drill_sound n) may first trace runners no_output _ acts (Ok tt) are.clients_are planned d (AreShaped true (map client_of runners)) (λ m. ⊥) shaped (λ m none. absurd none)) in
+        let same_desk = sym (its_desk k beat script_runners runs_scripts p epoch left script (drill_sound n) may first trace runners no_output _ acts (Ok tt) are.clients_are planned d (AreShaped true (map client_of runners)) (λ m. ⊥) shaped (λ m none. absurd none)) in
         let last = contents finite.empty (records acts) in
-        let fed = subst (λ (x : DeskState). Run finite.empty base (history served.acts) last x) same_desk (subst (λ (xs : List Act). Run finite.empty base (history xs) last desk) same (d.serial finite.empty begun).0) in
+        let fed = subst (λ (x : DeskState). Run finite.empty base (history served.evidence.acts) last x) same_desk (subst (λ (xs : List Act). Run finite.empty base (history xs) last desk) same (d.serial finite.empty begun).0) in
         record {
           acts = acts;
           chain = called k first trace (calls acts) d.notes mid at d.chain;
@@ -238,7 +238,7 @@ module _ {V : Type 0} (k : Kind V) (p : Params) (numbers : numbers_of p ≡ dril
           not_more = let epochs = few_epochs (records acts) served.some in let txns = few_txns script.txns (records acts) served.first in let many = its_length n in omega (arith, epochs, txns, many);
           holds = (d.serial finite.empty begun).1;
           counts = λ patient.
-              (served_counts (AreShaped true (map client_of runners)) beat p epoch left 1 script (records acts) finite.empty last served refl patient may fed
+              (served_counts (AreShaped true (map client_of runners)) (λ m. ⊥) beat p epoch left 1 script (records acts) finite.empty last served refl patient may fed
               (adders n) (all_its_own n) (ask_few n left p (omega (arith, left_is, batches_are p numbers)) (omega (arith, writes_are p numbers))) (let many = its_length n in omega (arith, many, few)) (λ key. finite.get-empty nat_cmp key)).1
               (all_served k beat script_runners runs_scripts p epoch left script (drill_sound n) may first trace runners no_output _ acts (Ok tt) are.clients_are planned d over);
         }
@@ -306,7 +306,7 @@ pub all_committed : (p : Params) → numbers_of p ≡ drill_numbers → (n : ℕ
     → ScriptServed ring_kind (manner beat true 4) keys p opened f (drill_script n) records None → IsPatient beat → AllCommitted n records
 all_committed p numbers n few beat keys opened f left is_map records s patient =
     let script = drill_script n in
-    let counted = served_counts (AreShaped true script.clients) beat p (f.run).epoch (f.run).left 1 script records finite.empty (contents finite.empty records) s.served refl patient s.opens (s.fed finite.empty is_map)
+    let counted = served_counts (AreShaped true script.clients) (ring_kind.is_map keys p opened f) beat p (f.run).epoch (f.run).left 1 script records finite.empty (contents finite.empty records) s.served refl patient s.opens (subst (λ (rs : List (EpochRecord ℕ)). Run finite.empty (new_desk (record { params = p }) (suc (f.run).epoch) (f.run).left script.clients) (history s.served.evidence.acts) (contents finite.empty rs) s.served.evidence.desk) (sym s.served.told_are) (s.served.evidence.fed finite.empty is_map))
     (adders n) (all_its_own n) (ask_few n (f.run).left p (omega (arith, left, batches_are p numbers)) (omega (arith, writes_are p numbers))) (let many = its_length n in omega (arith, many, few)) (λ key. finite.get-empty nat_cmp key) in
     let epochs : length records ≡ n = (counted.1 (s.all refl)).epochs ∙ its_length n in
     record { epochs = epochs; each = counted.0.one_each; committed = all_kept records counted.0.one_each ∙ epochs }

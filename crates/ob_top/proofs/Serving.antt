@@ -511,14 +511,18 @@ module _ {V S : Type 0} (k : Kind V) (store : StoreKind) (disk : S → Disk) (st
           no_err : ◌≡◌ {A = Option RunErr} (Some err) None → ⊥
           no_err e = cc e
 
-      abbrev is_run : IsServed (AreShaped threads script.clients) beat p (store.epoch found) (store.left p found) script records
-      is_run = is_served k beat kind means p (store.epoch found) (store.left p found) script sound may start trace runners before end acts result named planned d (AreShaped threads script.clients) rounds
+      -- what batches delivered is that map's
+      fed_on : (m : Map nat_cmp) → store.is_map under p (disk (store_of start)) found m → Run m base (history acts) (contents m records) end.scene.desk
+      fed_on m of = (d.serial m (held_map m of)).0
 
-      acts_are : acts ≡ (is_served k beat kind means p (store.epoch found) (store.left p found) script sound may start trace runners before end acts result named planned d (AreShaped threads script.clients) rounds).acts
-      acts_are = sym (its_acts k beat kind means p (store.epoch found) (store.left p found) script sound may start trace runners before end acts result named planned d (AreShaped threads script.clients) rounds)
+      abbrev is_run : IsServed (AreShaped threads script.clients) (store.is_map under p (disk (store_of start)) found) beat p (store.epoch found) (store.left p found) script records
+      is_run = is_served k beat kind means p (store.epoch found) (store.left p found) script sound may start trace runners before end acts result named planned d (AreShaped threads script.clients) (store.is_map under p (disk (store_of start)) found) rounds fed_on
 
-      desk_is : end.scene.desk ≡ (is_served k beat kind means p (store.epoch found) (store.left p found) script sound may start trace runners before end acts result named planned d (AreShaped threads script.clients) rounds).desk
-      desk_is = sym (its_desk k beat kind means p (store.epoch found) (store.left p found) script sound may start trace runners before end acts result named planned d (AreShaped threads script.clients) rounds)
+      acts_are : acts ≡ (is_served k beat kind means p (store.epoch found) (store.left p found) script sound may start trace runners before end acts result named planned d (AreShaped threads script.clients) (store.is_map under p (disk (store_of start)) found) rounds fed_on).evidence.acts
+      acts_are = sym (its_acts k beat kind means p (store.epoch found) (store.left p found) script sound may start trace runners before end acts result named planned d (AreShaped threads script.clients) (store.is_map under p (disk (store_of start)) found) rounds fed_on)
+
+      desk_is : end.scene.desk ≡ (is_served k beat kind means p (store.epoch found) (store.left p found) script sound may start trace runners before end acts result named planned d (AreShaped threads script.clients) (store.is_map under p (disk (store_of start)) found) rounds fed_on).evidence.desk
+      desk_is = sym (its_desk k beat kind means p (store.epoch found) (store.left p found) script sound may start trace runners before end acts result named planned d (AreShaped threads script.clients) (store.is_map under p (disk (store_of start)) found) rounds fed_on)
 
       ends_with : (r : Result (Unit {0}) RunErr) → RunEnds k begin end acts r → EndsWith (err_of r) acts end.scene.desk
       ends_with (Ok done) (answered, over, written, still) = over
@@ -537,12 +541,12 @@ module _ {V S : Type 0} (k : Kind V) (store : StoreKind) (disk : S → Disk) (st
       listed m of = are_listed k store under p (record { epoch = store.epoch found; content = m }) (store.left p found) script.clients beat threads start last acts end.scene.desk (l.holds m of) chain d.allowed d.leads rounds
 
       -- the vault's calls, beside what serving does
-      calls_behind : CallsBehind k start (calls is_run.acts) last (err_of result)
+      calls_behind : CallsBehind k start (calls is_run.evidence.acts) last (err_of result)
       calls_behind = subst (λ (xs : List Act). CallsBehind k start (calls xs) last (err_of result)) acts_are (record { called = chain; answered = all_given result d.ends })
 
       -- what serving does
       pub serves : At (store.public p found) (store.hidden p found) [] 0 start → (s : ServedOver store life disk (manner beat threads most) under p found sealing script (tape_of last) (store_of start) (store_of last) before after trace end.scene.trace (err_of result))
-          × CallsBehind k start (calls s.is_served.served.acts) last (err_of result)
+          × CallsBehind k start (calls s.is_served.served.evidence.acts) last (err_of result)
       serves begun =
           let e = ending start last trace end.scene.trace unbroken before after records begun l.faults acts d.notes refl d.chain d.wrote base end.scene.desk runners end.runners result d.ends in
           let told = subst (λ (xs : List Act). TracesLife xs e.events) acts_are (e.traced, e.shown, e.goes_on, e.cause) in
@@ -552,10 +556,8 @@ module _ {V S : Type 0} (k : Kind V) (store : StoreKind) (disk : S → Disk) (st
               is_served = record {
                 served = is_run;
                 all = whole result d.ends refl;
-                ends = subst (λ (x : DeskState). EndsWith (err_of result) is_run.acts x) desk_is (subst (λ (xs : List Act). EndsWith (err_of result) xs end.scene.desk) acts_are (ends_with result d.ends));
+                ends = subst (λ (x : DeskState). EndsWith (err_of result) is_run.evidence.acts x) desk_is (subst (λ (xs : List Act). EndsWith (err_of result) xs end.scene.desk) acts_are (ends_with result d.ends));
                 opens = may;
-                fed = λ m of. subst (λ (x : DeskState). Run m base (history is_run.acts) (contents m records) x) desk_is
-                    (subst (λ (xs : List Act). Run m base (history xs) (contents m records) end.scene.desk) acts_are (d.serial m (held_map m of)).0);
                 one_by_one = λ m of. d.one_by_one m (held_map m of);
               };
               world = subst (λ (xs : List Act). ListsActs store under p (disk (store_of start)) found script xs) acts_are listed;
@@ -571,7 +573,7 @@ module _ {V S : Type 0} (k : Kind V) (store : StoreKind) (disk : S → Disk) (st
               goes = l.goes start last (goes_all k start trace (calls acts) d.notes last end.scene.trace d.chain);
               tells = still_told result d.ends;
               left = λ at tells settled opened. subst (λ (xs : List Act). IsLeftOnDisk store under p found at script records (err_of result) xs disk (disk (store_of start)) (disk (store_of last))) acts_are (left at tells settled opened);
-              lives = subst (λ (xs : List Act). LivesBehind disk under sealing (store_of start) (store_of last) (map (λ s. s.1) (calls xs))) acts_are (l.lives last (calls acts) chain);
+              seals_on = subst (λ (xs : List Act). LivesBehind disk under sealing (store_of start) (store_of last) (map (λ s. s.1) (calls xs))) acts_are (l.lives last (calls acts) chain);
               goes_on = told.2;
             },
             calls_behind,
@@ -586,7 +588,7 @@ module _ {V S : Type 0} (k : Kind V) (store : StoreKind) (disk : S → Disk) (st
       → RunsBy threads k kind beat (run_state (scene (new_desk (record { params = p }) (suc epoch) left script.clients) start trace) runners before) end result
       → IsLender sealing → At (store.public p found) (store.hidden p found) [] 0 start
       → (s : ServedOver store life disk (manner beat threads most) under p found sealing script (tape_of end.scene.vault) (store_of start) (store_of end.scene.vault) before end.output trace end.scene.trace (err_of result))
-      × CallsBehind k start (calls s.is_served.served.acts) end.scene.vault (err_of result)
+      × CallsBehind k start (calls s.is_served.served.evidence.acts) end.scene.vault (err_of result)
   serves_on beat threads kind means sealing script sound may trace runners before end result epoch left unbroken named planned epoch_is left_is run l begun =
       let run_is = subst (λ n. RunsBy threads k kind beat (run_state (scene (new_desk (record { params = p }) (suc (store.epoch found)) n script.clients) start trace) runners before) end result) left_is
       (subst (λ e. RunsBy threads k kind beat (run_state (scene (new_desk (record { params = p }) (suc e) left script.clients) start trace) runners before) end result) epoch_is run) in

@@ -109,7 +109,8 @@ module _ (store : StoreKind) where
         let same : p ≡ r.p = one_p laws keys p r.p (disk old) tells sound r.opened.head in
         let is = subst (λ (q : Params). IsSound store keys q (disk old)) same sound in
         let (at, stands) = is.cells tells in
-        let left = r.left at tells stands is.images in
+        let (told, settled) = r.durable tells in
+        let left = r.serving.left at told settled (r.stood at tells stands) in
         subst (λ (q : Params). IsSound store keys q (disk new)) (sym same) (record {
           cells = λ told. in_generation keys r.p (store.generation r.found) _ (disk new).cells (left.now (disk new).cells (inr (told, refl)));
           images = λ c may. in_generation keys r.p (store.generation r.found) _ c (left.now c (inl may));

@@ -13,7 +13,7 @@ use Rattle.ob_script.specs.Script.{Scripts, IsScript, limit}
 use Rattle.ob_vault.specs.Kinds.{StoreKind}
 use Rattle.ob_words.specs.Reading.{asked_by, format_asked, run_asked, audit_asked, drill_asked}
 use Rattle.ob_words.specs.Work.{AreParams, AreLanes, IsCount, HasKeys}
-use Rattle.ob_top.specs.Outside.{Given, Outside, Left, OfStore}
+use Rattle.ob_top.specs.Outside.{Given, Outside, Left, OfStore, outside}
 use Rattle.ob_top.specs.Runs.{Manner, Ran, manner}
 use Rattle.ob_store.specs.Lines.{Trace}
 use Rattle.ob_io.specs.Streams.{Flow}
@@ -85,7 +85,9 @@ module _ {S W : Type 0} (disk : S → Disk) (flow : W → Flow) (beat : BeatKind
     -- what its watch told before it, and tells behind it
     pub first : Trace
     pub last : Trace
-    pub ran : Ran ring_kind ring_lives disk by tape keys old new before after first last records (Some (failed.Fault (StashFull rows)))
+    -- and what stood in the output before its line
+    pub written : Flow
+    pub ran : Ran ring_kind ring_lives disk by tape keys old new before (outside after.input written) first last records (Some (failed.Fault (StashFull rows)))
 
   -- What can be done is done, but for want of memory, or of room in the stash: `FormatDoes` and `RunDoes` say what that comes to.
   abbrev pub DoesWhatItCan : S → S → Type 0

@@ -6,7 +6,7 @@ use Rattle.ob_seal.specs.declared.keys.Keys.{Keys}
 use Rattle.ob_base.specs.declared.fault.Fault.TheVariants.{StoreFault, SinkFault}
 use Rattle.ob_base.specs.Causes.{Rose}
 use Rattle.ob_io.specs.Flows.{appended}
-use Rattle.ob_report.specs.Faults.{status_of, fault_line}
+use Rattle.ob_report.specs.Faults.{status_of}
 use Rattle.ob_report.specs.Sizes.{size_line}
 use Rattle.ob_io.specs.Streams.{Flow}
 use Rattle.ob_report.specs.Printed.{IsPrinted}
@@ -22,7 +22,7 @@ use Rattle.ob_pads.specs.Lives.{IsFormattedStore}
 use Rattle.ob_vault.specs.Kinds.{StoreKind}
 use Rattle.ob_vault.specs.Formats.{MakesEmpty}
 use Rattle.ob_vault.specs.KindLives.{LifeWords}
-use Rattle.ob_top.specs.Outside.{Given, Outside}
+use Rattle.ob_top.specs.Outside.{ErrTold, Given, Outside}
 use Rattle.ob_top.specs.Sound.{IsSound}
 
 -- So many words were drawn as the buckets have slots, of the first generation, and no other.
@@ -54,22 +54,15 @@ module _ (store : StoreKind) (life : LifeWords store) {S : Type 0} (disk : S →
       (unsure ≡ None) × Rose (disk old).faults (disk new).faults × NotesFirst (store.format_order p) (disk old).seen (disk new).seen × (after ≡ before) × TellsFirst (store.format_notes p) (disk old).seen (disk new).seen t u
   FormatEnds keys p old new before after t u (Some (failed.Fault fault)) = store.format_fault fault × (new ≡ old) × (after ≡ before) × (u ≡ t)
 
-  -- What stands in the output, and the store: behind the whole line; where the watch broke; where the line failed; where the store did; and
-  -- where nothing was done.
-  abbrev pub FormatTold : Keys → Params → S → S → Flow → Flow → Trace → Trace → Option RunErr → Type 0
-  FormatTold keys p old new before after t u None = IsFormatted store life disk tape keys p old new × (after.bytes ≡ appended before.bytes (size_line (store.cells p))) × ShowsFormat store p t u false
-  FormatTold keys p old new before after t u (Some failed.Unwatched) = IsFormatted store life disk tape keys p old new × IsPrinted before after (fault_line (Some SinkFault)) × ShowsFormat store p t u true
-  FormatTold keys p old new before after t u (Some (failed.Fault SinkFault)) = IsFormatted store life disk tape keys p old new × Rose before.faults after.faults × IsPrinted before after (size_line (store.cells p)) × ShowsFormat store p t u false
-  FormatTold keys p old new before after t u (Some (failed.Fault (StoreFault unsure))) =
-      (unsure ≡ None) × Rose (disk old).faults (disk new).faults × NotesFirst (store.format_order p) (disk old).seen (disk new).seen × IsPrinted before after (fault_line (Some (StoreFault None))) × TellsFirst (store.format_notes p) (disk old).seen (disk new).seen t u
-  FormatTold keys p old new before after t u (Some (failed.Fault fault)) = store.format_fault fault × (new ≡ old) × IsPrinted before after (fault_line (Some fault)) × (u ≡ t)
-
   -- What `format` has done with parameters in range and a store. It looks at no input.
   pub record FormatDone (keys : Keys) (p : Params) (old new : S) (before after : Outside) (t u : Trace) (status : ℕ) : Type 0 where
     pub err : Option RunErr
     pub status_is : status ≡ status_of (told_fault err)
     pub untouched : after.input ≡ before.input
-    pub told : FormatTold keys p old new before.output after.output t u err
+    -- what stood in the output before the fault's line, and that behind it
+    pub written : Flow
+    pub told : FormatEnds keys p old new before.output written t u err
+    pub line : ErrTold written after.output err
     -- A crash at any moment leaves what is no store, or a torn head; or, behind the last sync, the empty store.
     pub left : (disk old).tells → LeavesOnly (disk old) (disk new) (store.format_leaves keys p tape.words (disk old))
     -- At status 0 the next call finds a store that stands.

@@ -72,11 +72,11 @@ module _ {S : Type 0} (disk : S → Disk) (keys : Keys) (p : Params) (at : Stand
     -- they are what the clients' scripts ask for, in order, each once, and no others; all of them where nothing cut the run off.
     pub scripts : ClientsServed run.script run.records × (run.err ≡ None → ClientsServedAll run.script run.records)
     -- Behind them is one history of clients, workers and epoch ends, a list of the world's events; it shows how each transaction ended.
-    pub served : IsServed (AreShaped call.by.threads run.script.clients) call.by.beat p (ring_kind.epoch run.found) (ring_kind.left p run.found) run.script run.records
-    pub world : AreListed ring_kind keys p at (ring_kind.left p run.found) run.script.clients served.acts
+    pub served : IsServed (AreShaped call.by.threads run.script.clients) (ring_kind.is_map keys p (disk run.opened) run.found) call.by.beat p (ring_kind.epoch run.found) (ring_kind.left p run.found) run.script run.records
+    pub world : AreListed ring_kind keys p at (ring_kind.left p run.found) run.script.clients served.evidence.acts
     -- At its end all clients signed off, and all that they began is told; or it stopped for what cut it off, which has its cause and no other.
-    pub over : EndsWith run.err served.acts served.desk × (run.err ≡ None → (client : ℕ) → TellAll client (txns_by client run.records) (told_of (said_by client (history served.acts))))
-    pub trace : IsTraced ring_kind call.by.lanes p run.found call.tape.words (calls served.acts) (told_fault run.err) run.events
+    pub over : EndsWith run.err served.evidence.acts served.evidence.desk × (run.err ≡ None → (client : ℕ) → TellAll client (txns_by client run.records) (told_of (said_by client (history served.evidence.acts))))
+    pub trace : IsTraced ring_kind call.by.lanes p run.found call.tape.words (calls served.evidence.acts) (told_fault run.err) run.events
     pub cause : IsRunCause disk keys p call run.found run.opened (end_point (length run.records) trace) run.err
     -- The output is the records' lines, and then the fault's; a front of these where it failed.
     pub output : (call.status ≡ status_of (told_fault run.err)) × IsPrinted call.before.output call.after.output (report decimal run.records ++ fault_line (told_fault run.err)) × (run.err ≡ None → call.after.output.bytes ≡ appended call.before.output.bytes (report decimal run.records))
@@ -84,18 +84,18 @@ module _ {S : Type 0} (disk : S → Disk) (keys : Keys) (p : Params) (at : Stand
     -- with that epoch (next is the one whose end was begun last, as the history had closed it).
     pub opening : LeavesOnly (disk call.old) (disk run.opened) (StandsAsBefore ring_kind keys p (disk call.old))
     pub prefix : StagedFrom disk (StandsNow keys p run.found) at run.records run.next (disk run.opened) (disk call.new)
-    pub next : IsNextBy (desk_behind p run.found run.script) served.acts run.next × IsNextEpoch (λ m. m ≡ at.content) (suc at.epoch + length run.records) run.script run.records run.next
+    pub next : IsNextBy (desk_behind p run.found run.script) served.evidence.acts run.next × IsNextEpoch (λ m. m ≡ at.content) (suc at.epoch + length run.records) run.script run.records run.next
     -- So in the end it holds every epoch whose lines stand in the output: each image, and what reads give, where they are told.
     pub kept : (c : Image) → IsImageOf (disk call.new) c → StandsIn (StandsNow keys p run.found) (IsLeftNow (opened_with p (ring_kind.left p run.found) at) run.records run.next (IsToldInDoubt (suc at.epoch + length run.records) run.err)) c
     -- What the store sees is the public schedule: an opening's, and (trace) that of batches and ends as they followed, filled by what these draw.
     pub seen : ArePhasesMade call.by.lanes (begin_phases ring_kind p run.found run.start) (disk call.old).seen (disk run.opened).seen × Notes run.events (disk run.opened).seen (disk call.new).seen
     -- That is what the life shows there, by words of the generation begun: in the opening, which repeats; in each call; and in one refused.
-    pub filled : (call.tape.generation ≡ ring_kind.generation run.found) × IsOpenedInLife p past.word_of run.found (life_of p past) × AreShownBy p past.word_of (opened_life p past) (answered (calls served.acts)) trace.steps run.shown
+    pub filled : (call.tape.generation ≡ ring_kind.generation run.found) × IsOpenedInLife p past.word_of run.found (life_of p past) × AreShownBy p past.word_of (opened_life p past) (answered (calls served.evidence.acts)) trace.steps run.shown
         × IsCutOff call.by.lanes p past.word_of (run_life p past run.shown) (end_point (length run.records) trace) run.cut run.flying
-    -- In the whole life no word is shown in two holes, nor a slot, and a hole that is shown again is filled as before.
-    pub fresh : IsLifeFresh p (behind_run p past run.shown run.cut)
+    -- So the life goes on, and in the whole of it no word is shown in two holes, nor a slot, and a hole that is shown again is filled as before.
+    pub fresh : IsPastLife p (behind_run p past run.shown run.cut) × IsLifeFresh p (behind_run p past run.shown run.cut)
     -- Its seals go on in the life of the store's pads, none of which is used twice.
-    pub pads : (disk call.new).tells → LivesOn disk keys call.old call.new (map (λ s. s.1) (calls served.acts))
+    pub pads : (disk call.new).tells → LivesOn disk keys call.old call.new (map (λ s. s.1) (calls served.evidence.acts))
     -- And the next run may say all of this again, from each image that a crash leaves at the return (of moments before it prefix tells the epoch
     -- and the map alone): the life is behind these acts, and perhaps behind the one that was in flight.
     pub again : ((c : Image) → IsImageOf (disk call.new) c → (found : List LifeAct) × Finds run.flying found × LeadsTo keys p (behind_run p past run.shown (run.cut ++ found)) c) × (run.err ≡ None → (disk call.new).tells × (disk call.new).leaves)

@@ -1,5 +1,5 @@
 -- What `run` does.
-use Rattle.std.specs.Prelude.{ℕ, suc, true, false, Bool, ◌≡◌, ◌⊎◌, ◌+◌, All, List, [], ◌∷◌, ◌++◌, length, map, Option, Some, None, Err, decimal}
+use Rattle.std.specs.Prelude.{◌≤◌, ℕ, suc, true, false, Bool, ◌≡◌, ◌⊎◌, ◌+◌, All, List, [], ◌∷◌, ◌++◌, length, map, Option, Some, None, Err, decimal}
 use Rattle.std.specs.Ordering.{nat_cmp}
 use Rattle.ob_base.specs.declared.params.Params.{Params}
 use Rattle.ob_seal.specs.declared.keys.Keys.{Keys}
@@ -32,11 +32,11 @@ use Rattle.ob_vault.specs.KindLives.{LifeWords}
 use Rattle.ob_vault.specs.Openings.{OpensStanding}
 use Rattle.ob_vault.specs.Kinds.{StoreKind, Stands, AllStand, StandsAsBefore, IsOpenedAt, opened_with}
 use Rattle.ob_vault.specs.KindShown.{AreDrawn, IsCutShown, IsSeenCut, public_behind, steps_notes, steps_phases}
-use Rattle.ob_desk.specs.Desk.{DeskState, MayOpen, Run, new_desk}
+use Rattle.ob_desk.specs.Desk.{DeskState, MayOpen, new_desk}
 use Rattle.ob_desk.specs.Beats.{BeatKind}
 use Rattle.ob_script.specs.Script.{Scripts, IsScript, IsFirstBad, limit}
 use Rattle.ob_conduct.specs.declared.run_err.RunErr.TheVariants as failed
-use Rattle.ob_conduct.specs.Acts.{Act, calls, history, fault_of, fault_told}
+use Rattle.ob_conduct.specs.Acts.{Act, calls, fault_of, fault_told}
 use Rattle.ob_conduct.specs.Moves.{IsSaid, IsStoppedFor}
 use Rattle.ob_conduct.specs.Records.{IsOver, contents}
 use Rattle.ob_conduct.specs.Left.{IsLeftStanding, IsLeftNow, IsThisOrNext, next_at}
@@ -44,7 +44,7 @@ use Rattle.ob_run.specs.Threaded.{AreShaped}
 use Rattle.ob_outcomes.specs.Served.{IsServed, ClientsServed, ClientsServedAll}
 use Rattle.ob_top.specs.Endings.{IsNextBy, LinesStand, told_fault}
 use Rattle.ob_top.specs.Listed.{AreListed}
-use Rattle.ob_top.specs.Outside.{Outside, ErrTold, Given}
+use Rattle.ob_top.specs.Outside.{Outside, ErrTold, Given, outside}
 use Rattle.ob_top.specs.Sound.{StandsOn}
 
 -- The phases of the opening: the head's read, and the order that the kind of store gives.
@@ -237,12 +237,10 @@ manner beat threads lanes = record { beat = beat; threads = threads; lanes = lan
 -- ran one by one from the map that was found, in the order of their epochs and tickets.
 pub record ScriptServed (store : StoreKind) (by : Manner) (keys : Keys) (p : Params) (opened : Disk) (found : store.Found) (script : Scripts) (records : List (EpochRecord ℕ)) (err : Option RunErr) : Type 0 where
   -- By hand the acts are whole rounds; by threads they are, without the clients' turns, things that the driver does.
-  pub served : IsServed (AreShaped by.threads script.clients) by.beat p (store.epoch found) (store.left p found) script records
+  pub served : IsServed (AreShaped by.threads script.clients) (store.is_map keys p opened found) by.beat p (store.epoch found) (store.left p found) script records
   pub all : err ≡ None → ClientsServedAll script records
-  pub ends : EndsWith err served.acts served.desk
-  -- what batches delivered is the map's, so the acts are a run from that map
+  pub ends : EndsWith err served.evidence.acts served.evidence.desk
   pub opens : MayOpen (record { params = p }) (suc (store.epoch found)) (store.left p found) script.clients
-  pub fed : (m : Map nat_cmp) → store.is_map keys p opened found m → Run m (new_desk (record { params = p }) (suc (store.epoch found)) (store.left p found) script.clients) (history served.acts) (contents m records) served.desk
   pub one_by_one : (m : Map nat_cmp) → store.is_map keys p opened found m → OneByOne nat_cmp m (committed_of records) (contents m records)
 
 -- The record is that of the next epoch: with it too each client's transactions are a front of its script's, and those that its close
@@ -293,20 +291,6 @@ module _ (store : StoreKind) (keys : Keys) (p : Params) (found : store.Found) (a
       pub stages : StagedFrom disk (store.stands keys p (store.generation found)) at records next old new
       pub now : (c : Image) → IsImageOf new c → StandsNow (IsLeftNow held records next IsDoubt) c
 
-    -- What a crash leaves of a whole run: of the opening, from old to opened, and of serving, from then on to new.
-    pub record LeftByWholeRun {S : Type 0} (disk : S → Disk) (old opened new : Disk) : Type 0 where
-      pub next : Option (EpochRecord ℕ)
-      pub is_next : IsNextEpoch (store.is_map keys p opened found) (suc at.epoch + length records) script records next
-      pub closed : IsClosedNext next
-      -- until the store is opened, an image that stands as one did before;
-      pub opening : LeavesOnly old opened (StandsAsBefore store keys p old)
-      -- from then on, only one that stands as served, and from each epoch's end on for that epoch at least;
-      pub stages : StagedFrom disk (store.stands keys p (store.generation found)) at records next opened new
-      -- so one of them at any moment of the call;
-      pub since : LeavesOnly old new (λ c. StandsAsBefore store keys p old c ⊎ StandsNow (IsLeftStanding held records next) c)
-      -- and at its return, what reads give as well, where they are told
-      pub now : (c : Image) → IsImageOf new c → StandsNow (IsLeftNow held records next IsDoubt) c
-
 -- The head was read, and then the store was opened with this sealer.
 pub record IsReadAndOpened {S : Type 0} (disk : S → Disk) (keys : Keys) (old new : S) (sealing : Sealing) : Type 0 where
   pub read : S
@@ -326,25 +310,25 @@ pub record ServedOver (store : StoreKind) (life : LifeWords store) {S : Type 0} 
     (t u : Trace) (err : Option RunErr) : Type 0 where
   pub records : List (EpochRecord ℕ)
   pub is_served : ScriptServed store by keys p (disk old) found script records err
-  pub world : ListsActs store keys p (disk old) found script is_served.served.acts
+  pub world : ListsActs store keys p (disk old) found script is_served.served.evidence.acts
   -- all lines of so many records stand
   pub whole : ℕ
   pub lines : LinesStand err records whole before after
   pub events : List Event
-  pub traced : IsTraced store by.lanes p found tape.words (calls is_served.served.acts) (told_fault err) events
+  pub traced : IsTraced store by.lanes p found tape.words (calls is_served.served.evidence.acts) (told_fault err) events
   -- the tape is in the generation that was found
   pub in_generation : tape.generation ≡ store.generation found
-  pub shown : IsShownToWatch store by.lanes p found tape.words (calls is_served.served.acts) (told_fault err) events traced t u
+  pub shown : IsShownToWatch store by.lanes p found tape.words (calls is_served.served.evidence.acts) (told_fault err) events traced t u
   -- one that is over has a whole watch
   pub watched : err ≡ None → u.broken ≡ false
-  pub cause : EndsFor store keys p found (disk old) traced.behind (shapes (calls is_served.served.acts)) (length records) (refused (calls is_served.served.acts)) tape.words (disk old) (disk new) before after t u err
+  pub cause : EndsFor store keys p found (disk old) traced.behind (shapes (calls is_served.served.evidence.acts)) (length records) (refused (calls is_served.served.evidence.acts)) tape.words (disk old) (disk new) before after t u err
   pub seen : Notes events (disk old).seen (disk new).seen
   pub goes : GoesOn (disk old) (disk new)
   -- unless there was a fault, cells are told where they were
   pub tells : err ≡ None → (disk old).tells → (disk new).tells
-  pub left : (at : Standing) → (disk old).tells → IsSynced (disk old) → IsOpenedAt store keys p at found (disk old) → IsLeftOnDisk store keys p found at script records err is_served.served.acts disk (disk old) (disk new)
-  pub lives : LivesBehind disk keys sealing old new (map (λ s. s.1) (calls is_served.served.acts))
-  pub goes_on : life.goes_on keys by.lanes p found (disk old) (answered (calls is_served.served.acts)) traced.steps traced.behind (refused (calls is_served.served.acts)) tape.words traced.more (disk new)
+  pub left : (at : Standing) → (disk old).tells → IsSynced (disk old) → IsOpenedAt store keys p at found (disk old) → IsLeftOnDisk store keys p found at script records err is_served.served.evidence.acts disk (disk old) (disk new)
+  pub seals_on : LivesBehind disk keys sealing old new (map (λ s. s.1) (calls is_served.served.evidence.acts))
+  pub goes_on : life.goes_on keys by.lanes p found (disk old) (answered (calls is_served.served.evidence.acts)) traced.steps traced.behind (refused (calls is_served.served.evidence.acts)) tape.words traced.more (disk new)
 
 -- behind the run the tape has given this
 module _ (store : StoreKind) (life : LifeWords store) {S : Type 0} (disk : S → Disk) (by : Manner) (tape : Given) where
@@ -355,41 +339,28 @@ module _ (store : StoreKind) (life : LifeWords store) {S : Type 0} (disk : S →
     pub found : store.Found
     pub start : store.Start
     pub opened : IsOpened store keys (disk old) before.input p script found start
-    -- the store as it was once it was opened, before the first transaction was run
+    -- The store as it was once it was opened, with this sealer, before the first transaction was run: its cells are told where they were, and
+    -- then no write waits; and no count of faults has fallen.
     pub between : S
-    pub is_served : ScriptServed store by keys p (disk between) found script records err
-    pub world : ListsActs store keys p (disk between) found script is_served.served.acts
-    -- the trace is that of the opening, and then that of the vault's calls
-    pub events : List Event
-    pub traced : IsTraced store by.lanes p found tape.words (calls is_served.served.acts) (told_fault err) events
-    -- its words are of the generation that was found
-    pub in_generation : tape.generation ≡ store.generation found
-    pub cause : EndsFor store keys p found (disk between) traced.behind (shapes (calls is_served.served.acts)) (length records) (refused (calls is_served.served.acts)) tape.words (disk old) (disk new) before.output after.output t u err
+    pub sealing : Sealing
+    pub begun : IsReadAndOpened disk keys old between sealing
+    pub durable : (disk old).tells → (disk between).tells × IsSynced (disk between)
+    pub faults : (disk old).faults ≤ (disk between).faults
+    -- what the store saw of the opening, and what the watch is shown of it, behind which that is whole
     pub opening_seen : ArePhasesMade by.lanes (begin_phases store p found start) (disk old).seen (disk between).seen
-    pub serving_seen : Notes events (disk between).seen (disk new).seen
-    pub seen : Notes (opening_seen.events ++ events) (disk old).seen (disk new).seen
-    -- What the watch is shown: the notes of the opening, behind which it is whole, and then those of the vault's calls; and one that is over
-    -- has a whole watch.
     pub midway : Trace
     pub opening_shown : Shows (beginning_notes store p found start) t midway
     pub whole_midway : midway.broken ≡ false
-    pub shown : IsShownToWatch store by.lanes p found tape.words (calls is_served.served.acts) (told_fault err) events traced midway u
-    pub watched : err ≡ None → u.broken ≡ false
-    pub opens : OpensStanding store disk keys p (disk old) (disk between)
-    -- unless there was a fault, cells are told where they were
-    pub tells : err ≡ None → (disk old).tells → (disk new).tells
     -- Where the store stood for an epoch, opening found that, and the opened store stands for it, whatever crashes. Where each image that a
-    -- crash might have left stood too, each that a crash leaves stands as one did before, until the store is opened, and then as served.
+    -- crash might have left stood too, each that a crash leaves stands as one did before, until the store is opened.
+    pub opens : OpensStanding store disk keys p (disk old) (disk between)
     pub stood : (at : Standing) → (disk old).tells → Stands store keys p (disk old).cells at → IsOpenedAt store keys p at found (disk between)
-    pub left : (at : Standing) → (disk old).tells → Stands store keys p (disk old).cells at → AllStand store keys p (disk old)
-        → LeftByWholeRun store keys p found at script records err is_served.served.acts disk (disk old) (disk between) (disk new)
-    -- The head's read, the opening and the vault's calls, with their answers, are a run in the life of the store.
-    pub lives : (disk new).tells → LivesOn disk keys old new (map (λ s. s.1) (calls is_served.served.acts))
-    -- What is shown is a part of one life of the store: each life that the cells stood for goes on with the opening's acts to where this was
-    -- found, and from there with those of the vault's calls, which show what fills the trace's holes, and what was seen of one that was
-    -- refused, to where the store is left.
+    pub opening_left : (at : Standing) → (disk old).tells → Stands store keys p (disk old).cells at → AllStand store keys p (disk old) → LeavesOnly (disk old) (disk between) (StandsAsBefore store keys p (disk old))
+    -- Each life that the cells stood for goes on with the opening's acts to where this was found; and behind the opening the script was
+    -- served, which goes on from there.
     pub opens_life : (disk old).tells → life.begins keys p (disk old).cells found
-    pub goes_on : life.goes_on keys by.lanes p found (disk between) (answered (calls is_served.served.acts)) traced.steps traced.behind (refused (calls is_served.served.acts)) tape.words traced.more (disk new)
+    pub serving : ServedOver store life disk by keys p found sealing script tape between new before.output after.output midway u err
+    pub told : serving.records ≡ records
 
   -- The run ended early, and nothing was run: no vault's call is in the store's life. Or the script was run.
   abbrev pub Went : Keys → S → S → Outside → Outside → Trace → Trace → List (EpochRecord ℕ) → Option RunErr → Type 0
@@ -421,5 +392,6 @@ module _ (store : StoreKind) (life : LifeWords store) {S : Type 0} (disk : S →
     pub written : Flow
     pub lines : LinesStand err records whole before.output written
     pub line : ErrTold written after.output err
-    pub went : Went keys old new before after t u records err
+    -- how far it came, with this in the output
+    pub went : Went keys old new before (outside after.input written) t u records err
     pub sound : StandsOn store disk keys old new

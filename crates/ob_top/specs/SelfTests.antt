@@ -53,7 +53,7 @@ module _ {S : Type 0} (disk : S → Disk) (beat : BeatKind) (keys : Keys) (p : P
     pub tape : Given
     pub served : ServedOver ring_kind ring_lives disk (manner beat true 4) keys p found (found.run).sealer (drill_script n) tape old between no_output no_output blind blind None
     pub committed : IsPatient beat → AllCommitted n served.records
-    pub read : IsReadBehind found (calls served.is_served.served.acts) old new
+    pub read : IsReadBehind found (calls served.is_served.served.evidence.acts) old new
 
 -- An empty store of the self-test's parameters was made, with the words that this tape gave, and opened at its first epoch, with no key; then
 -- that was done.
