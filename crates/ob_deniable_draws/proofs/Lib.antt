@@ -8,6 +8,8 @@ pub mod Pairs
 pub mod Notes
 pub mod Numbers
 pub mod Matching
+pub mod OneCall
 pub mod Walking
 pub mod Sides
 pub mod RunsWalk
+pub mod OnlyFit

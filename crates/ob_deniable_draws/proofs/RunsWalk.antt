@@ -2,6 +2,8 @@
 use Rattle.std.specs.Prelude.{◌≡◌, ℕ, zero, suc, ◌+◌, ◌*◌, ◌^◌, ◌<◌, ◌≤◌, List, [], ◌∷◌, ◌++◌, length, map, Option, None, Some}
 use Rattle.std.proofs.Common.{arith, refl, sym, ap, subst, ◌∙◌, inl, inr, length-append}
 use Rattle.std.proofs.lemmas.Nat.{pow_pos}
+use Rattle.std.proofs.lemmas.List.{append-nil}
+use Rattle.ob_base.specs.Layout.{record_cells}
 use Rattle.ob_base.specs.Tree.{buckets, width}
 use Rattle.ob_base.specs.declared.params.Params.{Params}
 use Rattle.ob_deniable.proofs.Exchanging.{at_first}
@@ -32,22 +34,23 @@ use Rattle.ob_vault.proofs.Publics.{public_is}
 use Rattle.ob_vault.specs.Acts.{IsBatchSmall}
 use Rattle.ob_vault.specs.Hidden.{RingHidden}
 use Rattle.ob_vault.specs.Joined.{RunPart, Served, Stopped}
-use Rattle.ob_vault.specs.KindShown.{AreDrawn}
+use Rattle.ob_vault.specs.KindShown.{AreDrawn, public_behind}
 use Rattle.ob_vault.specs.Lives.{opening_acts}
 use Rattle.ob_vault.specs.RingKind.{RingFound, ring_hidden, ring_kind, ring_public}
 use Rattle.ob_vault.specs.Seen.{RingPublic}
 use Rattle.ob_vault.specs.Shapes.{Shape, shape_of}
 use Rattle.ob_vault.specs.Shown.{IsInLife}
 use Rattle.ob_deniable_draws.specs.Contents.{hidden_in, words_in}
-use Rattle.ob_deniable_draws.specs.Draws.{AreDrawnLikewise, AreRowDrawn, AreRunsFit, DrawsAreDeniable, IsDrawnLikewise, IsRefusedFit}
+use Rattle.ob_deniable_draws.specs.Draws.{AreDrawnLikewise, AreRowDrawn, AreRunsFit, DrawsAreDeniable, IsCutLikewise, IsCutShownBy, IsDrawnLikewise, IsRefusedFit}
 use Rattle.ob_deniable_draws.specs.Fit.{AreCallsFit, AreKeysLow}
 use Rattle.ob_deniable_draws.proofs.Matching.{CallsMatch, RefusedMatch}
 use Rattle.ob_deniable_draws.proofs.Notes.{Knows}
 use Rattle.ob_deniable_draws.proofs.Numbers.{AreCounted, are_counted, ends_alike, seals_alike, seals_least, words_alike, words_least}
 use Rattle.ob_deniable_draws.proofs.Pairs.{Along, Pair, along_append, along_end, along_lifts, along_open, along_show, logs_many, public_pair}
-use Rattle.ob_deniable_draws.proofs.Sides.{RowRun, RunsMatch, acts_again, opened, opened_is, opening_work, repeated_more, runs_matched, runs_work}
+use Rattle.ob_deniable_draws.proofs.Sides.{RowCut, RowRun, RunsMatch, acts_again, opened_is, opening_work, repeated_more, runs_matched, runs_work}
 use Rattle.ob_deniable_draws.proofs.Stays.{Stays, in_life, records_long}
-use Rattle.ob_deniable_draws.proofs.Walking.{CallsWalked, IsAt, calls_walk, keys_told, tape_words}
+use Rattle.ob_deniable_draws.proofs.OneCall.{batch_walk, lifts_walk, tape_words}
+use Rattle.ob_deniable_draws.proofs.Walking.{CallsWalked, IsAt, calls_walk, keys_told}
 
 -- ---- what acts of calls keep
 
@@ -93,8 +96,8 @@ module _ (p : Params) (w : WordId → ℕ) where
   log_counter t [] = refl
   log_counter t (r ∷ log) = log_counter (after_batch p t (leaves p w (batch_places r))) log ∙ batch_counter p t (leaves p w (batch_places r))
 
-sum_begun : (a sl wl D : ℕ) → a + (wl + 0) ≡ 0 + (sl + D) → a ≤ 2 ^ 62 → 0 + (sl + D) ≤ 2 ^ 62 + (wl + 0)
-sum_begun a sl wl D sum low = omega arith
+sum_begun : (a sl wl D : ℕ) → a + (wl + 0) ≡ 0 + (sl + D) → 0 + (sl + D) ≤ a + (wl + 0)
+sum_begun a sl wl D sum = omega arith
 
 module _ (p : Params) (some : 0 < p.dummies) (room : p.keys ≤ p.room) (w w' : WordId → ℕ) (slots : VersionSlots) where
   abbrev Beside : ℕ → LifeState → LifeState → WordsKept → List LifeAct → List LifeWork → Type 0
@@ -121,84 +124,118 @@ module _ (p : Params) (some : 0 < p.dummies) (room : p.keys ≤ p.room) (w w' : 
 
   -- ---- what is left of a refused call
 
-  record LeftWalked (e : ℕ) (s s' : LifeState) (left R : List LifeAct) (left_work W : List LifeWork) : Type 0 where
+  record LeftWalked (q : RingPublic) (row behind : RingHidden) (refused other : Option VaultCall) (words : List ℕ) (e : ℕ) (s s' : LifeState) (left R : List LifeAct) (left_work W : List LifeWork) : Type 0 where
     acts : List LifeAct
     epoch_then : ℕ
     words_then : WordsKept
     split : acts_of e slots (left_work ++ W) ≡ acts ++ acts_of epoch_then slots W
     along : Beside epoch_then (reached p w s left) (reached p w' s' acts) words_then R W
+    cut : IsCutLikewise p w' q row behind refused other words acts
 
-  module _ (R : List LifeAct) (W : List LifeWork) (e : ℕ) (s s' : LifeState) (k : WordsKept) (low : s'.generation < 2 ^ 62) (few : k.drawn ≤ 2 ^ 62) where
-    nothing_left : (left : List LifeAct) (left_work : List LifeWork) → left ≡ [] → left_work ≡ [] → Beside e s s' k (left ++ R) (left_work ++ W) → LeftWalked e s s' left R left_work W
-    nothing_left left left_work none empty a =
-        subst (λ (xs : List LifeAct). LeftWalked e s s' xs R left_work W) (sym none) (subst (λ (xs : List LifeWork). LeftWalked e s s' [] R xs W) (sym empty) (record {
+  module _ (R : List LifeAct) (W : List LifeWork) (e : ℕ) (s s' : LifeState) (k : WordsKept) (q : RingPublic) (row : RingHidden) (words : List ℕ) (n : ℕ) (low : s'.generation < 2 ^ 62) (few : k.drawn ≤ 2 ^ 62) (knows : Knows p w' q.known s') (at : q.shown ≡ length s'.log)
+      (begun : s'.begun ≡ length s'.log) (so_far : k.drawn ≡ s'.drawn) (all : s'.drawn ≡ length row.words) (few_seals : n ≤ row.seals) where
+    abbrev Left : Option VaultCall → Option VaultCall → List LifeAct → List LifeWork → Type 0
+    Left refused other left left_work = LeftWalked q row (hidden_in p w' s' n) refused other words e s s' left R left_work W
+
+    nothing_left : (refused other : Option VaultCall) (left : List LifeAct) (left_work : List LifeWork) → left ≡ [] → left_work ≡ [] → IsCutLikewise p w' q row (hidden_in p w' s' n) refused other words [] → Beside e s s' k (left ++ R) (left_work ++ W) →
+        Left refused other left left_work
+    nothing_left refused other left left_work none empty cut a =
+        subst (λ (xs : List LifeAct). Left refused other xs left_work) (sym none) (subst (λ (xs : List LifeWork). Left refused other [] xs) (sym empty) (record {
           acts = [];
           epoch_then = e;
           words_then = k;
           split = refl;
           along = subst (λ (xs : List LifeAct). Beside e s s' k (xs ++ R) W) none (subst (λ (xs : List LifeWork). Beside e s s' k (left ++ R) (xs ++ W)) empty a);
+          cut = cut;
         }))
 
     along_as : (left to : List LifeAct) (left_work to_work : List LifeWork) → left ≡ to → left_work ≡ to_work → Beside e s s' k (left ++ R) (left_work ++ W) → Beside e s s' k (to ++ R) (to_work ++ W)
     along_as left to left_work to_work is are a = subst (λ (xs : List LifeAct). Beside e s s' k (xs ++ R) (to_work ++ W)) is (subst (λ (xs : List LifeWork). Beside e s s' k (left ++ R) (xs ++ W)) are a)
 
-    walked_as : (left to : List LifeAct) (left_work to_work : List LifeWork) → left ≡ to → left_work ≡ to_work → LeftWalked e s s' to R to_work W → LeftWalked e s s' left R left_work W
-    walked_as left to left_work to_work is are a = subst (λ (xs : List LifeAct). LeftWalked e s s' xs R left_work W) (sym is) (subst (λ (xs : List LifeWork). LeftWalked e s s' to R xs W) (sym are) a)
+    walked_as : (refused other : Option VaultCall) (left to : List LifeAct) (left_work to_work : List LifeWork) → left ≡ to → left_work ≡ to_work → Left refused other to to_work → Left refused other left left_work
+    walked_as refused other left to left_work to_work is are a = subst (λ (xs : List LifeAct). Left refused other xs left_work) (sym is) (subst (λ (xs : List LifeWork). Left refused other to xs) (sym are) a)
 
     lower : s'.generation < 2 ^ 64
     lower = omega arith
 
-    left_walk : (refused other : Option VaultCall) (left : List LifeAct) (left_work : List LifeWork) → RefusedMatch refused other left left_work → IsOtherRefused p refused other → IsRefusedFit p other → Beside e s s' k (left ++ R) (left_work ++ W) → LeftWalked e s s' left R left_work W
-    left_walk None None left left_work (none, empty) like fit a = nothing_left left left_work none empty a
-    left_walk (Some (Fetch asks)) (Some (Fetch others)) left left_work (inl (none, empty)) like fit a = nothing_left left left_work none empty a
-    left_walk (Some (Fetch asks)) (Some (Fetch others)) left left_work (inr (inl (b, same, is, are))) like fit a =
+    no_batch : (A : Type 0) (others : List (Option ℕ)) (xs : List LifeAct) → ((a : LifeAct) (b : LifeAct) → xs ≡ a ∷ b ∷ [] → ⊥) → IsCutShownBy (Fetch others) xs → A
+    no_batch A others xs short shows = absurd (short (Append shows.0) ShowBatch shows.2)
+
+    -- what the lifts show
+    lifts_cut : (writes others : List (ℕ × Option (List ℕ))) (left acts : List LifeAct) (rest : List LifeAct) (rest_work : List LifeWork) → Beside e s s' k (ShowLifts ∷ rest) (Lifts ∷ rest_work) → RowCut p w s row (Some (End writes)) words left →
+        IsCutLikewise p w' q row (hidden_in p w' s' n) (Some (End writes)) (Some (End others)) words acts
+    lifts_cut writes others left acts rest rest_work a filled shows f draws =
+        let one = lifts_walk p some room w w' slots e s s' k q writes others n f rest rest_work a knows begun low (filled f draws) in
+        (one.fills, words_in p w' (record { generation = s'.generation; place = 0 }) s'.drawn, one.are, tape_words p w' s'.generation s'.drawn, one.noted, one.phased)
+
+    left_walk : (refused other : Option VaultCall) (left : List LifeAct) (left_work : List LifeWork) → RefusedMatch refused other left left_work → IsOtherRefused p refused other → IsRefusedFit p other → RowCut p w s row refused words left → Beside e s s' k (left ++ R) (left_work ++ W) →
+        Left refused other left left_work
+    left_walk None None left left_work (none, empty) like fit filled a = nothing_left None None left left_work none empty tt a
+    left_walk (Some (Fetch asks)) (Some (Fetch others)) left left_work (inl (none, empty)) like fit filled a =
+        nothing_left (Some (Fetch asks)) (Some (Fetch others)) left left_work none empty (λ shows. no_batch _ others [] (λ x y is. absurd (cc)) shows) a
+    left_walk (Some (Fetch asks)) (Some (Fetch others)) left left_work (inr (inl (b, same, is, are))) like fit filled a =
         let r : LifeBatch = record { asks = others; first = b.first } in
         let a0 : Beside e s s' k (Append b ∷ R) (Logs others b.first ∷ W) = along_as left (Append b ∷ []) left_work (Logs others b.first ∷ []) is are a in
         let small : IsBatchSmall r = (let place : b.first.place ≡ k.drawn = ap (λ (v : WordId). v.place) (a0.next).0 in let whole = fit.whole in let many = (p.in_range).few_places in omega (arith, place, whole, many)) in
-        walked_as left (Append b ∷ []) left_work (Logs others b.first ∷ []) is are (record {
+        walked_as (Some (Fetch asks)) (Some (Fetch others)) left (Append b ∷ []) left_work (Logs others b.first ∷ []) is are (record {
           acts = Append r ∷ [];
           epoch_then = e;
           words_then = words_step p w' s' k (Append r);
           split = refl;
           along = along_append p some w w' slots e s s' k R W b others b.first (ap length same ∙ like) refl small fit a0;
+          cut = λ shows. no_batch _ others (Append r ∷ []) (λ x y is. absurd (cc)) shows;
         })
-    left_walk (Some (Fetch asks)) (Some (Fetch others)) left left_work (inr (inr (b, same, is, are))) like fit a =
+    left_walk (Some (Fetch asks)) (Some (Fetch others)) left left_work (inr (inr (b, same, is, are))) like fit filled a =
         let r : LifeBatch = record { asks = others; first = b.first } in
         let a0 : Beside e s s' k (Append b ∷ ShowBatch ∷ R) (Logs others b.first ∷ Shows ∷ W) = along_as left (Append b ∷ ShowBatch ∷ []) left_work (Logs others b.first ∷ Shows ∷ []) is are a in
         let small : IsBatchSmall r = (let place : b.first.place ≡ k.drawn = ap (λ (v : WordId). v.place) (a0.next).0 in let whole = fit.whole in let many = (p.in_range).few_places in omega (arith, place, whole, many)) in
-        walked_as left (Append b ∷ ShowBatch ∷ []) left_work (Logs others b.first ∷ Shows ∷ []) is are (record {
+        walked_as (Some (Fetch asks)) (Some (Fetch others)) left (Append b ∷ ShowBatch ∷ []) left_work (Logs others b.first ∷ Shows ∷ []) is are (record {
           acts = Append r ∷ ShowBatch ∷ [];
           epoch_then = e;
           words_then = words_step p w' s' k (Append r);
           split = refl;
           along = along_show p some w w' slots e (life_step p w s (Append b)) (life_step p w' s' (Append r)) (words_step p w' s' k (Append r)) R W
               (along_append p some w w' slots e s s' k (ShowBatch ∷ R) (Shows ∷ W) b others b.first (ap length same ∙ like) refl small fit a0);
+          cut = λ shows f (then, d, of_tape). (
+              let words_few : s'.drawn + p.places ≤ 2 ^ 62 = (let x = d.few in omega (arith, x, all)) in
+              let seals_few : n + record_cells p ≤ 2 ^ 62 = (let x = d.few_seals in omega (arith, x, few_seals)) in
+              let one = batch_walk p some room w w' slots e s s' k q b asks others n f R W a0 (ap length same ∙ like) fit knows at begun so_far low words_few seals_few (filled b is f (then, d, of_tape)) in
+              let grown : ℕ = r.first.place + length others in
+              let behind : RingHidden = hidden_in p w' (reached p w' s' (Append r ∷ ShowBatch ∷ [])) (n + record_cells p) in
+              (one.fills, words_in p w' (record { generation = s'.generation; place = 0 }) grown, (behind, (one.draws).0, ([], sym (append-nil behind.words))), tape_words p w' s'.generation grown, one.noted, one.phased));
         })
-    left_walk (Some (End writes)) (Some (End others)) left left_work (inl (none, empty)) like fit a = nothing_left left left_work none empty a
-    left_walk (Some (End writes)) (Some (End others)) left left_work (inr (inl (is, are))) like fit a =
-        walked_as left (ShowLifts ∷ []) left_work (Lifts ∷ []) is are (record {
+    left_walk (Some (End writes)) (Some (End others)) left left_work (inl (none, empty)) like fit filled a =
+        nothing_left (Some (End writes)) (Some (End others)) left left_work none empty (λ shows. no_lifts shows.0 shows.1) a
+      where
+        no_lifts : {A : Type 0} (rest : List LifeAct) → ◌≡◌ {A = List LifeAct} [] (ShowLifts ∷ rest) → A
+        no_lifts rest is = absurd (cc)
+    left_walk (Some (End writes)) (Some (End others)) left left_work (inr (inl (is, are))) like fit filled a =
+        let a0 : Beside e s s' k (ShowLifts ∷ R) (Lifts ∷ W) = along_as left (ShowLifts ∷ []) left_work (Lifts ∷ []) is are a in
+        walked_as (Some (End writes)) (Some (End others)) left (ShowLifts ∷ []) left_work (Lifts ∷ []) is are (record {
           acts = ShowLifts ∷ [];
           epoch_then = e;
           words_then = k;
           split = refl;
-          along = along_lifts p some w w' slots e s s' k R W (along_as left (ShowLifts ∷ []) left_work (Lifts ∷ []) is are a);
+          along = along_lifts p some w w' slots e s s' k R W a0;
+          cut = lifts_cut writes others left (ShowLifts ∷ []) R W a0 filled;
         })
-    left_walk (Some (End writes)) (Some (End others)) left left_work (inr (inr (ws, drawn, slot, kept, is, are, told))) like fit a =
+    left_walk (Some (End writes)) (Some (End others)) left left_work (inr (inr (ws, drawn, slot, kept, is, are, told))) like fit filled a =
         let a0 : Beside e s s' k (ShowLifts ∷ EndAct ws drawn slot ∷ R) (Lifts ∷ Ends kept drawn ∷ W) = along_as left (ShowLifts ∷ EndAct ws drawn slot ∷ []) left_work (Lifts ∷ Ends kept drawn ∷ []) is are a in
         let keys : AreKeysLow p kept = keys_told p kept others told fit in
         let small : k.drawn + p.writes ≤ 2 ^ 64 = (let many = (p.in_range).few_writes in omega (arith, many)) in
-        walked_as left (ShowLifts ∷ EndAct ws drawn slot ∷ []) left_work (Lifts ∷ Ends kept drawn ∷ []) is are (record {
+        walked_as (Some (End writes)) (Some (End others)) left (ShowLifts ∷ EndAct ws drawn slot ∷ []) left_work (Lifts ∷ Ends kept drawn ∷ []) is are (record {
           acts = ShowLifts ∷ EndAct kept drawn (slots (e + 1)) ∷ [];
           epoch_then = e + 1;
           words_then = words_step p w' (life_step p w' s' ShowLifts) k (EndAct kept drawn (slots (e + 1)));
           split = refl;
           along = along_end p some w w' slots e (life_step p w s ShowLifts) (life_step p w' s' ShowLifts) k R W ws kept drawn slot lower room keys small
               (along_lifts p some w w' slots e s s' k (EndAct ws drawn slot ∷ R) (Ends kept drawn ∷ W) a0);
+          cut = lifts_cut writes others left (ShowLifts ∷ EndAct kept drawn (slots (e + 1)) ∷ []) (EndAct ws drawn slot ∷ R) (Ends kept drawn ∷ W) a0 filled;
         })
-    left_walk (Some (Fetch asks)) (Some (End others)) left left_work match like fit a = absurd match
-    left_walk (Some (End writes)) (Some (Fetch others)) left left_work match like fit a = absurd match
-    left_walk None (Some other) left left_work match like fit a = absurd match
-    left_walk (Some call) None left left_work match like fit a = absurd match
+    left_walk (Some (Fetch asks)) (Some (End others)) left left_work match like fit filled a = absurd match
+    left_walk (Some (End writes)) (Some (Fetch others)) left left_work match like fit filled a = absurd match
+    left_walk None (Some other) left left_work match like fit filled a = absurd match
+    left_walk (Some call) None left left_work match like fit filled a = absurd match
 
   -- ---- a run
 
@@ -271,7 +308,7 @@ module _ (p : Params) (some : 0 < p.dummies) (room : p.keys ≤ p.room) (w w' : 
     row_none : 0 ≡ s1.drawn
     row_none = sym (ap (λ (x : LifeState). x.drawn) (opened_is p w s))
 
-    start : IsAt p some room w w' slots D s1 s1' (record k { drawn = 0 }) row_k q others 0 called
+    start : IsAt p some room w w' slots D behind.seals s1 s1' (record k { drawn = 0 }) row_k q others 0 called
     start = record {
       knows = knows;
       at = batches;
@@ -279,16 +316,19 @@ module _ (p : Params) (some : 0 < p.dummies) (room : p.keys ≤ p.room) (w w' : 
       so_far = sym drawn_1;
       low = low;
       epochs = (let x : (ring_hidden found).epoch ≡ s1'.epoch = ap (λ (x : Public). x.epoch) to_life in let y = numbers.epoch in let z = numbers.epochs row.epoch in let v = ends_alike p calls others like in omega (arith, x, y, z, v));
-      sum = subst (λ (m : ℕ). 0 + (seals_least p others + D) ≤ 2 ^ 62 + (words_least p others + m)) (sym drawn_1)
+      sum = subst (λ (m : ℕ). 0 + (seals_least p others + D) ≤ behind.seals + (words_least p others + m)) (sym drawn_1)
           (sum_begun behind.seals (seals_least p others) (words_least p others) D
-          ((λ i. behind.seals + (sym (words_alike p calls others like) i + 0)) ∙ numbers.sum ∙ (λ i. 0 + (seals_alike p calls others like i + D))) (numbers.seals (omega arith)));
+          ((λ i. behind.seals + (sym (words_alike p calls others like) i + 0)) ∙ numbers.sum ∙ (λ i. 0 + (seals_alike p calls others like i + D))));
       row_next = row.turn row_k row_none;
       row_far = row_none;
       row_all = row.drawn_then;
     }
 
-    pub walked : CallsWalked p some room w w' slots e s1 s1' q others steps 0 called R called_work W
-    walked = calls_walk p some room w w' slots D all_few R W e s1 s1' (record k { drawn = 0 }) row_k q calls others steps 0 called called_work a match shapes like fit start
+    pub walked : CallsWalked p some room w w' slots behind.seals e s1 s1' q others steps 0 called R called_work W
+    walked = calls_walk p some room w w' slots D behind.seals all_few (numbers.seals (omega arith)) R W e s1 s1' (record k { drawn = 0 }) row_k q calls others steps 0 called called_work a match shapes like fit start
+
+    pub all_then : (reached p w' s1' walked.called).drawn ≡ D
+    all_then = sym ((walked.along).pair).drawn ∙ row.drawn_then
 
     pub few_then : (walked.words_then).drawn ≤ 2 ^ 62
     few_then = (let x = walked.so_far in let y = ((walked.along).pair).drawn in let z = row.drawn_then in let v = all_few in omega (arith, x, y, z, v))
@@ -304,6 +344,7 @@ module _ (p : Params) (some : 0 < p.dummies) (room : p.keys ≤ p.room) (w w' : 
       before = h1;
       behind = h2;
       other_steps = walked.other_steps;
+      shapes = walked.shapes;
       starts = inside;
       drawn = walked.drawn;
       ends = in_life p w' (reached p w' s1' walked.called) ((walked.along).pair).stays (let l = low_then in omega arith) room walked.seals walked.begun;
@@ -320,6 +361,10 @@ module _ (p : Params) (some : 0 < p.dummies) (room : p.keys ≤ p.room) (w w' : 
       phases = walked.phases;
     }
 
+    pub behind_is : h2 ≡ likewise.behind
+    unfolding likewise
+    behind_is = refl
+
   -- ---- all runs
 
   module _ {S : Type 0} where
@@ -328,7 +373,7 @@ module _ (p : Params) (some : 0 < p.dummies) (room : p.keys ≤ p.room) (w w' : 
     runs_walk e s s' k [] [] acts work a (is, are) drew like fit = ap (acts_of e slots) are
     runs_walk e s s' k [] (run ∷ runs) acts work a match drew like fit = absurd match
     runs_walk e s s' k (Served most old found opened calls steps behind refused words seen new ∷ parts) [] acts work a match drew like fit = absurd match
-    runs_walk e s s' k (Served most old found opened calls steps behind refused words seen new ∷ parts) (run ∷ runs) acts work a (called, left, later, called_work, left_work, later_work, are, is, match, cut, row, more) drew like fit =
+    runs_walk e s s' k (Served most old found opened calls steps behind refused words seen new ∷ parts) (run ∷ runs) acts work a (called, left, later, called_work, left_work, later_work, are, is, match, cut, row, row_left, more) drew like fit =
         let a0 : Beside e s s' k (opening_acts s ++ (called ++ (left ++ later))) (opening_work s ++ (called_work ++ (left_work ++ later_work))) =
         subst (λ (xs : List LifeAct). Beside e s s' k xs (opening_work s ++ (called_work ++ (left_work ++ later_work)))) are (subst (λ (xs : List LifeWork). Beside e s s' k acts xs) is a) in
         let a1 = opening_along e s s' k (called ++ (left ++ later)) (called_work ++ (left_work ++ later_work)) a0 in
@@ -337,7 +382,9 @@ module _ (p : Params) (some : 0 < p.dummies) (room : p.keys ≤ p.room) (w w' : 
         let low_now = low_then e s s' k found calls run.calls steps behind called (left ++ later) called_work (left_work ++ later_work) a1 match row drew.0 drew.1 like.0 fit.0 in
         let s2 : LifeState = reached p w (reached p w s (opening_acts s)) called in
         let s2' : LifeState = reached p w' (reached p w' s' (opening_acts s')) go.called in
-        let l = left_walk later later_work go.epoch_then s2 s2' go.words_then low_now few refused run.refused left left_work cut like.1 fit.1 go.along in
+        let every = all_then e s s' k found calls run.calls steps behind called (left ++ later) called_work (left_work ++ later_work) a1 match row drew.0 drew.1 like.0 fit.0 in
+        let q : RingPublic = public_behind ring_kind p (ring_public p found) steps in
+        let l = left_walk later later_work go.epoch_then s2 s2' go.words_then q behind words go.seals low_now few go.knows go.at go.begun go.so_far every go.few_seals refused run.refused left left_work cut like.1 fit.1 row_left go.along in
         let rest = runs_walk l.epoch_then (reached p w s2 left) (reached p w' s2' l.acts) l.words_then parts runs later later_work l.along more drew.2 like.2 fit.2 in
         let whole : acts_of e slots work ≡ opening_acts s' ++ (go.called ++ (l.acts ++ acts_of l.epoch_then slots later_work)) =
         ap (acts_of e slots) is ∙ opening_split e s s' (called_work ++ (left_work ++ later_work)) a.pair ∙ ap (λ (xs : List LifeAct). opening_acts s' ++ xs) (go.split ∙ ap (λ (xs : List LifeAct). go.called ++ xs) l.split) in (
@@ -346,6 +393,8 @@ module _ (p : Params) (some : 0 < p.dummies) (room : p.keys ≤ p.room) (w w' : 
           acts_of l.epoch_then slots later_work,
           whole,
           likewise e s s' k found calls run.calls steps behind called (left ++ later) called_work (left_work ++ later_work) a1 match row drew.0 drew.1 like.0 fit.0,
+          subst (λ (x : RingHidden). IsCutLikewise p w' q behind x refused run.refused words l.acts)
+              (behind_is e s s' k found calls run.calls steps behind called (left ++ later) called_work (left_work ++ later_work) a1 match row drew.0 drew.1 like.0 fit.0) l.cut,
           rest,
         )
     runs_walk e s s' k (Stopped old new ∷ parts) runs acts work a (first, later, first_work, later_work, are, is, inl (none, empty), more) drew like fit =

@@ -1,5 +1,5 @@
 -- The other calls of a row of runs.
-use Rattle.std.specs.Prelude.{◌≡◌, ◌⊎◌, ℕ, zero, suc, ◌+◌, ◌^◌, ◌<◌, List, [], ◌∷◌, ◌++◌, length, map}
+use Rattle.std.specs.Prelude.{◌≡◌, ◌⊎◌, ℕ, zero, suc, ◌+◌, ◌^◌, ◌<◌, List, [], ◌∷◌, ◌++◌, length, map, Option, None, Some, ⊤}
 use Rattle.std.proofs.Common.{arith, refl, sym, ap, subst, ◌∙◌, inl, inr, append_assoc}
 use Rattle.std.proofs.lemmas.List.{append-nil, length-map}
 use Rattle.ob_base.specs.declared.params.Params.{Params}
@@ -10,18 +10,20 @@ use Rattle.ob_deniable_runs.proofs.Denied.{own_shape}
 use Rattle.ob_deniable_runs.specs.OtherCalls.{AreOtherRuns, IsWorkOfOpening, IsWorkOfRuns, OtherRun, shows_again}
 use Rattle.ob_deniable_runs.specs.RunsDenied.{work_of}
 use Rattle.ob_fresh.specs.Drawn.{AllDrawNext, WordsKept}
-use Rattle.ob_recover.specs.Calls.{repeated}
+use Rattle.ob_recover.specs.Calls.{Finds, repeated}
 use Rattle.ob_recover.specs.Known.{gates_open}
-use Rattle.ob_recover.specs.Life.{IsLife, LifeAct, LifeState, Open, ShowBatch, WordId, life_step, reached}
+use Rattle.ob_recover.specs.Life.{Append, IsLife, LifeAct, LifeBatch, LifeState, Open, ShowBatch, ShowLifts, WordId, life_step, reached}
 use Rattle.ob_recover.specs.LifePublic.{public_in}
 use Rattle.ob_recover.specs.Lives.{life_batch}
 use Rattle.ob_schedule.specs.Schedule.{Fills}
 use Rattle.ob_seal.specs.declared.keys.Keys.{Keys}
-use Rattle.ob_serial.specs.Vaults.{VaultCall}
+use Rattle.ob_serial.specs.Vaults.{End, Fetch, VaultCall}
 use Rattle.ob_store.specs.Disk.{Disk}
-use Rattle.ob_vault.specs.Hidden.{RingHidden}
+use Rattle.ob_store.specs.declared.event.Event.{Event}
+use Rattle.ob_vault.specs.Hidden.{RingDrawsCut, RingHidden}
 use Rattle.ob_vault.specs.Joined.{AreParts, RunPart, Served, Stopped}
-use Rattle.ob_vault.specs.Lives.{opening_acts}
+use Rattle.ob_vault.specs.Lives.{IsLeftInLife, opening_acts}
+use Rattle.ob_vault.specs.Shown.{AreFilledBy}
 use Rattle.ob_vault.specs.RingKind.{RingFound, ring_hidden, ring_public}
 use Rattle.ob_vault.specs.Shapes.{Shape}
 use Rattle.ob_deniable_draws.proofs.Matching.{CallsMatch, RefusedMatch, calls_matched, calls_work, join_shapes, refused_matched, refused_work}
@@ -56,11 +58,11 @@ again_state p tape zero s = λ i. record s { begun = (let z : s.begun ≡ s.begu
 again_state p tape (suc n) s = again_state p tape n (life_step p tape s ShowBatch) ∙ (λ i. record s { begun = (let z : (s.begun + 1) + n ≡ s.begun + suc n = omega arith in z) i })
 
 -- where a life is behind an opening
-abbrev pub opened : LifeState → LifeState
-opened s = record s { generation = suc s.generation; drawn = 0; begun = length s.log }
+abbrev pub at_opening : LifeState → LifeState
+at_opening s = record s { generation = suc s.generation; drawn = 0; begun = length s.log }
 
-pub opened_is : (p : Params) (tape : WordId → ℕ) (s : LifeState) → reached p tape s (opening_acts s) ≡ opened s
-opened_is p tape s = again_state p tape (length s.log) (life_step p tape s (Open (suc s.generation))) ∙ (λ i. record (opened s) { begun = (let z : 0 + length s.log ≡ length s.log = omega arith in z) i })
+pub opened_is : (p : Params) (tape : WordId → ℕ) (s : LifeState) → reached p tape s (opening_acts s) ≡ at_opening s
+opened_is p tape s = again_state p tape (length s.log) (life_step p tape s (Open (suc s.generation))) ∙ (λ i. record (at_opening s) { begun = (let z : 0 + length s.log ≡ length s.log = omega arith in z) i })
 
 abbrev pub opening_work : LifeState → List LifeWork
 opening_work s = Opens (suc s.generation) ∷ shows_again (length s.log)
@@ -103,6 +105,46 @@ pub record RowRun (p : Params) (w : WordId → ℕ) (s : LifeState) (found : Rin
   pub low : (ring_hidden found).generation < 2 ^ 62
   pub epoch : (ring_hidden found).epoch < 2 ^ 62
 
+-- what fills the holes of the call that was refused, as far as it showed
+abbrev CutFilled : (p : Params) → (w : WordId → ℕ) → LifeState → (behind : RingHidden) → VaultCall → (words : List ℕ) → (left : List LifeAct) → Type 0
+CutFilled p w s behind (Fetch asks) words left = (b : LifeBatch) → left ≡ Append b ∷ ShowBatch ∷ [] → (f : Fills) → RingDrawsCut p behind (Fetch asks) f words → AreFilledBy p w s (Append b ∷ ShowBatch ∷ []) (Fetch asks) f
+CutFilled p w s behind (End writes) words left = (f : Fills) → RingDrawsCut p behind (End writes) f words → AreFilledBy p w s (ShowLifts ∷ []) (End writes) f
+
+abbrev pub RowCut : (p : Params) → (w : WordId → ℕ) → LifeState → (behind : RingHidden) → Option VaultCall → (words : List ℕ) → (left : List LifeAct) → Type 0
+RowCut p w s behind None words left = ⊤
+RowCut p w s behind (Some call) words left = CutFilled p w s behind call words left
+
+two_acts : (A : Type 0) (xs ys : List LifeAct) (a b : LifeAct) → xs ≡ [] → xs ++ ys ≡ a ∷ b ∷ [] → (in_flight : Option LifeAct) → Finds in_flight ys → A
+two_acts A xs ys a b none is in_flight (inl nothing) = absurd (no_act a (b ∷ []) ((λ i. sym none i ++ sym nothing i) ∙ is))
+  where
+    no_act : (x : LifeAct) (zs : List LifeAct) → ◌≡◌ {A = List LifeAct} [] (x ∷ zs) → ⊥
+    no_act x zs e = cc
+two_acts A xs ys a b none is in_flight (inr (c, flies, one)) = absurd (no_more c a b ((λ i. sym none i ++ sym one i) ∙ is))
+  where
+    no_more : (x y z : LifeAct) → x ∷ [] ≡ y ∷ z ∷ [] → ⊥
+    no_more x y z e = cc
+
+one_append : (b c : LifeBatch) → Append b ≡ Append c → b ≡ c
+one_append b c e = cc
+
+module _ (keys : Keys) (most : ℕ) (p : Params) (w : WordId → ℕ) (s : LifeState) (behind : RingHidden) (words : List ℕ) (seen : List Event) (new : Disk) where
+  row_cut : (refused : Option VaultCall) (left : IsLeftInLife keys most p w s behind refused words seen new) (rest : List LifeAct) → Finds left.in_flight rest → RowCut p w s behind refused words (left.made ++ rest)
+  row_cut None left rest finds = tt
+  row_cut (Some (Fetch asks)) left rest finds = λ b is f draws. elim (left.shown (Fetch asks) refl) [
+    | inl (acts, filled) ↦ (
+        let made : (c : LifeBatch) × (left.made ≡ Append c ∷ ShowBatch ∷ []) = elim acts [ inl own ↦ (own.0, own.2) | inr showing ↦ (showing.0, showing.2) ] in
+        let same : made.0 ≡ b = one_append made.0 b (cons_head (Append made.0) (Append b) (ShowBatch ∷ rest) (ShowBatch ∷ []) ((λ i. sym made.1 i ++ rest) ∙ is)) in
+        subst (λ (xs : List LifeAct). AreFilledBy p w s xs (Fetch asks) f) (made.1 ∙ (λ i. Append (same i) ∷ ShowBatch ∷ [])) (filled f draws))
+    | inr (none, barely) ↦ two_acts (AreFilledBy p w s (Append b ∷ ShowBatch ∷ []) (Fetch asks) f) left.made rest (Append b) ShowBatch none is left.in_flight finds
+  ]
+  row_cut (Some (End writes)) left rest finds = λ f draws. elim (left.shown (End writes) refl) [
+    | inl (acts, filled) ↦ elim acts [
+      | inl own ↦ (let x = subst (λ (xs : List LifeAct). AreFilledBy p w s xs (End writes) f) own.3 (filled f draws) in record { labels = x.labels; slots = x.slots })
+      | inr showing ↦ subst (λ (xs : List LifeAct). AreFilledBy p w s xs (End writes) f) showing (filled f draws)
+    ]
+    | inr (none, barely) ↦ absurd barely
+  ]
+
 module _ {S : Type 0} (p : Params) (w : WordId → ℕ) where
   abbrev pub RunsMatch : LifeState → List (RunPart S) → List OtherRun → List LifeAct → List LifeWork → Type 0
   RunsMatch s [] [] acts work = (acts ≡ []) × (work ≡ [])
@@ -112,7 +154,8 @@ module _ {S : Type 0} (p : Params) (w : WordId → ℕ) where
       (called : List LifeAct) × (left : List LifeAct) × (later : List LifeAct) × (called_work : List LifeWork) × (left_work : List LifeWork) × (later_work : List LifeWork)
       × (acts ≡ opening_acts s ++ (called ++ (left ++ later))) × (work ≡ opening_work s ++ (called_work ++ (left_work ++ later_work)))
       × CallsMatch p w (reached p w s (opening_acts s)) calls run.calls steps called called_work × RefusedMatch refused run.refused left left_work
-      × RowRun p w (reached p w s (opening_acts s)) found calls steps behind called × RunsMatch (reached p w (reached p w (reached p w s (opening_acts s)) called) left) parts runs later later_work
+      × RowRun p w (reached p w s (opening_acts s)) found calls steps behind called
+      × RowCut p w (reached p w (reached p w s (opening_acts s)) called) behind refused words left × RunsMatch (reached p w (reached p w (reached p w s (opening_acts s)) called) left) parts runs later later_work
   RunsMatch s (Stopped old new ∷ parts) runs acts work =
       (first : List LifeAct) × (later : List LifeAct) × (first_work : List LifeWork) × (later_work : List LifeWork) × (acts ≡ first ++ later) × (work ≡ first_work ++ later_work)
       × StoppedMatch s first first_work × RunsMatch (reached p w s first) parts runs later later_work
@@ -121,7 +164,7 @@ module _ {S : Type 0} (p : Params) (w : WordId → ℕ) where
   runs_work s [] [] acts work m = m.1
   runs_work s [] (run ∷ runs) acts work m = absurd m
   runs_work s (Served most old found opened calls steps behind refused words seen new ∷ parts) [] acts work m = absurd m
-  runs_work s (Served most old found opened calls steps behind refused words seen new ∷ parts) (run ∷ runs) acts work (called, left, later, called_work, left_work, later_work, are, is, match, cut, row, more) = (
+  runs_work s (Served most old found opened calls steps behind refused words seen new ∷ parts) (run ∷ runs) acts work (called, left, later, called_work, left_work, later_work, are, is, match, cut, row, row_left, more) = (
     (opening_work s ++ called_work) ++ left_work,
     later_work,
     is ∙ sym (append_assoc (opening_work s) called_work (left_work ++ later_work)) ∙ sym (append_assoc (opening_work s ++ called_work) left_work later_work),
@@ -179,6 +222,7 @@ module _ {S : Type 0} (p : Params) (w : WordId → ℕ) where
               low = subst (λ (n : ℕ). n < 2 ^ 62) (sym (standing.runs).generation_is) ((standing.stands).generation).small;
               epoch = subst (λ (n : ℕ). n < 2 ^ 62) (sym (standing.runs).epoch_is) ((standing.stands).epoch).small;
             },
+            row_cut keys most p w (reached p w s1 called) behind words seen (disk new) refused left rest finds,
             then.is,
           );
         }

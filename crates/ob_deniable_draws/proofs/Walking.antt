@@ -11,34 +11,27 @@ use Rattle.ob_end.specs.EndRuns.{lifted_many, seals_for_end}
 use Rattle.ob_fresh.specs.Drawn.{AllDrawNext, EndDrawsNext, WordsKept, words_step}
 use Rattle.ob_recover.specs.Known.{fills_with_lifts}
 use Rattle.ob_recover.specs.Life.{Append, End as EndAct, LifeAct, LifeBatch, LifeState, ShowBatch, ShowLifts, WordId, life_step, reached}
-use Rattle.ob_recover.specs.Lives.{life_batch}
 use Rattle.ob_schedule.specs.Schedule.{Fills}
 use Rattle.ob_serial.specs.Vaults.{End, Fetch, VaultCall}
-use Rattle.ob_vault.proofs.Batches as batches
 use Rattle.ob_vault.proofs.Ends as ends
-use Rattle.ob_vault.specs.Acts.{AreTapeWords, IsBatchSmall}
+use Rattle.ob_vault.specs.Acts.{AreTapeWords}
 use Rattle.ob_vault.specs.Hidden.{RingDraws, RingHidden, table_hidden}
-use Rattle.ob_vault.specs.KindShown.{AreDrawn, steps_notes, steps_phases}
+use Rattle.ob_vault.specs.KindShown.{AreDrawn, public_behind, steps_notes, steps_phases}
 use Rattle.ob_vault.specs.RingKind.{ring_kind}
 use Rattle.ob_vault.specs.Seen.{RingPublic, ring_next, ring_notes, ring_phases}
 use Rattle.ob_vault.specs.Shapes.{Ends as EndsShape, Fetches, Shape, shape_of}
 use Rattle.ob_vault.specs.Shown.{AreFilledBy, IsInLife}
-use Rattle.ob_deniable_draws.specs.Contents.{hidden_in, words_in}
+use Rattle.ob_deniable_draws.specs.Contents.{hidden_in}
 use Rattle.ob_deniable_draws.specs.Fit.{AreCallsFit, AreKeysLow}
-use Rattle.ob_deniable_draws.proofs.BatchDraws.{batch_draws, batch_fills}
 use Rattle.ob_deniable_draws.proofs.EndDraws.{drawn_is, end_draws}
 use Rattle.ob_deniable_draws.proofs.Matching.{CallsMatch}
-use Rattle.ob_deniable_draws.proofs.Notes.{Knows, batch_known, batch_next, batch_noted, batch_phased, end_known, end_noted, end_phased}
+use Rattle.ob_deniable_draws.proofs.Notes.{Knows, end_known, end_noted, end_phased}
 use Rattle.ob_deniable_draws.proofs.Numbers.{ends_in, seals_least, words_least}
-use Rattle.ob_deniable_draws.proofs.Pairs.{Along, along_append, along_end, along_lifts, along_show, lifts_same, logs_many, shown_same}
-use Rattle.ob_deniable_draws.proofs.Stays.{in_life, records_long, word_at, words_long}
+use Rattle.ob_deniable_draws.proofs.OneCall.{batch_walk, tape_words}
+use Rattle.ob_deniable_draws.proofs.Pairs.{Along, along_end, along_lifts, lifts_same}
+use Rattle.ob_deniable_draws.proofs.Stays.{in_life}
 
 -- ---- small facts
-
-pub tape_words : (p : Params) (tape : WordId → ℕ) (g n : ℕ) → AreTapeWords tape g (words_in p tape (record { generation = g; place = 0 }) n)
-tape_words p tape g n i lt =
-    ap (λ (m : ℕ). tape (record { generation = g; place = m })) (let z : i ≡ 0 + i = omega arith in z)
-    ∙ sym (word_at p tape (record { generation = g; place = 0 }) n i (omega (arith, lt, words_long p tape (record { generation = g; place = 0 }) n)))
 
 pub keys_told : (p : Params) (kept : List (ℕ × Option WordId)) (writes : List (ℕ × Option (List ℕ))) → map told_write kept ≡ map told_write writes → AreKeysLow p writes → AreKeysLow p kept
 keys_told p [] writes told low = tt
@@ -54,13 +47,14 @@ head_shape x y xs ys e = cc
 tail_shapes : (x y : Shape) (xs ys : List Shape) → x ∷ xs ≡ y ∷ ys → xs ≡ ys
 tail_shapes x y xs ys e = cc
 
--- numbers, of a batch: n seals, d words, of which D at the end
-batch_room : (n d D rc pl sl wl : ℕ) → D ≤ 2 ^ 62 → n + ((rc + sl) + D) ≤ 2 ^ 62 + ((pl + wl) + d) → d + (pl + wl) ≤ D → (d + pl ≤ 2 ^ 62) × (n + rc ≤ 2 ^ 62) × ((n + rc) + (sl + D) ≤ 2 ^ 62 + (wl + (d + pl)))
-batch_room n d D rc pl sl wl all sum least = (omega arith, omega arith, omega arith)
+-- numbers, of a batch: n seals and d words, in the end S and D
+batch_room : (n d D S rc pl sl wl : ℕ) → D ≤ 2 ^ 62 → S ≤ 2 ^ 62 → n + ((rc + sl) + D) ≤ S + ((pl + wl) + d) → d + (pl + wl) ≤ D → (d + pl ≤ 2 ^ 62) × (n + rc ≤ 2 ^ 62) × ((n + rc) + (sl + D) ≤ S + (wl + (d + pl)))
+batch_room n d D S rc pl sl wl all all_seals sum least = (omega arith, omega arith, omega arith)
 
 -- of an end
-end_room : (n d D cc' wr rows sl wl : ℕ) → D ≤ 2 ^ 62 → n + ((cc' + sl) + D) ≤ 2 ^ 62 + ((wr + wl) + d) → (d + (wr + rows)) + wl ≤ D → (d + (wr + rows) ≤ 2 ^ 62) × (n + (rows + cc') ≤ 2 ^ 62) × ((n + (rows + cc')) + (sl + D) ≤ 2 ^ 62 + (wl + (d + (wr + rows))))
-end_room n d D cc' wr rows sl wl all sum least = (omega arith, omega arith, omega arith)
+end_room : (n d D S cc' wr rows sl wl : ℕ) → D ≤ 2 ^ 62 → S ≤ 2 ^ 62 → n + ((cc' + sl) + D) ≤ S + ((wr + wl) + d) → (d + (wr + rows)) + wl ≤ D →
+    (d + (wr + rows) ≤ 2 ^ 62) × (n + (rows + cc') ≤ 2 ^ 62) × ((n + (rows + cc')) + (sl + D) ≤ S + (wl + (d + (wr + rows))))
+end_room n d D S cc' wr rows sl wl all all_seals sum least = (omega arith, omega arith, omega arith)
 
 module _ (p : Params) (w : WordId → ℕ) where
   -- the row draws at least a word for each place
@@ -93,8 +87,9 @@ module _ (p : Params) (w : WordId → ℕ) where
   row_least s k (call ∷ calls) (other ∷ others) [] acts work match like fit next so_far = absurd match
 
 module _ (p : Params) (some : 0 < p.dummies) (room : p.keys ≤ p.room) (w w' : WordId → ℕ) (slots : VersionSlots) where
-  pub record CallsWalked (e : ℕ) (s s' : LifeState) (q : RingPublic) (others : List VaultCall) (steps : List (Shape × Fills)) (n : ℕ) (acts R : List LifeAct) (work W : List LifeWork) : Type 0 where
+  pub record CallsWalked (S : ℕ) (e : ℕ) (s s' : LifeState) (q : RingPublic) (others : List VaultCall) (steps : List (Shape × Fills)) (n : ℕ) (acts R : List LifeAct) (work W : List LifeWork) : Type 0 where
     pub other_steps : List (Shape × Fills)
+    pub shapes : map (λ (x : Shape × Fills). x.0) other_steps ≡ map shape_of others
     pub epoch_then : ℕ
     pub words_then : WordsKept
     pub called : List LifeAct
@@ -107,26 +102,30 @@ module _ (p : Params) (some : 0 < p.dummies) (room : p.keys ≤ p.room) (w w' : 
     pub begun : (reached p w' s' called).begun ≡ length (reached p w' s' called).log
     pub so_far : words_then.drawn ≡ (reached p w' s' called).drawn
     pub generation : (reached p w' s' called).generation ≡ s'.generation
+    pub few_seals : seals ≤ S
+    pub knows : Knows p w' (public_behind ring_kind p q steps).known (reached p w' s' called)
+    pub at : (public_behind ring_kind p q steps).shown ≡ length (reached p w' s' called).log
 
   -- what holds at each point
-  pub record IsAt (D : ℕ) (s s' : LifeState) (k row_k : WordsKept) (q : RingPublic) (others : List VaultCall) (n : ℕ) (acts : List LifeAct) : Type 0 where
+  pub record IsAt (D S : ℕ) (s s' : LifeState) (k row_k : WordsKept) (q : RingPublic) (others : List VaultCall) (n : ℕ) (acts : List LifeAct) : Type 0 where
     pub knows : Knows p w' q.known s'
     pub at : q.shown ≡ length s'.log
     pub begun : s'.begun ≡ length s'.log
     pub so_far : k.drawn ≡ s'.drawn
     pub low : s'.generation < 2 ^ 62
     pub epochs : s'.epoch + ends_in others < 2 ^ 62
-    pub sum : n + (seals_least p others + D) ≤ 2 ^ 62 + (words_least p others + s'.drawn)
+    pub sum : n + (seals_least p others + D) ≤ S + (words_least p others + s'.drawn)
     pub row_next : AllDrawNext p w s row_k acts
     pub row_far : row_k.drawn ≡ s.drawn
     pub row_all : (reached p w s acts).drawn ≡ D
 
-  module _ (D : ℕ) (all : D ≤ 2 ^ 62) (R : List LifeAct) (W : List LifeWork) where
+  module _ (D S : ℕ) (all : D ≤ 2 ^ 62) (all_seals : S ≤ 2 ^ 62) (R : List LifeAct) (W : List LifeWork) where
     pub calls_walk : (e : ℕ) (s s' : LifeState) (k row_k : WordsKept) (q : RingPublic) (calls others : List VaultCall) (steps : List (Shape × Fills)) (n : ℕ) (acts : List LifeAct) (work : List LifeWork) → Along p some w w' slots e s s' k (acts ++ R) (work ++ W) →
-        CallsMatch p w s calls others steps acts work → map (λ (x : Shape × Fills). x.0) steps ≡ map shape_of calls → AreOtherCalls p calls others → AreCallsFit p others → IsAt D s s' k row_k q others n acts → CallsWalked e s s' q others steps n acts R work W
+        CallsMatch p w s calls others steps acts work → map (λ (x : Shape × Fills). x.0) steps ≡ map shape_of calls → AreOtherCalls p calls others → AreCallsFit p others → IsAt D S s s' k row_k q others n acts → CallsWalked S e s s' q others steps n acts R work W
     calls_walk e s s' k row_k q [] [] [] n acts work a (is, are) shapes like fit here =
-        subst (λ (xs : List LifeAct). CallsWalked e s s' q [] [] n xs R work W) (sym is) (subst (λ (xs : List LifeWork). CallsWalked e s s' q [] [] n [] R xs W) (sym are) (record {
+        subst (λ (xs : List LifeAct). CallsWalked S e s s' q [] [] n xs R work W) (sym is) (subst (λ (xs : List LifeWork). CallsWalked S e s s' q [] [] n [] R xs W) (sym are) (record {
           other_steps = [];
+          shapes = refl;
           epoch_then = e;
           words_then = k;
           called = [];
@@ -139,6 +138,9 @@ module _ (p : Params) (some : 0 < p.dummies) (room : p.keys ≤ p.room) (w w' : 
           begun = here.begun;
           so_far = here.so_far;
           generation = refl;
+          few_seals = (let x = here.sum in let y = (a.pair).drawn in let z : s.drawn ≡ D = sym (ap (λ (xs : List LifeAct). (reached p w s xs).drawn) is) ∙ here.row_all in omega (arith, x, y, z));
+          knows = here.knows;
+          at = here.at;
         }))
     calls_walk e s s' k row_k q (Fetch asks ∷ calls) (Fetch others ∷ more) (step ∷ steps) n acts work a (first, rest, first_work, rest_work, are, is, (b, same, first_is, first_work_is), filled, match) shapes like fit here =
         let acts_is : acts ≡ Append b ∷ ShowBatch ∷ rest = are ∙ ap (λ (xs : List LifeAct). xs ++ rest) first_is in
@@ -150,42 +152,22 @@ module _ (p : Params) (some : 0 < p.dummies) (room : p.keys ≤ p.room) (w w' : 
         subst (λ (m : ℕ). s.drawn + (p.places + words_least p more) ≤ m) here.row_all
         (row_least p w s row_k (Fetch asks ∷ calls) (Fetch others ∷ more) (step ∷ steps) acts work (first, rest, first_work, rest_work, are, is, (b, same, first_is, first_work_is), filled, match) like fit here.row_next here.row_far) in
         let drawn : s.drawn ≡ s'.drawn = (a.pair).drawn in
-        let numbers = batch_room n s'.drawn D (record_cells p) p.places (seals_least p more) (words_least p more) all here.sum (subst (λ (m : ℕ). m + (p.places + words_least p more) ≤ D) drawn least) in
-        let own : r.first ≡ record { generation = s'.generation; place = s'.drawn } = (a0.next).0 ∙ (λ i. record { generation = s'.generation; place = here.so_far i }) in
-        let place : b.first.place ≡ s'.drawn = ap (λ (v : WordId). v.place) own in
+        let numbers = batch_room n s'.drawn D S (record_cells p) p.places (seals_least p more) (words_least p more) all all_seals here.sum (subst (λ (m : ℕ). m + (p.places + words_least p more) ≤ D) drawn least) in
+        let row_filled : AreFilledBy p w s (Append b ∷ ShowBatch ∷ []) (Fetch asks) step.1 = subst (λ (xs : List LifeAct). AreFilledBy p w s xs (Fetch asks) step.1) first_is filled in
+        let one = batch_walk p some room w w' slots e s s' k q b asks others n step.1 (rest ++ R) (rest_work ++ W) a0 (ap length same ∙ like.0) fit.0 here.knows here.at here.begun here.so_far here.low numbers.0 numbers.1 row_filled in
+        let f : Fills = one.fills in
+        let next = one.next in
+        let place : b.first.place ≡ s'.drawn = ap (λ (v : WordId). v.place) one.own in
         let whole : length others ≡ p.places = (fit.0).whole in
-        let small : IsBatchSmall r = (let h = numbers.0 in omega (arith, h, place, whole)) in
-        let a1 = along_append p some w w' slots e s s' k (ShowBatch ∷ (rest ++ R)) (Shows ∷ (rest_work ++ W)) b others b.first (ap length same ∙ like.0) refl small fit.0 a0 in
-        let a2 = along_show p some w w' slots e (life_step p w s (Append b)) (life_step p w' s' (Append r)) (words_step p w' s' k (Append r)) (rest ++ R) (rest_work ++ W) a1 in
-        let f : Fills = batch_fills p w' s' r own n in
-        let h : RingHidden = hidden_in p w' s' n in
         let s2 : LifeState = reached p w s (Append b ∷ ShowBatch ∷ []) in
         let s2' : LifeState = reached p w' s' (Append r ∷ ShowBatch ∷ []) in
-        let lower : s'.generation < 2 ^ 64 = (let l = here.low in omega arith) in
-        let draw : RingDraws p h (Fetch others) f (hidden_in p w' s2' (n + record_cells p)) = batch_draws p w' s' r own n (a2.pair).stays whole numbers.0 numbers.1 in
-        let inside : IsInLife p w' h s' = in_life p w' s' (a.pair).stays lower room n here.begun in
-        let left : length h.records < p.batches = (let ok : length s'.log < p.batches = (a0.other_life).0.0 in omega (arith, ok, records_long p w' 0 s'.log)) in
-        let behind : RingHidden = hidden_in p w' s2' (n + record_cells p) in
-        let tape : AreTapeWords w' h.generation (h.words ++ ((draw.0).next).words) =
-        subst (λ (l : List ℕ). AreTapeWords w' s'.generation l) (ap (λ (x : RingHidden). x.words) (draw.0).behind_is) (tape_words p w' s'.generation (b.first.place + length others)) in
-        let logged : life_batch (draw.0).next ≡ r =
-        (λ i. record { asks = ((draw.0).is_next).asked i; first = record { generation = ((draw.0).is_next).generation i; place = (((draw.0).is_next).first ∙ words_long p w' (record { generation = s'.generation; place = 0 }) s'.drawn) i } })
-        ∙ (λ i. record { asks = others; first = sym own i }) in
-        let other_filled : AreFilledBy p w' s' (Append r ∷ ShowBatch ∷ []) (Fetch others) f =
-        subst (λ (x : LifeBatch). AreFilledBy p w' s' (Append x ∷ ShowBatch ∷ []) (Fetch others) f) logged (batches.batch_filled p w' s' h inside others f behind draw.0 left tape) in
-        let row_filled : AreFilledBy p w s (Append b ∷ ShowBatch ∷ []) (Fetch asks) step.1 = subst (λ (xs : List LifeAct). AreFilledBy p w s xs (Fetch asks) step.1) first_is filled in
-        let seen = shown_same p some w w' slots e (life_step p w s (Append b)) (life_step p w' s' (Append r)) (words_step p w' s' k (Append r)) (rest ++ R) (rest_work ++ W) a1 in
-        let many : length s.log ≡ length s'.log = logs_many p some w w' s s' (a.pair) in
-        let noted = batch_noted p some w w' q s s' b r asks others step.1 f row_filled other_filled many here.knows here.at (a.pair).stays lower room (a0.other_life).0 here.begun seen.0 seen.1 in
-        let phased = batch_phased p some w w' q s s' b r asks others step.1 f row_filled other_filled many here.knows here.at (a.pair).stays lower room (a0.other_life).0 here.begun seen.0 seen.1 in
-        let next = batch_next p some w w' q s s' b r asks others step.1 f row_filled other_filled many here.knows here.at (a.pair).stays lower room (a0.other_life).0 here.begun seen.0 seen.1 in
-        let known = batch_known p some w w' q s s' b r asks others step.1 f row_filled other_filled many here.knows here.at (a.pair).stays lower room (a0.other_life).0 here.begun seen.0 seen.1 in
         let shape : step.0 ≡ Fetches = head_shape step.0 Fetches (map (λ (x : Shape × Fills). x.0) steps) (map shape_of calls) shapes in
+        let then_public : public_behind ring_kind p (ring_next p q Fetches f) steps ≡ public_behind ring_kind p q (step ∷ steps) = (λ i. public_behind ring_kind p (next i) steps) ∙ (λ i. public_behind ring_kind p (ring_next p q (sym shape i) step.1) steps) in
         let more_logged : length (s'.log ++ r ∷ []) ≡ length s'.log + 1 = length-append s'.log (r ∷ []) in
         let row_next' : AllDrawNext p w s row_k (Append b ∷ ShowBatch ∷ rest) = subst (λ (xs : List LifeAct). AllDrawNext p w s row_k xs) acts_is here.row_next in
         let row_place : b.first.place ≡ row_k.drawn = ap (λ (v : WordId). v.place) row_next'.0 in
-        let then : IsAt D s2 s2' (words_step p w' s' k (Append r)) (words_step p w s row_k (Append b)) (ring_next p q Fetches f) more (n + record_cells p) rest = record {
-          knows = known;
+        let then : IsAt D S s2 s2' (words_step p w' s' k (Append r)) (words_step p w s row_k (Append b)) (ring_next p q Fetches f) more (n + record_cells p) rest = record {
+          knows = one.knows;
           at = (let x = here.at in omega (arith, x, more_logged));
           begun = (let x = here.begun in omega (arith, x, more_logged));
           so_far = (let x = here.so_far in omega (arith, x, place));
@@ -197,22 +179,26 @@ module _ (p : Params) (some : 0 < p.dummies) (room : p.keys ≤ p.room) (w w' : 
           row_all = ap (λ (xs : List LifeAct). (reached p w s xs).drawn) (sym acts_is) ∙ here.row_all;
         } in
         let match' : CallsMatch p w s2 calls more steps rest rest_work = subst (λ (xs : List LifeAct). CallsMatch p w (reached p w s xs) calls more steps rest rest_work) first_is match in
-        let go = calls_walk e s2 s2' (words_step p w' s' k (Append r)) (words_step p w s row_k (Append b)) (ring_next p q Fetches f) calls more steps (n + record_cells p) rest rest_work a2 match'
+        let go = calls_walk e s2 s2' (words_step p w' s' k (Append r)) (words_step p w s row_k (Append b)) (ring_next p q Fetches f) calls more steps (n + record_cells p) rest rest_work one.along match'
         (tail_shapes step.0 Fetches (map (λ (x : Shape × Fills). x.0) steps) (map shape_of calls) shapes) like.1 fit.1 then in
-        subst (λ (xs : List LifeAct). CallsWalked e s s' q (Fetch others ∷ more) (step ∷ steps) n xs R work W) (sym acts_is) (subst (λ (xs : List LifeWork). CallsWalked e s s' q (Fetch others ∷ more) (step ∷ steps) n (Append b ∷ ShowBatch ∷ rest) R xs W) (sym work_is) (record {
+        subst (λ (xs : List LifeAct). CallsWalked S e s s' q (Fetch others ∷ more) (step ∷ steps) n xs R work W) (sym acts_is) (subst (λ (xs : List LifeWork). CallsWalked S e s s' q (Fetch others ∷ more) (step ∷ steps) n (Append b ∷ ShowBatch ∷ rest) R xs W) (sym work_is) (record {
           other_steps = (Fetches, f) ∷ go.other_steps;
+          shapes = ap (λ (xs : List Shape). Fetches ∷ xs) go.shapes;
           epoch_then = go.epoch_then;
           words_then = go.words_then;
           called = Append r ∷ ShowBatch ∷ go.called;
           split = ap (λ (xs : List LifeAct). Append r ∷ ShowBatch ∷ xs) go.split;
           seals = go.seals;
           along = go.along;
-          drawn = (hidden_in p w' s2' (n + record_cells p), draw, go.drawn);
-          notes = (λ i. noted i ++ go.notes i) ∙ (λ i. ring_notes p q Fetches step.1 ++ steps_notes ring_kind p (next i) steps) ∙ (λ i. ring_notes p q (sym shape i) step.1 ++ steps_notes ring_kind p (ring_next p q (sym shape i) step.1) steps);
-          phases = (λ i. phased i ++ go.phases i) ∙ (λ i. ring_phases p q Fetches step.1 ++ steps_phases ring_kind p (next i) steps) ∙ (λ i. ring_phases p q (sym shape i) step.1 ++ steps_phases ring_kind p (ring_next p q (sym shape i) step.1) steps);
+          drawn = (hidden_in p w' s2' (n + record_cells p), one.draws, go.drawn);
+          notes = (λ i. one.noted i ++ go.notes i) ∙ (λ i. ring_notes p q Fetches step.1 ++ steps_notes ring_kind p (next i) steps) ∙ (λ i. ring_notes p q (sym shape i) step.1 ++ steps_notes ring_kind p (ring_next p q (sym shape i) step.1) steps);
+          phases = (λ i. one.phased i ++ go.phases i) ∙ (λ i. ring_phases p q Fetches step.1 ++ steps_phases ring_kind p (next i) steps) ∙ (λ i. ring_phases p q (sym shape i) step.1 ++ steps_phases ring_kind p (ring_next p q (sym shape i) step.1) steps);
           begun = go.begun;
           so_far = go.so_far;
           generation = go.generation;
+          few_seals = go.few_seals;
+          knows = subst (λ (x : RingPublic). Knows p w' x.known (reached p w' s2' go.called)) (then_public) go.knows;
+          at = ap (λ (x : RingPublic). x.shown) (sym (then_public)) ∙ go.at;
         }))
     calls_walk e s s' k row_k q (End writes ∷ calls) (End others ∷ more) (step ∷ steps) n acts work a (first, rest, first_work, rest_work, are, is, (ws, drawn, slot, kept, first_is, first_work_is, told), filled, match) shapes like fit here =
         let acts_is : acts ≡ ShowLifts ∷ EndAct ws drawn slot ∷ rest = are ∙ ap (λ (xs : List LifeAct). xs ++ rest) first_is in
@@ -235,7 +221,7 @@ module _ (p : Params) (some : 0 < p.dummies) (room : p.keys ≤ p.room) (w w' : 
         let h : RingHidden = hidden_in p w' s' n in
         let rows : ℕ = lifted_many p (table_hidden p h) * width p in
         let grown : drawn ≡ s'.drawn + (p.writes + rows) = drawn_is p w' s' kept drawn slot' others told (a0.other_life).0 k here.so_far turn (a.pair).stays lower room lifts_low n in
-        let numbers = end_room n s'.drawn D (checkpoint_cells p) p.writes rows (seals_least p more) (words_least p more) all here.sum (subst (λ (m : ℕ). m + words_least p more ≤ D) grown least) in
+        let numbers = end_room n s'.drawn D S (checkpoint_cells p) p.writes rows (seals_least p more) (words_least p more) all all_seals here.sum (subst (λ (m : ℕ). m + words_least p more ≤ D) grown least) in
         let small : k.drawn + p.writes ≤ 2 ^ 64 = (let x = here.so_far in let y = numbers.0 in omega (arith, x, y)) in
         let keys : AreKeysLow p kept = keys_told p kept others told fit.0 in
         let a1 = along_lifts p some w w' slots e s s' k (EndAct ws drawn slot ∷ (rest ++ R)) (Ends kept drawn ∷ (rest_work ++ W)) a0 in
@@ -254,7 +240,8 @@ module _ (p : Params) (some : 0 < p.dummies) (room : p.keys ≤ p.room) (w w' : 
         let phased = end_phased p some w w' q s s' ws kept drawn drawn slot slot' writes others step.1 f row_filled other_filled here.knows (a1.pair).stays seen in
         let known = end_known p some w w' q s s' ws kept drawn drawn slot slot' writes others step.1 f row_filled other_filled here.knows (a1.pair).stays seen in
         let shape : step.0 ≡ EndsShape = head_shape step.0 EndsShape (map (λ (x : Shape × Fills). x.0) steps) (map shape_of calls) shapes in
-        let then : IsAt D s2 s2' (words_step p w' sl' k (EndAct kept drawn slot')) row_k2 (ring_next p q EndsShape f) more (n + seals_for_end p (table_hidden p h)) rest = record {
+        let then_public : public_behind ring_kind p (ring_next p q EndsShape f) steps ≡ public_behind ring_kind p q (step ∷ steps) = (λ i. public_behind ring_kind p (ring_next p q (sym shape i) step.1) steps) in
+        let then : IsAt D S s2 s2' (words_step p w' sl' k (EndAct kept drawn slot')) row_k2 (ring_next p q EndsShape f) more (n + seals_for_end p (table_hidden p h)) rest = record {
           knows = known;
           at = refl;
           begun = refl;
@@ -268,8 +255,9 @@ module _ (p : Params) (some : 0 < p.dummies) (room : p.keys ≤ p.room) (w w' : 
         } in
         let go = calls_walk (e + 1) s2 s2' (words_step p w' sl' k (EndAct kept drawn slot')) row_k2 (ring_next p q EndsShape f) calls more steps (n + seals_for_end p (table_hidden p h)) rest rest_work a2 match'
         (tail_shapes step.0 EndsShape (map (λ (x : Shape × Fills). x.0) steps) (map shape_of calls) shapes) like.1 fit.1 then in
-        subst (λ (xs : List LifeAct). CallsWalked e s s' q (End others ∷ more) (step ∷ steps) n xs R work W) (sym acts_is) (subst (λ (xs : List LifeWork). CallsWalked e s s' q (End others ∷ more) (step ∷ steps) n (ShowLifts ∷ EndAct ws drawn slot ∷ rest) R xs W) (sym work_is) (record {
+        subst (λ (xs : List LifeAct). CallsWalked S e s s' q (End others ∷ more) (step ∷ steps) n xs R work W) (sym acts_is) (subst (λ (xs : List LifeWork). CallsWalked S e s s' q (End others ∷ more) (step ∷ steps) n (ShowLifts ∷ EndAct ws drawn slot ∷ rest) R xs W) (sym work_is) (record {
           other_steps = (EndsShape, f) ∷ go.other_steps;
+          shapes = ap (λ (xs : List Shape). EndsShape ∷ xs) go.shapes;
           epoch_then = go.epoch_then;
           words_then = go.words_then;
           called = ShowLifts ∷ EndAct kept drawn slot' ∷ go.called;
@@ -282,6 +270,9 @@ module _ (p : Params) (some : 0 < p.dummies) (room : p.keys ≤ p.room) (w w' : 
           begun = go.begun;
           so_far = go.so_far;
           generation = go.generation;
+          few_seals = go.few_seals;
+          knows = subst (λ (x : RingPublic). Knows p w' x.known (reached p w' s2' go.called)) (then_public) go.knows;
+          at = ap (λ (x : RingPublic). x.shown) (sym (then_public)) ∙ go.at;
         }))
     calls_walk e s s' k row_k q (Fetch asks ∷ calls) (End others ∷ more) (step ∷ steps) n acts work a match shapes like fit here = absurd like.0
     calls_walk e s s' k row_k q (End writes ∷ calls) (Fetch others ∷ more) (step ∷ steps) n acts work a match shapes like fit here = absurd like.0

@@ -5,4 +5,4 @@
 
 mod runs;
 
-pub use runs::draws_are_deniable;
+pub use runs::{draws_are_deniable, only_fit_asks_draw};
