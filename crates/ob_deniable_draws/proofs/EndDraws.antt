@@ -41,7 +41,7 @@ use Rattle.ob_vault.specs.Acts.{id_write}
 use Rattle.ob_vault.specs.Hidden.{IsContentEnded, RingDraws, RingHidden, table_hidden}
 use Rattle.ob_vault.specs.RingVaults.{write_from}
 use Rattle.ob_vault.specs.Shown.{IsInLife}
-use Rattle.ob_deniable_draws.specs.Contents.{content_in, entry_in, hidden_in, words_in}
+use Rattle.ob_deniable_draws.proofs.Contents.{content_hidden, entry_hidden, hidden_in, words_hidden}
 use Rattle.ob_deniable_draws.proofs.Keeping.{in_levels_too}
 use Rattle.ob_deniable_draws.proofs.Lists.{map_same, one_at, position_is}
 use Rattle.ob_deniable_draws.proofs.Obeying.{book_is, version_is, version_out}
@@ -93,7 +93,7 @@ ids_are at g first a (x ∷ ws) (y ∷ writes) told next each =
     (λ i low. (let e : a + suc i ≡ (a + 1) + i = omega arith in subst (λ (n : ℕ). ((at n).0 ≡ write_at (map write_from writes) i) × ((at n).1.generation ≡ g) × ((at n).1.index ≡ first + n)) e (each (suc i) (omega arith)))) in
     λ j. (key j, word j) ∷ rest j
 
-entry_back : (p : Params) (tape : WordId → ℕ) (o : Option Entry) → ((e : Entry) → o ≡ Some e → ids.Fits p tape e) → entry_in p tape (word_kept o) ≡ o
+entry_back : (p : Params) (tape : WordId → ℕ) (o : Option Entry) → ((e : Entry) → o ≡ Some e → ids.Fits p tape e) → entry_hidden p tape (word_kept o) ≡ o
 entry_back p tape None fits = refl
 entry_back p tape (Some e) fits = λ i. Some (record { generation = e.generation; index = e.index; leaf = sym (fits e refl) i })
 
@@ -146,7 +146,7 @@ module _ (p : Params) (tape : WordId → ℕ) (s : LifeState) (ws : List (ℕ ×
   first_is = words_long p tape (record { generation = s.generation; place = 0 }) s.drawn
 
   abbrev words : List ℕ
-  words = words_in p tape (record { generation = s.generation; place = s.drawn }) (words_for_end p t0)
+  words = words_hidden p tape (record { generation = s.generation; place = s.drawn }) (words_for_end p t0)
 
   words_many : length words ≡ words_for_end p t0
   words_many = words_long p tape (record { generation = s.generation; place = s.drawn }) (words_for_end p t0)
@@ -201,13 +201,13 @@ module _ (p : Params) (tape : WordId → ℕ) (s : LifeState) (ws : List (ℕ ×
 
     module _ (then : Stays p tape se) where
       abbrev ended : Content
-      ended = content_in p tape se.content
+      ended = content_hidden p tape se.content
 
       entries_are : (i : ℕ) → entry_at ended.book i ≡ entries_after entries fs i
       entries_are i =
           book_is p tape se.content then.ready i
-          ∙ ap (λ (vs : List (ℕ × Option WordId)). entry_in p tape (book_written p tape (book_now p tape s) vs i)) (sym fs_ids)
-          ∙ ap (entry_in p tape) (written_ids p tape fs entries (book_now p tape s) book_now_is i)
+          ∙ ap (λ (vs : List (ℕ × Option WordId)). entry_hidden p tape (book_written p tape (book_now p tape s) vs i)) (sym fs_ids)
+          ∙ ap (entry_hidden p tape) (written_ids p tape fs entries (book_now p tape s) book_now_is i)
           ∙ entry_back p tape (entries_after entries fs i) (λ e is. written_fit p tape fs entries all_fit old_fit i e is)
 
       -- ---- buckets
@@ -305,6 +305,6 @@ module _ (p : Params) (tape : WordId → ℕ) (s : LifeState) (ws : List (ℕ ×
         epoch = omega arith;
         none = refl;
         generation = refl;
-        grows = ap (words_in p tape (record { generation = s.generation; place = 0 })) drawn_is ∙ words_more p tape s.generation s.drawn (words_for_end p t0);
+        grows = ap (words_hidden p tape (record { generation = s.generation; place = 0 })) drawn_is ∙ words_more p tape s.generation s.drawn (words_for_end p t0);
         sealed = refl;
       }

@@ -35,8 +35,8 @@ use Rattle.ob_stand.specs.Table.{flat_of}
 use Rattle.ob_tables.specs.Content.{Content, Obeys}
 use Rattle.ob_tables.specs.Rank.{IsRanking}
 use Rattle.ob_vault.specs.Acts.{IsBatchSmall}
-use Rattle.ob_deniable_draws.specs.Contents.{content_in, records_in}
-use Rattle.ob_deniable_draws.specs.Fit.{AreAsksFit, AreKeysLow}
+use Rattle.ob_deniable_draws.proofs.Contents.{content_hidden, records_hidden}
+use Rattle.ob_deniable_draws.specs.Fit.{AreAsksFit, AreWritesLow}
 use Rattle.ob_deniable_draws.proofs.Obeying.{IsReady}
 use Rattle.ob_deniable_draws.proofs.Stays.{AreFrom, Stays, content_obeys, life_at, records_fit, table_of}
 
@@ -126,7 +126,7 @@ module _ (p : Params) (tape : WordId → ℕ) (some : 0 < p.dummies) where
   log_none book [] k none = none
   log_none book (r ∷ log) k none = log_none (book_after book (batch_places r)) log k (places_none book (batch_places r) k none)
 
-  written_none : (book : ℕ → Option WordId) (ws : List (ℕ × Option WordId)) (k : ℕ) → p.keys ≤ k → AreKeysLow p ws → book k ≡ None → book_written p tape book ws k ≡ None
+  written_none : (book : ℕ → Option WordId) (ws : List (ℕ × Option WordId)) (k : ℕ) → p.keys ≤ k → AreWritesLow p ws → book k ≡ None → book_written p tape book ws k ≡ None
   written_none book [] k high keys none = none
   written_none book (w ∷ ws) k high keys none =
       let other : (k == w.0) ≡ false = ne_eqb k w.0 (λ e. (let low : w.0 < p.keys = keys.0 in omega arith)) in
@@ -161,7 +161,7 @@ module _ (p : Params) (tape : WordId → ℕ) (some : 0 < p.dummies) where
   -- ---- an end
 
   module _ (s : LifeState) (ws : List (ℕ × Option WordId)) (drawn n : ℕ) (slot : ℕ → ℕ → ℕ) (ok : IsActAllowed p tape s (End ws drawn slot)) (stays : Stays p tape s) (low : s.generation < 2 ^ 64) (room : p.keys ≤ p.room)
-      (keys : AreKeysLow p ws) (puts : AreNextPuts (record { generation = s.generation; place = n }) ws) (small : n + length ws ≤ 2 ^ 64) (lifted_low : (u : ℕ) → is_table_lifted p tape s u ≡ true → u < buckets p) where
+      (keys : AreWritesLow p ws) (puts : AreNextPuts (record { generation = s.generation; place = n }) ws) (small : n + length ws ≤ 2 ^ 64) (lifted_low : (u : ℕ) → is_table_lifted p tape s u ≡ true → u < buckets p) where
     abbrev t : FlatTable
     t = table_now p tape s
 
@@ -178,10 +178,10 @@ module _ (p : Params) (tape : WordId → ℕ) (some : 0 < p.dummies) where
     -- ---- which indexes were shown
 
     abbrev C : Content
-    C = content_in p tape s.content
+    C = content_hidden p tape s.content
 
     abbrev rs : List BatchRecord
-    rs = records_in p tape 0 s.log
+    rs = records_hidden p tape 0 s.log
 
     obeying : Obeys p C
     obeying = content_obeys p tape s stays low room

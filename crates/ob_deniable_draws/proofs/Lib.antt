@@ -1,3 +1,4 @@
+pub mod Contents
 pub mod Obeying
 pub mod Lists
 pub mod Stays

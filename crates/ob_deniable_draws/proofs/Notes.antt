@@ -34,7 +34,7 @@ use Rattle.ob_tables.specs.Content.{Content}
 use Rattle.ob_vault.specs.Seen.{RingPublic, ring_next, ring_notes, ring_phases}
 use Rattle.ob_vault.specs.Shapes.{Ends, Fetches}
 use Rattle.ob_vault.specs.Shown.{AreFilledBy}
-use Rattle.ob_deniable_draws.specs.Contents.{content_in}
+use Rattle.ob_deniable_draws.proofs.Contents.{content_hidden}
 use Rattle.ob_deniable_draws.proofs.Keeping.{booked_log}
 use Rattle.ob_deniable_draws.proofs.Stays.{Stays, home_is, life_at}
 
@@ -85,7 +85,7 @@ module _ (p : Params) (some : 0 < p.dummies) (w w' : WordId → ℕ) (q : RingPu
   asked = leaves p w' (batch_places r')
 
   abbrev C : Content
-  C = content_in p w' s'.content
+  C = content_hidden p w' s'.content
 
   abbrev L : List ℕ
   L = leaves_shown p t asked

@@ -32,7 +32,7 @@ use Rattle.ob_tables.specs.Kept.{entry_at}
 use Rattle.ob_tables.specs.Rank.{IsRanking}
 use Rattle.ob_tables.specs.Version.{AreRanks, Version, VersionObeys, key_at, used_at}
 use Rattle.ob_tables.specs.declared.entry.Entry.{Entry}
-use Rattle.ob_deniable_draws.specs.Contents.{content_in, entry_in, rows_in, version_in}
+use Rattle.ob_deniable_draws.proofs.Contents.{content_hidden, entry_hidden, rows_hidden, version_hidden}
 
 -- ---- lists and rows
 
@@ -75,9 +75,9 @@ told_more t n k rows b is so = elim (cases_eq k n) [
 none_told : (t : FlatTable) (k : ℕ) → None ≡ row_told t 0 k
 none_told t k = (let z : nat_lt k 0 ≡ false = grind (arith, nat_tests) in ap (λ (x : Bool). cond x (cond (in_stash (t.rows k)) (Some []) None) None) (sym z))
 
-pub rows_told : (t : FlatTable) (n k : ℕ) → finite.get (rows_in t n) k ≡ row_told t n k
+pub rows_told : (t : FlatTable) (n k : ℕ) → finite.get (rows_hidden t n) k ≡ row_told t n k
 rows_told t zero k = finite.get-empty nat_cmp k ∙ none_told t k
-rows_told t (suc n) k = told_more t n k (rows_in t n) (in_stash (t.rows n)) refl (rows_told t n k)
+rows_told t (suc n) k = told_more t n k (rows_hidden t n) (in_stash (t.rows n)) refl (rows_told t n k)
 
 one_more : (b c : Bool) (m : Rows) (n : ℕ) (l : ℕ) → finite.len m ≤ n → l ≡ cond c (finite.len m) (finite.len m + 1) → cond b l (finite.len m) ≤ suc n
 one_more false c m n l low is = omega arith
@@ -88,10 +88,10 @@ len_cond : (b : Bool) (x y : Rows) → finite.len (cond b x y) ≡ cond b (finit
 len_cond true x y = refl
 len_cond false x y = refl
 
-rows_few : (t : FlatTable) (n : ℕ) → finite.len (rows_in t n) ≤ n
+rows_few : (t : FlatTable) (n : ℕ) → finite.len (rows_hidden t n) ≤ n
 rows_few t zero = omega (arith, finite.len-empty nat_cmp (List ℕ))
 rows_few t (suc n) =
-    let m : Rows = rows_in t n in
+    let m : Rows = rows_hidden t n in
     let le : cond (in_stash (t.rows n)) (finite.len (finite.insert m n [])) (finite.len m) ≤ suc n =
     one_more (in_stash (t.rows n)) (finite.contains_key m n) m n (finite.len (finite.insert m n [])) (rows_few t n) (finite.len-insert nat_cmp_total m n []) in
     omega (arith, le, len_cond (in_stash (t.rows n)) (finite.insert m n []) m)
@@ -131,22 +131,22 @@ module _ (p : Params) (tape : WordId → ℕ) where
 
   module _ (c : LifeContent) (ready : IsReady c) where
     abbrev C : Content
-    C = content_in p tape c
+    C = content_hidden p tape c
 
     book_long : length C.book ≡ p.keys
-    book_long = length-map-range_with_len (λ k. entry_in p tape (c.book k)) 0 p.keys
+    book_long = length-map-range_with_len (λ k. entry_hidden p tape (c.book k)) 0 p.keys
 
-    pub book_is : (k : ℕ) → entry_at C.book k ≡ entry_in p tape (c.book k)
+    pub book_is : (k : ℕ) → entry_at C.book k ≡ entry_hidden p tape (c.book k)
     book_is k = elim (cases_lt k p.keys) [
-      | inl low ↦ get_or-map-range_with_len (λ i. entry_in p tape (c.book i)) 0 p.keys k k None low (omega arith)
-      | inr high ↦ past_none C.book None k (omega (arith, book_long)) ∙ ap (entry_in p tape) (sym (ready.keys k high))
+      | inl low ↦ get_or-map-range_with_len (λ i. entry_hidden p tape (c.book i)) 0 p.keys k k None low (omega arith)
+      | inr high ↦ past_none C.book None k (omega (arith, book_long)) ∙ ap (entry_hidden p tape) (sym (ready.keys k high))
     ]
 
     versions_long : length C.versions ≡ buckets p
-    versions_long = length-map-range_with_len (version_in p c) 0 (buckets p)
+    versions_long = length-map-range_with_len (version_hidden p c) 0 (buckets p)
 
-    pub version_is : (u : ℕ) → u < buckets p → version_at C.versions u ≡ version_in p c u
-    version_is u low = get_or-map-range_with_len (version_in p c) 0 (buckets p) u u no_version low (omega arith)
+    pub version_is : (u : ℕ) → u < buckets p → version_at C.versions u ≡ version_hidden p c u
+    version_is u low = get_or-map-range_with_len (version_hidden p c) 0 (buckets p) u u no_version low (omega arith)
 
     pub version_out : (u : ℕ) → buckets p ≤ u → version_at C.versions u ≡ no_version
     version_out u high = past_none C.versions no_version u (omega (arith, versions_long))
@@ -202,11 +202,11 @@ module _ (p : Params) (tape : WordId → ℕ) where
 
     -- ---- it obeys
 
-    fits_entry : (k : ℕ) (o : Option WordId) (e : Entry) → ((w : WordId) → o ≡ Some w → (w.generation < 2 ^ 64) × (w.place < 2 ^ 64)) → entry_in p tape o ≡ Some e → FitsEntry p e
+    fits_entry : (k : ℕ) (o : Option WordId) (e : Entry) → ((w : WordId) → o ≡ Some w → (w.generation < 2 ^ 64) × (w.place < 2 ^ 64)) → entry_hidden p tape o ≡ Some e → FitsEntry p e
     fits_entry k None e small is = absurd (cc)
     fits_entry k (Some w) e small is = subst (FitsEntry p) (let same : record { generation = w.generation; index = w.place; leaf = leaf_of_word p tape w } ≡ e = cc in same) (record { generation = (small w refl).0; index = (small w refl).1; leaf = leaf_low p tape w })
 
-    key_entry : (u k : ℕ) (o : Option WordId) (x : Option Row) (y : Row) → kept_leaf x ≡ low_bits p tape o → x ≡ Some y → passes p u (leaf_of x 0) ≡ true → entry_at C.book k ≡ entry_in p tape o → IsKeyOf p C.book u k
+    key_entry : (u k : ℕ) (o : Option WordId) (x : Option Row) (y : Row) → kept_leaf x ≡ low_bits p tape o → x ≡ Some y → passes p u (leaf_of x 0) ≡ true → entry_at C.book k ≡ entry_hidden p tape o → IsKeyOf p C.book u k
     key_entry u k None x y e is pass kept = absurd (no_leaf x y is e)
     key_entry u k (Some w) None y e is pass kept = absurd (cc)
     key_entry u k (Some w) (Some z) y e is pass kept = record {
@@ -243,7 +243,7 @@ module _ (p : Params) (tape : WordId → ℕ) where
         unmarked : (u j : ℕ) → (c.table.used u j ≡ true → ⊥) → c.table.used u j ≡ false
         unmarked u j h = elim (cases_Bool (c.table.used u j)) [ inl on ↦ absurd (h on) | inr off ↦ off ]
 
-    version_obeys : (u : ℕ) → u < buckets p → VersionObeys p (version_in p c u)
+    version_obeys : (u : ℕ) → u < buckets p → VersionObeys p (version_hidden p c u)
     version_obeys u low = record {
       slots = record {
         keys = length-map-range_with_len (holder p c.table u) 0 p.real;
@@ -282,12 +282,12 @@ module _ (p : Params) (tape : WordId → ℕ) where
     stash_row None on = absurd (cc)
     stash_row (Some x) on = (x, refl)
 
-    row_of_entry : (o : Option WordId) (x : Option Row) → kept_leaf x ≡ low_bits p tape o → (entry_in p tape o ≡ None → ⊥) → (y : Row) × (x ≡ Some y)
+    row_of_entry : (o : Option WordId) (x : Option Row) → kept_leaf x ≡ low_bits p tape o → (entry_hidden p tape o ≡ None → ⊥) → (y : Row) × (x ≡ Some y)
     row_of_entry None x e some = absurd (some refl)
     row_of_entry (Some w) None e some = absurd (cc)
     row_of_entry (Some w) (Some y) e some = (y, refl)
 
-    entry_of_row : (o : Option WordId) (x : Option Row) (y : Row) → kept_leaf x ≡ low_bits p tape o → x ≡ Some y → entry_in p tape o ≡ None → ⊥
+    entry_of_row : (o : Option WordId) (x : Option Row) (y : Row) → kept_leaf x ≡ low_bits p tape o → x ≡ Some y → entry_hidden p tape o ≡ None → ⊥
     entry_of_row None x y e is none = no_leaf x y is e
     entry_of_row (Some w) x y e is none = cc
 
@@ -337,7 +337,7 @@ module _ (p : Params) (tape : WordId → ℕ) where
 
     -- ---- its table is the life's
 
-    row_case : (o : Option WordId) (x : Option Row) (s : Spot) → kept_leaf x ≡ low_bits p tape o → ((y : Row) → x ≡ Some y → s ≡ y.spot) → row_for (entry_in p tape o) s ≡ x
+    row_case : (o : Option WordId) (x : Option Row) (s : Spot) → kept_leaf x ≡ low_bits p tape o → ((y : Row) → x ≡ Some y → s ≡ y.spot) → row_for (entry_hidden p tape o) s ≡ x
     row_case None None s e at = refl
     row_case None (Some y) s e at = absurd (cc)
     row_case (Some w) None s e at = absurd (cc)

@@ -19,14 +19,14 @@ use Rattle.ob_vault.specs.Hidden.{RingDraws, RingHidden}
 use Rattle.ob_vault.specs.Seen.{RingPublic, ring_next, ring_notes, ring_phases}
 use Rattle.ob_vault.specs.Shapes.{Ends as EndsShape, Fetches}
 use Rattle.ob_vault.specs.Shown.{AreFilledBy, IsInLife}
-use Rattle.ob_deniable_draws.specs.Contents.{hidden_in, words_in}
+use Rattle.ob_deniable_draws.proofs.Contents.{hidden_in, words_hidden}
 use Rattle.ob_deniable_draws.specs.Fit.{AreAsksFit}
 use Rattle.ob_deniable_draws.proofs.BatchDraws.{batch_draws, batch_fills}
 use Rattle.ob_deniable_draws.proofs.Notes.{Knows, batch_known, batch_next, batch_noted, batch_phased, end_noted, end_phased}
 use Rattle.ob_deniable_draws.proofs.Pairs.{Along, along_append, along_lifts, along_show, lifts_same, logs_many, shown_same}
 use Rattle.ob_deniable_draws.proofs.Stays.{in_life, records_long, word_at, words_long}
 
-pub tape_words : (p : Params) (tape : WordId → ℕ) (g n : ℕ) → AreTapeWords tape g (words_in p tape (record { generation = g; place = 0 }) n)
+pub tape_words : (p : Params) (tape : WordId → ℕ) (g n : ℕ) → AreTapeWords tape g (words_hidden p tape (record { generation = g; place = 0 }) n)
 tape_words p tape g n i lt =
     ap (λ (m : ℕ). tape (record { generation = g; place = m })) (let z : i ≡ 0 + i = omega arith in z)
     ∙ sym (word_at p tape (record { generation = g; place = 0 }) n i (omega (arith, lt, words_long p tape (record { generation = g; place = 0 }) n)))

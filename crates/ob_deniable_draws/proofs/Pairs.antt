@@ -18,7 +18,7 @@ use Rattle.ob_recover.specs.Life.{Append, End, IsLife, LifeAct, LifeBatch, LifeS
 use Rattle.ob_recover.specs.LifePublic.{leaves_in, public_in}
 use Rattle.ob_ring.specs.FlatTable.{reads}
 use Rattle.ob_vault.specs.Acts.{IsBatchSmall}
-use Rattle.ob_deniable_draws.specs.Fit.{AreAsksFit, AreKeysLow}
+use Rattle.ob_deniable_draws.specs.Fit.{AreAsksFit, AreWritesLow}
 use Rattle.ob_deniable_draws.proofs.Keeping.{append_stays, end_stays, lifts_stay, open_stays, show_stays}
 use Rattle.ob_deniable_draws.proofs.Stays.{Stays}
 
@@ -142,7 +142,7 @@ module _ (p : Params) (some : 0 < p.dummies) (w w' : WordId → ℕ) where
         same = cons_tail _ _ _ _ a.same;
       }
 
-      pub along_end : (vs ws : List (ℕ × Option WordId)) (drawn : ℕ) (slot : ℕ → ℕ → ℕ) → s'.generation < 2 ^ 64 → p.keys ≤ p.room → AreKeysLow p ws → k.drawn + p.writes ≤ 2 ^ 64 → Along e s s' k (End vs drawn slot ∷ acts) (Ends ws drawn ∷ work) →
+      pub along_end : (vs ws : List (ℕ × Option WordId)) (drawn : ℕ) (slot : ℕ → ℕ → ℕ) → s'.generation < 2 ^ 64 → p.keys ≤ p.room → AreWritesLow p ws → k.drawn + p.writes ≤ 2 ^ 64 → Along e s s' k (End vs drawn slot ∷ acts) (Ends ws drawn ∷ work) →
           Along (e + 1) (life_step p w s (End vs drawn slot)) (life_step p w' s' (End ws drawn (slots (e + 1)))) (words_step p w' s' k (End ws drawn (slots (e + 1)))) acts work
       along_end vs ws drawn slot low room keys small a =
           let faces = faces_now p some w w' s s' (a.pair).alike (λ n. (a.pair).alike.known n (inr (a.is_life).0.0)) in

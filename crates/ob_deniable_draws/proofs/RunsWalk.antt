@@ -40,9 +40,9 @@ use Rattle.ob_vault.specs.RingKind.{RingFound, ring_hidden, ring_kind, ring_publ
 use Rattle.ob_vault.specs.Seen.{RingPublic}
 use Rattle.ob_vault.specs.Shapes.{Shape, shape_of}
 use Rattle.ob_vault.specs.Shown.{IsInLife}
-use Rattle.ob_deniable_draws.specs.Contents.{hidden_in, words_in}
+use Rattle.ob_deniable_draws.proofs.Contents.{hidden_in, words_hidden}
 use Rattle.ob_deniable_draws.specs.Draws.{AreDrawnLikewise, AreRowDrawn, AreRunsFit, DrawsAreDeniable, IsCutLikewise, IsCutShownBy, IsDrawnLikewise, IsRefusedFit}
-use Rattle.ob_deniable_draws.specs.Fit.{AreCallsFit, AreKeysLow}
+use Rattle.ob_deniable_draws.specs.Fit.{AreCallsFit, AreWritesLow}
 use Rattle.ob_deniable_draws.proofs.Matching.{CallsMatch, RefusedMatch}
 use Rattle.ob_deniable_draws.proofs.Notes.{Knows}
 use Rattle.ob_deniable_draws.proofs.Numbers.{AreCounted, are_counted, ends_alike, seals_alike, seals_least, words_alike, words_least}
@@ -166,7 +166,7 @@ module _ (p : Params) (some : 0 < p.dummies) (room : p.keys ≤ p.room) (w w' : 
         IsCutLikewise p w' q row (hidden_in p w' s' n) (Some (End writes)) (Some (End others)) words acts
     lifts_cut writes others left acts rest rest_work a filled shows f draws =
         let one = lifts_walk p some room w w' slots e s s' k q writes others n f rest rest_work a knows begun low (filled f draws) in
-        (one.fills, words_in p w' (record { generation = s'.generation; place = 0 }) s'.drawn, one.are, tape_words p w' s'.generation s'.drawn, one.noted, one.phased)
+        (one.fills, words_hidden p w' (record { generation = s'.generation; place = 0 }) s'.drawn, one.are, tape_words p w' s'.generation s'.drawn, one.noted, one.phased)
 
     left_walk : (refused other : Option VaultCall) (left : List LifeAct) (left_work : List LifeWork) → RefusedMatch refused other left left_work → IsOtherRefused p refused other → IsRefusedFit p other → RowCut p w s row refused words left → Beside e s s' k (left ++ R) (left_work ++ W) →
         Left refused other left left_work
@@ -202,7 +202,7 @@ module _ (p : Params) (some : 0 < p.dummies) (room : p.keys ≤ p.room) (w w' : 
               let one = batch_walk p some room w w' slots e s s' k q b asks others n f R W a0 (ap length same ∙ like) fit knows at begun so_far low words_few seals_few (filled b is f (then, d, of_tape)) in
               let grown : ℕ = r.first.place + length others in
               let behind : RingHidden = hidden_in p w' (reached p w' s' (Append r ∷ ShowBatch ∷ [])) (n + record_cells p) in
-              (one.fills, words_in p w' (record { generation = s'.generation; place = 0 }) grown, (behind, (one.draws).0, ([], sym (append-nil behind.words))), tape_words p w' s'.generation grown, one.noted, one.phased));
+              (one.fills, words_hidden p w' (record { generation = s'.generation; place = 0 }) grown, (behind, (one.draws).0, ([], sym (append-nil behind.words))), tape_words p w' s'.generation grown, one.noted, one.phased));
         })
     left_walk (Some (End writes)) (Some (End others)) left left_work (inl (none, empty)) like fit filled a =
         nothing_left (Some (End writes)) (Some (End others)) left left_work none empty (λ shows. no_lifts shows.0 shows.1) a
@@ -221,7 +221,7 @@ module _ (p : Params) (some : 0 < p.dummies) (room : p.keys ≤ p.room) (w w' : 
         })
     left_walk (Some (End writes)) (Some (End others)) left left_work (inr (inr (ws, drawn, slot, kept, is, are, told))) like fit filled a =
         let a0 : Beside e s s' k (ShowLifts ∷ EndAct ws drawn slot ∷ R) (Lifts ∷ Ends kept drawn ∷ W) = along_as left (ShowLifts ∷ EndAct ws drawn slot ∷ []) left_work (Lifts ∷ Ends kept drawn ∷ []) is are a in
-        let keys : AreKeysLow p kept = keys_told p kept others told fit in
+        let keys : AreWritesLow p kept = keys_told p kept others told fit in
         let small : k.drawn + p.writes ≤ 2 ^ 64 = (let many = (p.in_range).few_writes in omega (arith, many)) in
         walked_as (Some (End writes)) (Some (End others)) left (ShowLifts ∷ EndAct ws drawn slot ∷ []) left_work (Lifts ∷ Ends kept drawn ∷ []) is are (record {
           acts = ShowLifts ∷ EndAct kept drawn (slots (e + 1)) ∷ [];
@@ -352,7 +352,7 @@ module _ (p : Params) (some : 0 < p.dummies) (room : p.keys ≤ p.room) (w w' : 
       begun = (
         sym (ap (λ (x : Public). x.epoch) to_life),
         sym (sym numbers.generation ∙ sym row.generation_then ∙ keep_generation p w s1 calls others steps called called_work match ∙ (a.pair).generation),
-        ap (words_in p w' (record { generation = s1'.generation; place = 0 })) drawn_1,
+        ap (words_hidden p w' (record { generation = s1'.generation; place = 0 })) drawn_1,
         refl,
       );
       public = public_same;

@@ -21,8 +21,8 @@ use Rattle.ob_vault.specs.RingKind.{ring_kind}
 use Rattle.ob_vault.specs.Seen.{RingPublic, ring_next, ring_notes, ring_phases}
 use Rattle.ob_vault.specs.Shapes.{Ends as EndsShape, Fetches, Shape, shape_of}
 use Rattle.ob_vault.specs.Shown.{AreFilledBy, IsInLife}
-use Rattle.ob_deniable_draws.specs.Contents.{hidden_in}
-use Rattle.ob_deniable_draws.specs.Fit.{AreCallsFit, AreKeysLow}
+use Rattle.ob_deniable_draws.proofs.Contents.{hidden_in}
+use Rattle.ob_deniable_draws.specs.Fit.{AreCallsFit, AreWritesLow}
 use Rattle.ob_deniable_draws.proofs.EndDraws.{drawn_is, end_draws}
 use Rattle.ob_deniable_draws.proofs.Matching.{CallsMatch}
 use Rattle.ob_deniable_draws.proofs.Notes.{Knows, end_known, end_noted, end_phased}
@@ -33,7 +33,7 @@ use Rattle.ob_deniable_draws.proofs.Stays.{in_life}
 
 -- ---- small facts
 
-pub keys_told : (p : Params) (kept : List (ℕ × Option WordId)) (writes : List (ℕ × Option (List ℕ))) → map told_write kept ≡ map told_write writes → AreKeysLow p writes → AreKeysLow p kept
+pub keys_told : (p : Params) (kept : List (ℕ × Option WordId)) (writes : List (ℕ × Option (List ℕ))) → map told_write kept ≡ map told_write writes → AreWritesLow p writes → AreWritesLow p kept
 keys_told p [] writes told low = tt
 keys_told p (x ∷ kept) [] told low = absurd (cc)
 keys_told p (x ∷ kept) (y ∷ writes) told low =
@@ -223,7 +223,7 @@ module _ (p : Params) (some : 0 < p.dummies) (room : p.keys ≤ p.room) (w w' : 
         let grown : drawn ≡ s'.drawn + (p.writes + rows) = drawn_is p w' s' kept drawn slot' others told (a0.other_life).0 k here.so_far turn (a.pair).stays lower room lifts_low n in
         let numbers = end_room n s'.drawn D S (checkpoint_cells p) p.writes rows (seals_least p more) (words_least p more) all all_seals here.sum (subst (λ (m : ℕ). m + words_least p more ≤ D) grown least) in
         let small : k.drawn + p.writes ≤ 2 ^ 64 = (let x = here.so_far in let y = numbers.0 in omega (arith, x, y)) in
-        let keys : AreKeysLow p kept = keys_told p kept others told fit.0 in
+        let keys : AreWritesLow p kept = keys_told p kept others told fit.0 in
         let a1 = along_lifts p some w w' slots e s s' k (EndAct ws drawn slot ∷ (rest ++ R)) (Ends kept drawn ∷ (rest_work ++ W)) a0 in
         let a2 = along_end p some w w' slots e (life_step p w s ShowLifts) sl' k (rest ++ R) (rest_work ++ W) ws kept drawn slot lower room keys small a1 in
         let f : Fills = fills_with_lifts p h.content h.records in

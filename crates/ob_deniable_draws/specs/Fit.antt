@@ -12,13 +12,13 @@ pub record AreAsksFit (p : Params) (asks : List (Option ℕ)) : Type 0 where
   pub apart : (i j k : ℕ) → slice_index_or asks i None ≡ Some k → slice_index_or asks j None ≡ Some k → i ≡ j
 
 -- writes of keys
-abbrev pub AreKeysLow : {A : Type 0} → Params → List (ℕ × A) → Type 0
-AreKeysLow p [] = ⊤
-AreKeysLow p (write ∷ writes) = (write.0 < p.keys) × AreKeysLow p writes
+abbrev pub AreWritesLow : {A : Type 0} → Params → List (ℕ × A) → Type 0
+AreWritesLow p [] = ⊤
+AreWritesLow p (write ∷ writes) = (write.0 < p.keys) × AreWritesLow p writes
 
 abbrev pub IsCallFit : Params → VaultCall → Type 0
 IsCallFit p (Fetch asks) = AreAsksFit p asks
-IsCallFit p (End writes) = AreKeysLow p writes
+IsCallFit p (End writes) = AreWritesLow p writes
 
 abbrev pub AreCallsFit : Params → List VaultCall → Type 0
 AreCallsFit p [] = ⊤

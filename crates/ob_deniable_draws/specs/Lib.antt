@@ -1,3 +1,2 @@
-pub mod Contents
 pub mod Fit
 pub mod Draws
