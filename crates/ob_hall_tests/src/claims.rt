@@ -225,14 +225,7 @@ fn threads_claim_each_number_of_each_round_once(rt: HostRuntime) {
             panic!(rt; "no memory")
         };
     }
-    let well = are_rounds_claimed(
-        &rt,
-        &claims,
-        &mut seat,
-        &mut seats,
-        marks.as_slice(),
-        10_000,
-    );
+    let well = are_rounds_claimed(&rt, &claims, &mut seat, &mut seats, marks.as_slice(), 1_000);
     seats.destroy_empty();
     assert!(&rt; well);
 }
