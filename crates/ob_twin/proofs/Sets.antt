@@ -1,5 +1,6 @@
 -- What a set did, step by step, and what it leaves.
-use Rattle.std.proofs.Common.{◌≡◌, inl, inr, ⊎_elim, ℕ, ◌+◌, ◌^◌, ◌<◌, List, [], ◌∷◌, ◌++◌, Bool, Option, Result, Ok, Err, ◌∙◌, subst, arith, append_assoc}
+use Rattle.std.proofs.Common.{◌≡◌, inl, inr, ⊎_elim, ℕ, ◌+◌, ◌^◌, ◌<◌, List, [], ◌∷◌, ◌++◌, Bool, true, false, Option, Result, Ok, Err, ◌∙◌, subst, arith, append_assoc}
+use Rattle.std.specs.Prelude.{IsErr}
 use Rattle.ob_base.specs.declared.fault.Failed.{Failed}
 use Rattle.ob_base.specs.declared.fault.Fault.{Fault}
 use Rattle.ob_store.specs.declared.event.Event.{Event}
@@ -15,21 +16,26 @@ use Rattle.ob_twin.specs.declared.set_err.SetErr.{SetErr}
 use Rattle.ob_twin.specs.declared.set_err.SetErr.TheVariants.{Before, Unsure}
 use Rattle.ob_twin.specs.Bodies.{Tagging, open_gate}
 use Rattle.ob_twin.specs.Register.{gate_at, place_of, IsUnder, KeepsAt, IsPrepared, IsPut, OldOrNew}
-use Rattle.ob_twin.specs.Orders.{through_notes, prepare_notes, gate_notes, set_notes, GateDoes, SetDoes}
+use Rattle.ob_twin.specs.Orders.{through_notes, prepare_notes, gate_notes, set_notes, WriteDoes, SetDoes}
 use Rattle.ob_twin.specs.Refused.{IsBefore, SetLeaves}
 use Rattle.ob_twin.proofs.Moves.{new_one, kept_everywhere}
 
+-- a write that was refused
+pub write_refused : (a b : Option (List Event)) (k l : Trace) (cell : ℕ) (r : Result (Unit {0}) Failed) → IsErr r → Tells (Write cell ∷ []) (Write cell ∷ []) a b k l → WriteDoes cell a b k l r
+write_refused a b k l cell (Ok done) err p = absurd (let wrong : false ≡ true = err in cc)
+write_refused a b k l cell (Err failed) err p = inl p
+
 module _ (a b c : Option (List Event)) (k l m : Trace) where
-  -- the gate's write, and its sync
-  pub gate_tells : (gate : ℕ) (r : Result (Unit {0}) Failed) → Tells (Write gate ∷ []) (Write gate ∷ []) a b k l → Tells (Sync ∷ []) (if_well r (Sync ∷ [])) b c l m → GateDoes gate a c k m r
-  gate_tells gate (Ok done) p q = tells_then (Write gate ∷ []) (Write gate ∷ []) (Sync ∷ []) (Sync ∷ []) a b c k l m p q
-  gate_tells gate (Err failed) p q = inr (tells_then (Write gate ∷ []) (Write gate ∷ []) (Sync ∷ []) [] a b c k l m p q)
+  -- a cell's write, and its sync
+  pub write_tells : (cell : ℕ) (r : Result (Unit {0}) Failed) → Tells (Write cell ∷ []) (Write cell ∷ []) a b k l → Tells (Sync ∷ []) (if_well r (Sync ∷ [])) b c l m → WriteDoes cell a c k m r
+  write_tells cell (Ok done) p q = tells_then (Write cell ∷ []) (Write cell ∷ []) (Sync ∷ []) (Sync ∷ []) a b c k l m p q
+  write_tells cell (Err failed) p q = inr (tells_then (Write cell ∷ []) (Write cell ∷ []) (Sync ∷ []) [] a b c k l m p q)
 
   module _ (closes : Bool) (first n : ℕ) (before : Tells (prepare_notes closes first n) (prepare_notes closes first n) a b k l) where
     pub set_done : Tells (through_notes (gate_at first (place_of n))) (through_notes (gate_at first (place_of n))) b c l m → SetDoes closes first n a c k m (Ok tt)
     set_done p = tells_then (prepare_notes closes first n) (prepare_notes closes first n) (through_notes (gate_at first (place_of n))) (through_notes (gate_at first (place_of n))) a b c k l m before p
 
-    pub set_unsure : (failed : Failed) (fault : Fault) → GateDoes (gate_at first (place_of n)) b c l m (Err failed) → SetDoes closes first n a c k m (Err (Unsure fault))
+    pub set_unsure : (failed : Failed) (fault : Fault) → WriteDoes (gate_at first (place_of n)) b c l m (Err failed) → SetDoes closes first n a c k m (Err (Unsure fault))
     set_unsure failed fault p = ⊎_elim
         (λ one. inl (tells_then (prepare_notes closes first n) (prepare_notes closes first n) (Write (gate_at first (place_of n)) ∷ []) (Write (gate_at first (place_of n)) ∷ []) a b c k l m before one))
         (λ both. inr (tells_then (prepare_notes closes first n) (prepare_notes closes first n) (through_notes (gate_at first (place_of n))) (Write (gate_at first (place_of n)) ∷ []) a b c k l m before both))

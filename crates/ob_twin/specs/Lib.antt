@@ -2,6 +2,7 @@ pub mod Bodies
 pub mod Register
 pub mod Reading
 pub mod Opening
+pub mod Clear
 pub mod Orders
 pub mod Refused
 pub mod Got

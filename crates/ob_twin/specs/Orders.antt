@@ -28,11 +28,11 @@ gate_notes closed_first first n = prepare_notes closed_first first n ++ Write (g
 abbrev pub set_notes : Bool → ℕ → ℕ → List Note
 set_notes closed_first first n = prepare_notes closed_first first n ++ through_notes (gate_at first (place_of n))
 
--- The gate is written, whatever is answered. A sync that failed was made and isn't shown.
-abbrev pub GateDoes : ℕ → Option (List Event) → Option (List Event) → Trace → Trace → Result (Unit {0}) Failed → Type 0
-GateDoes gate old new before after (Ok done) = Tells (through_notes gate) (through_notes gate) old new before after
-GateDoes gate old new before after (Err failed) =
-    Tells (Write gate ∷ []) (Write gate ∷ []) old new before after ⊎ Tells (through_notes gate) (Write gate ∷ []) old new before after
+-- The cell is written, whatever is answered. A sync that failed was made and isn't shown.
+abbrev pub WriteDoes : ℕ → Option (List Event) → Option (List Event) → Trace → Trace → Result (Unit {0}) Failed → Type 0
+WriteDoes cell old new before after (Ok done) = Tells (through_notes cell) (through_notes cell) old new before after
+WriteDoes cell old new before after (Err failed) =
+    Tells (Write cell ∷ []) (Write cell ∷ []) old new before after ⊎ Tells (through_notes cell) (Write cell ∷ []) old new before after
 
 -- What a set does and shows. All of its steps where it went well; refused before the gate, the first of those before the gate; and
 -- where it is unsure, all of those and the gate's write, which is shown, with its sync or without it.

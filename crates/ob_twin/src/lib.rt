@@ -11,6 +11,7 @@ mod set_err;
 mod setting;
 mod stamp;
 mod twin;
+mod writing;
 mod zero_tag;
 
 pub use bytes::{closed_gate, is_open, open_gate};
@@ -18,4 +19,5 @@ pub use gates::{Gates, Open};
 pub use set_err::SetErr;
 pub use stamp::Stamper;
 pub use twin::Twin;
+pub use writing::write_out;
 pub use zero_tag::ZeroTag;

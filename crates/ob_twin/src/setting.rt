@@ -1,21 +1,22 @@
 //! Setting a register.
 
-ghost use Rattle.std.specs.Prelude.{◌≡◌, ◌≢◌, ◌<◌, ◌+◌, ◌%◌, ◌^◌, ◌≤◌, ℕ, [], OnOk, OnErr, IfErr, IsTrue, if◌then◌else◌};
+ghost use Rattle.std.specs.Prelude.{◌≡◌, ◌≢◌, ◌<◌, ◌+◌, ◌%◌, ◌^◌, ◌⊎◌, ◌≤◌, ℕ, [], OnOk, OnErr, IfErr, IsTrue, if◌then◌else◌};
 ghost use Rattle.ob_store.specs.Disk.{Image};
 ghost use Rattle.ob_store.specs.Images.{IsSynced, SameBut, LeavesOnly, Passes};
 ghost use Rattle.ob_store.specs.Calls.{Serves, IsFailed};
 ghost use Rattle.ob_store.specs.Told.{Does};
-ghost use Rattle.ob_twin.specs.Bodies.{open_gate};
+ghost use Rattle.ob_twin.specs.Bodies.{closed_gate, open_gate};
+ghost use Rattle.ob_twin.specs.Clear.{IsClosing, IsLaying, SetLeft};
 ghost use Rattle.ob_twin.specs.Register.{first_of, body_at, gate_at, place_of, IsOpen, IsUnder, StandsAt, KeepsAt, IsPrepared, IsPut, SameOutside, SameTwo, IsTornOnly};
 ghost use Rattle.ob_twin.specs.Opening.{known_of, gates_set, is_closed_first, GatesAre};
 ghost use Rattle.ob_twin.specs.Refused.{IsSetFault, SetLeaves};
-ghost use Rattle.ob_twin.specs.Orders.{through_notes, prepare_notes, GateDoes, SetDoes, unsure_of};
+ghost use Rattle.ob_twin.specs.Orders.{through_notes, prepare_notes, SetDoes, unsure_of};
 
 use crate::bytes::{closed_gate, open_gate, plain_of};
 use crate::known::{is_closed_first, known_of, set_known, with_mark};
-use crate::{Gates, SetErr, Stamper, Twin};
+use crate::{Gates, SetErr, Stamper, Twin, write_out};
 use ob_base::{Failed, Fault};
-use ob_store::{Store, Watch, sync_noted, write_noted, write_through};
+use ob_store::{Store, Watch};
 
 // Closes the gate of a place, where that is needed.
 fn close<S: Store, W: Watch>(
@@ -30,6 +31,12 @@ fn close<S: Store, W: Watch>(
     ensures serves { Serves IsFailed (S.disk store.old) (S.disk store.new) result }
     ensures shut { (S.disk store.old).tells
         → OnOk result ((S.disk store.new).cells gate ≢ open_gate) }
+    ensures gate { (S.disk store.old).tells
+        → OnOk result ((S.disk store.new).cells gate
+        ≡ (if closes then closed_gate else (S.disk store.old).cells gate)) }
+    ensures refused { (S.disk store.new).tells
+        → OnErr result (IsClosing closes gate (S.disk store.new).seen (S.disk store.old).cells
+        (S.disk store.new).cells) }
     ensures rest { (S.disk store.old).tells
         → SameBut gate (S.disk store.new).cells (S.disk store.old).cells }
     ensures durable { (S.disk store.old).tells → IsSynced (S.disk store.old)
@@ -42,7 +49,7 @@ fn close<S: Store, W: Watch>(
         (S.disk store.new).seen (W.trace watch.old) (W.trace watch.new) result }
 {
     if closes {
-        return write_through(store, gate, &closed_gate(), watch);
+        return write_out(store, gate, &closed_gate(), watch);
     }
     Ok(())
 }
@@ -65,6 +72,12 @@ fn lay_body<S: Store, T: Stamper, W: Watch>(
     ensures done { (S.disk store.old).tells
         → OnOk result (IsPrepared (T.tag stamper.now) first (S.disk store.old).cells n
         (S.disk store.new).cells) }
+    // Refused, the gate was being closed, or the body written behind it.
+    ensures refused { (S.disk store.new).tells
+        → OnErr result (IsClosing closes (gate_at first (place_of n)) (S.disk store.new).seen
+        (S.disk store.old).cells (S.disk store.new).cells
+        ⊎ IsLaying (T.tag stamper.now) closes first n (S.disk store.new).seen
+        (S.disk store.old).cells (S.disk store.new).cells) }
     ensures rest { (S.disk store.old).tells
         → SameTwo (body_at first (place_of n)) (gate_at first (place_of n)) (S.disk store.new).cells
         (S.disk store.old).cells }
@@ -81,27 +94,7 @@ fn lay_body<S: Store, T: Stamper, W: Watch>(
 {
     let body = first + 2 * (n % 2);
     close(store, closes, body + 1, watch)?;
-    write_through(store, body, &stamper.stamp(body, &plain_of(n)), watch)
-}
-
-// Opens a gate, and makes sure of it. The write is made, whatever is answered.
-fn open<S: Store, W: Watch>(store: &mut S, gate: u64, watch: &mut W) -> Result<(), Failed>
-    requires none_out { (S.disk store.old).out ≡ 0 }
-    ensures serves { Serves IsFailed (S.disk store.old) (S.disk store.new) result }
-    ensures opened { (S.disk store.old).tells
-        → OnOk result ((S.disk store.new).cells gate ≡ open_gate) }
-    ensures rest { (S.disk store.old).tells
-        → SameBut gate (S.disk store.new).cells (S.disk store.old).cells }
-    ensures durable { (S.disk store.old).tells → OnOk result (IsSynced (S.disk store.new)) }
-    ensures passes { Passes (SameBut gate) (S.disk store.old) (S.disk store.new) }
-    ensures any_moment { IsSynced (S.disk store.old)
-        → LeavesOnly (S.disk store.old) (S.disk store.new)
-        (λ c. SameBut gate c (S.disk store.old).cells) }
-    ensures does { GateDoes gate (S.disk store.old).seen (S.disk store.new).seen (W.trace watch.old)
-        (W.trace watch.new) result }
-{
-    write_noted(store, gate, &open_gate(), watch)?;
-    sync_noted(store, watch)
+    write_out(store, body, &stamper.stamp(body, &plain_of(n)), watch)
 }
 
 // The epoch of which a refused opening of its gate leaves open whether it ended.
@@ -141,6 +134,12 @@ impl Twin {
         ensures done { (S.disk store.old).tells
             → OnOk result (IsPut (T.tag stamper.now) (first_of self) (S.disk store.old).cells n
             (S.disk store.new).cells) }
+        // Refused, each of its cells is as it was, or has what it writes there, by how far it came;
+        // but for one whose write the store refused.
+        ensures refused { (S.disk store.new).tells
+            → IfErr result (SetLeft (T.tag stamper.now)
+            (is_closed_first (known_of self gates.old) (place_of n)) (first_of self) n
+            (S.disk store.new).seen (S.disk store.old).cells (S.disk store.new).cells) }
         // No other cell changes.
         ensures rest { (S.disk store.old).tells
             → SameOutside (first_of self) (S.disk store.new).cells (S.disk store.old).cells }
@@ -178,7 +177,7 @@ impl Twin {
             Ok(()) => {}
             Err(Failed) => return Err(SetErr::Before(Fault::StoreFault { unsure: None })),
         }
-        match open(store, first + 2 * place + 1, watch) {
+        match write_out(store, first + 2 * place + 1, &open_gate(), watch) {
             Ok(()) => {}
             Err(Failed) => {
                 return Err(SetErr::Unsure(Fault::StoreFault {

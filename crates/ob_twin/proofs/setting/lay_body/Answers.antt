@@ -1,11 +1,12 @@
-use Rattle.std.proofs.Common.{[], ◌%◌, arith, if◌then◌else◌, ◌+◌, ◌*◌, ◌++◌, ℕ, List, sym, ap, ◌∙◌}
+use Rattle.ob_twin.specs.Clear.{IsWritten}
+use Rattle.std.proofs.Common.{inl, inr, subst, [], ◌%◌, arith, if◌then◌else◌, ◌++◌, ℕ, List, sym, ap, ◌∙◌}
 use Rattle.ob_store.proofs.Doing.{does_refused, first_more, does_then}
 use Rattle.ob_twin.specs.Register.{body_at, gate_at}
 use Rattle.ob_twin.specs.Orders.{through_notes, prepare_notes}
 use Rattle.ob_twin.proofs.Moves.{preparing, closing, passes_within, passes_both}
 use Rattle.std.proofs.lemmas.Result.{IfOk-from_err}
 use Rattle.ob_store.specs.Calls.{IsFailed}
-use Rattle.ob_store.proofs.Serving.{serves_then, on_ok}
+use Rattle.ob_store.proofs.Serving.{serves_then, on_ok, on_err, if_err}
 use Rattle.ob_store.proofs.Keeping.{serves_failed}
 use Rattle.ob_twin.proofs.setting.lay_body.Goals as goal
 
@@ -19,7 +20,7 @@ returns-clause-any_moment g c = λ m next tells opened settled stands.
     (c.close.ensures.any_moment settled)
     (c.close.ensures.rest tells)
     (c.in_ok-close.ensures.shut tells)
-    (c.write_through.ensures.any_moment (c.in_ok-close.ensures.durable tells settled))
+    (c.write_out.ensures.any_moment (c.in_ok-close.ensures.durable tells settled))
 
 pub returns-in_err-close-clause-passes : goal.returns-in_err-close-clause-passes
 returns-in_err-close-clause-passes g c = passes_within c.args.first (gate_at c.args.first (c.args.n % 2)) _ _ (omega arith) (omega arith) c.close.ensures.passes
@@ -29,7 +30,7 @@ returns-clause-passes g c =
     let first = c.args.first in
     let mid = g.S.Store.disk c.close.new.store in
     passes_both first _ mid _ (passes_within first (gate_at first (c.args.n % 2)) _ mid (omega arith) (omega arith) c.close.ensures.passes)
-    (passes_within first (body_at first (c.args.n % 2)) mid _ (omega arith) (omega arith) c.write_through.ensures.passes)
+    (passes_within first (body_at first (c.args.n % 2)) mid _ (omega arith) (omega arith) c.write_out.ensures.passes)
 
 pub returns-in_err-close-clause-does : goal.returns-in_err-close-clause-does
 returns-in_err-close-clause-does g c =
@@ -38,8 +39,8 @@ returns-in_err-close-clause-does g c =
 
 pub returns-clause-does : goal.returns-clause-does
 returns-clause-does g c =
-    does_then _ _ _ _ _ _ (if c.args.closes then through_notes (gate_at c.args.first (c.args.n % 2)) else []) (through_notes (body_at c.args.first (c.args.n % 2))) c.write_through.result
-    c.in_ok-close.ensures.does.all c.write_through.ensures.does
+    does_then _ _ _ _ _ _ (if c.args.closes then through_notes (gate_at c.args.first (c.args.n % 2)) else []) (through_notes (body_at c.args.first (c.args.n % 2))) c.write_out.result
+    c.in_ok-close.ensures.does.all c.write_out.ensures.does
 
 pub returns-in_err-close-clause-serves : goal.returns-in_err-close-clause-serves
 returns-in_err-close-clause-serves g c = serves_failed _ _ _ c.from_residual.result c.from_residual.ensures.0 c.in_err-close.ensures.serves
@@ -53,20 +54,41 @@ returns-in_err-close-clause-durable g c = λ tells. IfOk-from_err c.from_residua
 pub returns-clause-serves : goal.returns-clause-serves
 returns-clause-serves g c =
     let closed = c.in_ok-close.ensures.serves in
-    serves_then IsFailed _ (g.S.Store.disk c.close.new.store) _ c.write_through.result closed.goes closed.out closed.tells c.write_through.ensures.serves
+    serves_then IsFailed _ (g.S.Store.disk c.close.new.store) _ c.write_out.result closed.goes closed.out closed.tells c.write_out.ensures.serves
 
 pub returns-clause-rest : goal.returns-clause-rest
-returns-clause-rest g c = λ tells k off on. c.write_through.ensures.rest (c.in_ok-close.ensures.serves.tells tells) k off ∙ c.close.ensures.rest tells k on
+returns-clause-rest g c = λ tells k off on. c.write_out.ensures.rest (c.in_ok-close.ensures.serves.tells tells) k off ∙ c.close.ensures.rest tells k on
 
 pub returns-clause-done : goal.returns-clause-done
 returns-clause-done g c = λ tells.
     let first = c.args.first in
     let tag = g.T.Stamper.tag c.args.stamper.now in
     let there = c.in_ok-close.ensures.serves.tells tells in
-    on_ok _ _ c.write_through.result
+    on_ok _ _ c.write_out.result
     (λ put. record {
       body = put ∙ c.stamp.ensures ∙ ap (λ (l : List ℕ). l ++ tag (body_at first (c.args.n % 2)) l) c.plain_of.ensures;
-      shut = λ opened. c.in_ok-close.ensures.shut tells (sym (c.write_through.ensures.rest there (gate_at first (c.args.n % 2)) (λ e. absurd (omega (arith, e)))) ∙ opened);
+      shut = λ opened. c.in_ok-close.ensures.shut tells (sym (c.write_out.ensures.rest there (gate_at first (c.args.n % 2)) (λ e. absurd (omega (arith, e)))) ∙ opened);
       rest = returns-clause-rest g c tells;
     })
-    (c.write_through.ensures.written there)
+    (c.write_out.ensures.written there)
+
+-- ---- refused
+
+pub returns-in_err-close-clause-refused : goal.returns-in_err-close-clause-refused
+returns-in_err-close-clause-refused g c = λ tells. if_err _ c.from_residual.result (inl (c.in_err-close.ensures.refused tells))
+
+pub returns-clause-refused : goal.returns-clause-refused
+returns-clause-refused g c = λ tells.
+    let first = c.args.first in
+    let place = c.args.n % 2 in
+    let tag = g.T.Stamper.tag c.args.stamper.now in
+    let new = g.S.Store.disk c.write_out.new.store in
+    let there = c.write_out.ensures.serves.goes.told tells in
+    let here = c.close.ensures.serves.goes.told there in
+    on_err _ _ c.write_out.result
+    (λ wrote. inr (record {
+      body_is = subst (λ (l : List ℕ). IsWritten (body_at first place) l new.seen new.cells) (c.stamp.ensures ∙ ap (λ (l : List ℕ). l ++ tag (body_at first place) l) c.plain_of.ensures) wrote;
+      gate_is = c.write_out.ensures.rest there (gate_at first place) (λ e. absurd (omega (arith, e))) ∙ c.in_ok-close.ensures.gate here;
+      rest = λ k off on. c.write_out.ensures.rest there k off ∙ c.close.ensures.rest here k on;
+    }))
+    (c.write_out.ensures.refused tells)

@@ -1,4 +1,4 @@
-use Rattle.std.proofs.Common.{◌≡◌, ℕ, None, Ok, Err, Bool, IsTrue, ◌∙◌, ap, subst, sym, arith}
+use Rattle.std.proofs.Common.{◌≡◌, ℕ, List, None, Ok, Err, Bool, IsTrue, ◌∙◌, ap, subst, sym, arith}
 use Rattle.ob_base.specs.declared.fault.Fault.TheVariants.{StoreFault}
 use Rattle.ob_store.specs.Images.{LeavesOnly, Passes}
 use Rattle.ob_store.specs.Told.{TellsFirst}
@@ -10,6 +10,7 @@ use Rattle.ob_twin.specs.Register.{first_of, body_at, gate_at, place_of, IsOpen,
 use Rattle.ob_twin.specs.Opening.{known_of, with_mark, is_closed_first, GatesAre, with_known}
 use Rattle.ob_twin.specs.Orders.{prepare_notes, SetDoes}
 use Rattle.ob_twin.specs.Refused.{SetLeaves, IsSetFault}
+use Rattle.ob_twin.specs.Clear.{IsOpening, IsWritten, SetLeft}
 use Rattle.ob_twin.proofs.Moves.{two_within, opening, passes_within, passes_both}
 use Rattle.ob_twin.proofs.Sets.{set_done, set_unsure, put_at, put_everywhere, leaves_old, leaves_unsure, leaves_done}
 use Rattle.ob_twin.proofs.Gating.{are_marked, known_again, closed_of, open_of}
@@ -63,30 +64,30 @@ returns-in-Err-clause-does g c =
 
 -- ---- refused at the gate
 
-pub returns-in-Err-open-clause-rest : goal.returns-in-Err-open-clause-rest
-returns-in-Err-open-clause-rest g c = λ tells.
+pub returns-in-Err-write_out-clause-rest : goal.returns-in-Err-write_out-clause-rest
+returns-in-Err-write_out-clause-rest g c = λ tells.
     let old = (g.S.Store.disk c.args.store.now).cells in
-    let new = (g.S.Store.disk c.open.new.store).cells in
+    let new = (g.S.Store.disk c.write_out.new.store).cells in
     let first = c.first-first.result in
     let two : SameTwo (body_at first (place_of c.args.n)) (gate_at first (place_of c.args.n)) new old =
-    λ k body gate. c.open.ensures.rest (c.in-Ok.ensures.serves.tells tells) k gate ∙ c.lay_body.ensures.rest tells k body gate in
+    λ k body gate. c.write_out.ensures.rest (c.in-Ok.ensures.serves.tells tells) k gate ∙ c.lay_body.ensures.rest tells k body gate in
     subst (λ f. SameOutside f new old) c.first-first.ensures (two_within first (place_of c.args.n) new old (omega arith) two)
 
-pub returns-in-Err-open-clause-passes : goal.returns-in-Err-open-clause-passes
-returns-in-Err-open-clause-passes g c =
+pub returns-in-Err-write_out-clause-passes : goal.returns-in-Err-write_out-clause-passes
+returns-in-Err-write_out-clause-passes g c =
     let old = g.S.Store.disk c.args.store.now in
     let mid = g.S.Store.disk c.lay_body.new.store in
-    let new = g.S.Store.disk c.open.new.store in
+    let new = g.S.Store.disk c.write_out.new.store in
     let first = c.first-first.result in
     subst (λ f. Passes (SameOutside f) old new) c.first-first.ensures
-    (passes_both first old mid new c.lay_body.ensures.passes (passes_within first (gate_at first (place_of c.args.n)) mid new (omega arith) (omega arith) c.open.ensures.passes))
+    (passes_both first old mid new c.lay_body.ensures.passes (passes_within first (gate_at first (place_of c.args.n)) mid new (omega arith) (omega arith) c.write_out.ensures.passes))
 
-pub returns-in-Err-open-clause-old_or_new : goal.returns-in-Err-open-clause-old_or_new
-returns-in-Err-open-clause-old_or_new g c = λ m next tells settled stands.
+pub returns-in-Err-write_out-clause-old_or_new : goal.returns-in-Err-write_out-clause-old_or_new
+returns-in-Err-write_out-clause-old_or_new g c = λ m next tells settled stands.
     let tag = g.T.Stamper.tag c.args.stamper.now in
     let known = known_of c.args.self c.args.gates.now in
     let old = g.S.Store.disk c.args.store.now in
-    let new = g.S.Store.disk c.open.new.store in
+    let new = g.S.Store.disk c.write_out.new.store in
     let closes_is = closed_by c.args.self c.args.gates.now c.known_of-known.result c.is_closed_first-closes.result c.args.n c.known_of-known.ensures c.is_closed_first-closes.ensures in
     let opened = λ (closes : IsTrue c.is_closed_first-closes.result). subst (λ f. IsOpen f old.cells (place_of c.args.n)) (sym c.first-first.ensures)
     (open_of tag known (first_of c.args.self) m c.args.n old.cells next (c.requires.told tells) stands (subst (λ b. IsTrue b) closes_is closes)) in
@@ -96,19 +97,19 @@ returns-in-Err-open-clause-old_or_new g c = λ m next tells settled stands.
     (opening tag c.first-first.result m c.args.n old (g.S.Store.disk c.lay_body.new.store) new next c.requires.small stands_there
     (c.lay_body.ensures.any_moment m next tells opened settled stands_there)
     (c.in-Ok.ensures.done tells)
-    (c.open.ensures.any_moment (c.in-Ok.ensures.durable tells))))
+    (c.write_out.ensures.any_moment (c.in-Ok.ensures.durable tells))))
 
-pub returns-in-Err-open-clause-does : goal.returns-in-Err-open-clause-does
-returns-in-Err-open-clause-does g c =
+pub returns-in-Err-write_out-clause-does : goal.returns-in-Err-write_out-clause-does
+returns-in-Err-write_out-clause-does g c =
     let old = (g.S.Store.disk c.args.store.now).seen in
-    let new = (g.S.Store.disk c.open.new.store).seen in
+    let new = (g.S.Store.disk c.write_out.new.store).seen in
     let before = g.W.Watch.trace c.args.watch.now in
-    let after = g.W.Watch.trace c.open.new.watch in
+    let after = g.W.Watch.trace c.write_out.new.watch in
     let fault = StoreFault c.unsure_of.result in
     let closes_is = closed_by c.args.self c.args.gates.now c.known_of-known.result c.is_closed_first-closes.result c.args.n c.known_of-known.ensures c.is_closed_first-closes.ensures in
     subst (λ b. SetDoes b (first_of c.args.self) c.args.n old new before after (Err (Unsure fault))) closes_is
     (subst (λ f. SetDoes c.is_closed_first-closes.result f c.args.n old new before after (Err (Unsure fault))) c.first-first.ensures
-    (set_unsure _ _ _ _ _ _ c.is_closed_first-closes.result c.first-first.result c.args.n c.in-Ok.ensures.does.all _ fault c.in-Err-open.ensures.does))
+    (set_unsure _ _ _ _ _ _ c.is_closed_first-closes.result c.first-first.result c.args.n c.in-Ok.ensures.does.all _ fault c.in-Err-write_out.ensures.told))
 
 -- ---- done
 
@@ -116,37 +117,37 @@ pub returns-clause-done : goal.returns-clause-done
 returns-clause-done g c = λ tells.
     let tag = g.T.Stamper.tag c.args.stamper.now in
     let old = (g.S.Store.disk c.args.store.now).cells in
-    let new = (g.S.Store.disk c.open.new.store).cells in
+    let new = (g.S.Store.disk c.write_out.new.store).cells in
     let there = c.in-Ok.ensures.serves.tells tells in
     subst (λ f. IsPut tag f old c.args.n new) c.first-first.ensures
     (put_at tag c.first-first.result c.args.n old (g.S.Store.disk c.lay_body.new.store).cells new
-    (c.in-Ok.ensures.done tells) (c.in-Ok-open.ensures.opened there) (c.open.ensures.rest there))
+    (c.in-Ok.ensures.done tells) (c.in-Ok-write_out.ensures.written there ∙ c.open_gate.ensures) (c.write_out.ensures.rest there))
 
 pub returns-clause-rest : goal.returns-clause-rest
 returns-clause-rest g c = λ tells.
     let put = returns-clause-done g c tells in
-    two_within (first_of c.args.self) (place_of c.args.n) (g.S.Store.disk c.open.new.store).cells (g.S.Store.disk c.args.store.now).cells (omega arith) put.rest
+    two_within (first_of c.args.self) (place_of c.args.n) (g.S.Store.disk c.write_out.new.store).cells (g.S.Store.disk c.args.store.now).cells (omega arith) put.rest
 
 pub returns-clause-passes : goal.returns-clause-passes
 returns-clause-passes g c =
     let old = g.S.Store.disk c.args.store.now in
     let mid = g.S.Store.disk c.lay_body.new.store in
-    let new = g.S.Store.disk c.open.new.store in
+    let new = g.S.Store.disk c.write_out.new.store in
     let first = c.first-first.result in
     subst (λ f. Passes (SameOutside f) old new) c.first-first.ensures
-    (passes_both first old mid new c.lay_body.ensures.passes (passes_within first (gate_at first (place_of c.args.n)) mid new (omega arith) (omega arith) c.open.ensures.passes))
+    (passes_both first old mid new c.lay_body.ensures.passes (passes_within first (gate_at first (place_of c.args.n)) mid new (omega arith) (omega arith) c.write_out.ensures.passes))
 
 pub returns-clause-reads_new : goal.returns-clause-reads_new
 returns-clause-reads_new g c = λ tells under.
-    put_everywhere (g.T.Stamper.tag c.args.stamper.now) (first_of c.args.self) c.args.n (g.S.Store.disk c.args.store.now).cells (g.S.Store.disk c.open.new.store) c.requires.small under
-    (returns-clause-done g c tells) (c.in-Ok-open.ensures.durable (c.in-Ok.ensures.serves.tells tells))
+    put_everywhere (g.T.Stamper.tag c.args.stamper.now) (first_of c.args.self) c.args.n (g.S.Store.disk c.args.store.now).cells (g.S.Store.disk c.write_out.new.store) c.requires.small under
+    (returns-clause-done g c tells) (c.in-Ok-write_out.ensures.durable (c.in-Ok.ensures.serves.tells tells))
 
 pub returns-clause-old_or_new : goal.returns-clause-old_or_new
 returns-clause-old_or_new g c = λ m next tells settled stands.
     let tag = g.T.Stamper.tag c.args.stamper.now in
     let known = known_of c.args.self c.args.gates.now in
     let old = g.S.Store.disk c.args.store.now in
-    let new = g.S.Store.disk c.open.new.store in
+    let new = g.S.Store.disk c.write_out.new.store in
     let closes_is = closed_by c.args.self c.args.gates.now c.known_of-known.result c.is_closed_first-closes.result c.args.n c.known_of-known.ensures c.is_closed_first-closes.ensures in
     let opened = λ (closes : IsTrue c.is_closed_first-closes.result). subst (λ f. IsOpen f old.cells (place_of c.args.n)) (sym c.first-first.ensures)
     (open_of tag known (first_of c.args.self) m c.args.n old.cells next (c.requires.told tells) stands (subst (λ b. IsTrue b) closes_is closes)) in
@@ -156,14 +157,14 @@ returns-clause-old_or_new g c = λ m next tells settled stands.
     (opening tag c.first-first.result m c.args.n old (g.S.Store.disk c.lay_body.new.store) new next c.requires.small stands_there
     (c.lay_body.ensures.any_moment m next tells opened settled stands_there)
     (c.in-Ok.ensures.done tells)
-    (c.open.ensures.any_moment (c.in-Ok.ensures.durable tells))))
+    (c.write_out.ensures.any_moment (c.in-Ok.ensures.durable tells))))
 
 pub returns-clause-tell : goal.returns-clause-tell
 returns-clause-tell g c = λ tells.
     let known = known_of c.args.self c.args.gates.now in
     let put = returns-clause-done g c tells in
     let old = (g.S.Store.disk c.args.store.now).cells in
-    let new = (g.S.Store.disk c.open.new.store).cells in
+    let new = (g.S.Store.disk c.write_out.new.store).cells in
     subst (λ (k : Open). GatesAre k (first_of c.args.self) new)
     (sym (ap (λ (x : Gates). known_of c.args.self x) c.set_known.ensures ∙ known_again c.args.self c.args.gates.now c.with_mark.result ∙ c.with_mark.ensures ∙ ap (λ (k : Open). with_mark k (place_of c.args.n)) c.known_of-known.ensures))
     (are_marked known (first_of c.args.self) c.args.n old new (c.requires.told tells) put.rest put.opened)
@@ -171,38 +172,66 @@ returns-clause-tell g c = λ tells.
 pub returns-clause-does : goal.returns-clause-does
 returns-clause-does g c =
     let old = (g.S.Store.disk c.args.store.now).seen in
-    let new = (g.S.Store.disk c.open.new.store).seen in
+    let new = (g.S.Store.disk c.write_out.new.store).seen in
     let before = g.W.Watch.trace c.args.watch.now in
-    let after = g.W.Watch.trace c.open.new.watch in
+    let after = g.W.Watch.trace c.write_out.new.watch in
     let closes_is = closed_by c.args.self c.args.gates.now c.known_of-known.result c.is_closed_first-closes.result c.args.n c.known_of-known.ensures c.is_closed_first-closes.ensures in
     subst (λ b. SetDoes b (first_of c.args.self) c.args.n old new before after (Ok tt)) closes_is
     (subst (λ f. SetDoes c.is_closed_first-closes.result f c.args.n old new before after (Ok tt)) c.first-first.ensures
-    (set_done _ _ _ _ _ _ c.is_closed_first-closes.result c.first-first.result c.args.n c.in-Ok.ensures.does.all c.in-Ok-open.ensures.does))
+    (set_done _ _ _ _ _ _ c.is_closed_first-closes.result c.first-first.result c.args.n c.in-Ok.ensures.does.all c.in-Ok-write_out.ensures.told))
 
 -- ---- what each of them says of the store
 
 pub returns-in-Err-clause-serves : goal.returns-in-Err-clause-serves
 returns-in-Err-clause-serves g c = serves_err IsFailed (IsSetFault c.args.self c.args.n) _ _ _ _ (λ told. tt) c.in-Err.ensures.serves
 
-pub returns-in-Err-open-clause-serves : goal.returns-in-Err-open-clause-serves
-returns-in-Err-open-clause-serves g c =
+pub returns-in-Err-write_out-clause-serves : goal.returns-in-Err-write_out-clause-serves
+returns-in-Err-write_out-clause-serves g c =
     let laid = c.lay_body.ensures.serves in
     serves_then (IsSetFault c.args.self c.args.n) _ (g.S.Store.disk c.lay_body.new.store) _ _ laid.goes laid.out c.in-Ok.ensures.serves.tells
-    (serves_err IsFailed (IsSetFault c.args.self c.args.n) _ _ _ _ (λ told. tt) c.in-Err-open.ensures.serves)
+    (serves_err IsFailed (IsSetFault c.args.self c.args.n) _ _ _ _ (λ told. tt) c.in-Err-write_out.ensures.serves)
 
 pub returns-clause-serves : goal.returns-clause-serves
 returns-clause-serves g c =
     let laid = c.lay_body.ensures.serves in
-    let opened = c.open.ensures.serves in
+    let opened = c.write_out.ensures.serves in
     serves_then (IsSetFault c.args.self c.args.n) _ (g.S.Store.disk c.lay_body.new.store) _ _ laid.goes laid.out c.in-Ok.ensures.serves.tells
-    (serves_ok (IsSetFault c.args.self c.args.n) _ _ _ opened.goes opened.out c.in-Ok-open.ensures.serves.tells)
+    (serves_ok (IsSetFault c.args.self c.args.n) _ _ _ opened.goes opened.out c.in-Ok-write_out.ensures.serves.tells)
 
 pub returns-in-Err-clause-passes : goal.returns-in-Err-clause-passes
 returns-in-Err-clause-passes g c = subst (λ f. Passes (SameOutside f) (g.S.Store.disk c.args.store.now) (g.S.Store.disk c.lay_body.new.store)) c.first-first.ensures c.lay_body.ensures.passes
 
 pub returns-clause-durable : goal.returns-clause-durable
-returns-clause-durable g c = λ tells. c.in-Ok-open.ensures.durable (c.in-Ok.ensures.serves.tells tells)
+returns-clause-durable g c = λ tells. c.in-Ok-write_out.ensures.durable (c.in-Ok.ensures.serves.tells tells)
 
 pub returns-clause-gates : goal.returns-clause-gates
 returns-clause-gates g c =
     c.set_known.ensures ∙ ap (λ (k : Open). with_known c.args.self c.args.gates.now k) (c.with_mark.ensures ∙ ap (λ (k : Open). with_mark k (place_of c.args.n)) c.known_of-known.ensures)
+
+-- ---- the cells behind a refusal
+
+pub returns-in-Err-clause-refused : goal.returns-in-Err-clause-refused
+returns-in-Err-clause-refused g c = λ tells.
+    let tag = g.T.Stamper.tag c.args.stamper.now in
+    let old = (g.S.Store.disk c.args.store.now).cells in
+    let new = g.S.Store.disk c.lay_body.new.store in
+    let closes_is = closed_by c.args.self c.args.gates.now c.known_of-known.result c.is_closed_first-closes.result c.args.n c.known_of-known.ensures c.is_closed_first-closes.ensures in
+    subst (λ b. SetLeft tag b (first_of c.args.self) c.args.n new.seen old new.cells (Before (StoreFault None))) closes_is
+    (subst (λ f. SetLeft tag c.is_closed_first-closes.result f c.args.n new.seen old new.cells (Before (StoreFault None))) c.first-first.ensures (c.in-Err.ensures.refused tells))
+
+pub returns-in-Err-write_out-clause-refused : goal.returns-in-Err-write_out-clause-refused
+returns-in-Err-write_out-clause-refused g c = λ tells.
+    let tag = g.T.Stamper.tag c.args.stamper.now in
+    let old = (g.S.Store.disk c.args.store.now).cells in
+    let new = g.S.Store.disk c.write_out.new.store in
+    let first = c.first-first.result in
+    let place = place_of c.args.n in
+    let there = c.write_out.ensures.serves.goes.told tells in
+    let here = c.lay_body.ensures.serves.goes.told there in
+    let laid = c.in-Ok.ensures.done here in
+    subst (λ f. IsOpening tag f c.args.n new.seen old new.cells) c.first-first.ensures
+    (record {
+      body_is = c.write_out.ensures.rest there (body_at first place) (λ e. absurd (omega (arith, e))) ∙ laid.body;
+      gate_is = subst (λ (l : List ℕ). IsWritten (gate_at first place) l new.seen new.cells) c.open_gate.ensures (c.in-Err-write_out.ensures.refused tells);
+      rest = λ k off on. c.write_out.ensures.rest there k on ∙ laid.rest k off on;
+    })
