@@ -2,5 +2,6 @@ pub mod Spelling
 pub mod Noted
 pub mod Holding
 pub mod Beginnings
+pub mod InClear
 pub mod Shutting
 pub mod Clearing

@@ -14,7 +14,9 @@ use Rattle.ob_store.proofs.Moments.{passed_none}
 use Rattle.ob_store.proofs.Serving.{goes_same, goes_then}
 use Rattle.ob_store.proofs.Doing.{tells_then}
 use Rattle.ob_twin.specs.Bodies.{closed_gate}
+use Rattle.ob_start.specs.Clear.{IsKeptOrShut}
 use Rattle.ob_start.specs.Laying.{SameHead, SameButThese}
+use Rattle.ob_start.proofs.InClear.{kept_one}
 use Rattle.ob_start.specs.Orders.{writes_of}
 use Rattle.ob_start.proofs.Clearing.{head_then, torn_high}
 
@@ -24,6 +26,7 @@ pub record Shutting (gates : List ℕ) (i : ℕ) (old now : Disk) : Type 0 where
   pub tells : old.tells → now.tells
   pub here : old.tells → (j : ℕ) → j < i → now.cells (get_or gates j 0) ≡ closed_gate
   pub elsewhere : old.tells → SameButThese gates now.cells old.cells
+  pub each : old.tells → (cell : ℕ) → IsKeptOrShut old.cells now.cells cell
   pub passes : Passes SameHead old now
   pub out : now.out ≡ 0
 
@@ -33,6 +36,7 @@ none_shut gates d none = record {
   tells = λ t. t;
   here = λ t j lt. absurd (omega arith);
   elsewhere = λ t k off. refl;
+  each = λ t cell. inl refl;
   passes = passed_none d SameHead (λ c. refl);
   out = none;
 }
@@ -55,6 +59,7 @@ module _ (gates : List ℕ) (i gate : ℕ) (old mid new : Disk) (lt : i < length
         (cases_eq (get_or gates j 0) gate))
         (subst (λ k. new.cells k ≡ closed_gate) is (put (so_far.tells t)));
     elsewhere = elsewhere_one (λ t. rest (so_far.tells t));
+    each = λ t. kept_one gate old.cells mid.cells new.cells (rest (so_far.tells t)) (put (so_far.tells t)) (so_far.each t);
     passes = passes_one high serves.goes tears time rest;
     out = let none = so_far.out in let still = serves.out in omega arith;
   }

@@ -2,4 +2,5 @@ pub mod Heads
 pub mod Registers
 pub mod Orders
 pub mod Laying
+pub mod Clear
 pub mod Beginning

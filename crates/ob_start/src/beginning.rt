@@ -5,6 +5,7 @@ ghost use Rattle.ob_store.specs.Images.{IsSynced};
 ghost use Rattle.ob_store.specs.Calls.{Serves, IsStoreFault};
 ghost use Rattle.ob_store.specs.Told.{Does};
 ghost use Rattle.ob_twin.specs.Keyed.{tagging};
+ghost use Rattle.ob_twin.specs.Clear.{InClearBy};
 ghost use Rattle.ob_twin.specs.Register.{StandsAt, KeepsAt, SameOutside};
 ghost use Rattle.ob_twin.specs.Opening.{GatesAre};
 ghost use Rattle.ob_start.specs.Orders.{begin_notes};
@@ -37,12 +38,14 @@ pub fn begin<S: Store, W: Watch>(
     ensures untouched { IfErr result (λ refused. IsWornFault refused → (store.new ≡ store.old)
         × (watch.new ≡ watch.old)) }
     ensures next { IfOk result (λ next. (next ≡ suc generation) × (next < 2 ^ 62)) }
-    ensures epoch { gates.new.epoch ≡ gates.old.epoch }
     ensures gates { gates.new ≡ gates_begun generation gates.old result }
     ensures known { (S.disk store.old).tells
         → OnOk result (GatesAre gates.new.generation 1 (S.disk store.new).cells) }
     ensures rest { (S.disk store.old).tells
         → SameOutside 1 (S.disk store.new).cells (S.disk store.old).cells }
+    // Each byte that it leaves in the clear is of a gate or of a number's body.
+    ensures clear { (S.disk store.new).tells → InClearBy (tagging sealer.now.keys)
+        (S.disk store.new).seen (S.disk store.old).cells (S.disk store.new).cells result }
     ensures durable { (S.disk store.old).tells → OnOk result (IsSynced (S.disk store.new)) }
     // Where the register stood at the generation, it stands at the next one once it is done.
     ensures stands { (S.disk store.old).tells

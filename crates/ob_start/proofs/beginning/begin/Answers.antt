@@ -8,6 +8,7 @@ use Rattle.ob_twin.specs.Keyed.{tagging}
 use Rattle.ob_twin.specs.Register.{place_of}
 use Rattle.ob_twin.specs.Opening.{is_closed_first}
 use Rattle.ob_twin.specs.Orders.{set_notes}
+use Rattle.ob_twin.proofs.Clear.{both_clear, clear_but, none_clear, set_clear}
 use Rattle.ob_store.proofs.Lanes.{first_none}
 use Rattle.ob_start.specs.Orders.{begin_notes}
 use Rattle.ob_start.proofs.Beginnings.{still, begin_does, next_stands, begins}
@@ -94,3 +95,33 @@ returns-in-Err-set-clause-serves g c =
 
 pub returns-in-Err-set-clause-rest : goal.returns-in-Err-set-clause-rest
 returns-in-Err-set-clause-rest g c = λ tells k out. c.set.ensures.rest (c.sync_noted.ensures.keeps.tells tells) k out ∙ c.sync_noted.ensures.keeps.cells tells k
+
+-- ---- in the clear
+
+pub returns-then-next-ge-NUMBER_LIMIT-clause-clear : goal.returns-then-next-ge-NUMBER_LIMIT-clause-clear
+returns-then-next-ge-NUMBER_LIMIT-clause-clear g c = λ tells cell low. inl (inl refl)
+
+pub returns-in-Err-clause-clear : goal.returns-in-Err-clause-clear
+returns-in-Err-clause-clear g c = λ tells cell low. inl (inl (c.sync_noted.ensures.keeps.cells (c.sync_noted.ensures.serves.goes.told tells) cell))
+
+pub returns-in-Ok-set-clause-clear : goal.returns-in-Ok-set-clause-clear
+returns-in-Ok-set-clause-clear g c = λ tells.
+    let tag = tagging c.args.sealer.now.keys in
+    let old = g.S.Store.disk c.args.store.now in
+    let mid = g.S.Store.disk c.sync_noted.new.store in
+    let new = g.S.Store.disk c.set.new.store in
+    let there = c.set.ensures.serves.goes.told tells in
+    let here = c.sync_noted.ensures.serves.goes.told there in
+    both_clear tag old.cells mid.cells new.cells (none_clear tag old.cells mid.cells (λ cell low. c.sync_noted.ensures.keeps.cells here cell))
+    (set_clear tag GENERATION (c.args.generation + 1) (is_closed_first c.args.gates.now.generation (place_of (c.args.generation + 1))) new.seen mid.cells new.cells (omega arith) (Ok tt) (c.in-Ok-set.ensures.done there) tt)
+
+pub returns-in-Err-set-clause-clear : goal.returns-in-Err-set-clause-clear
+returns-in-Err-set-clause-clear g c = λ tells.
+    let tag = tagging c.args.sealer.now.keys in
+    let old = g.S.Store.disk c.args.store.now in
+    let mid = g.S.Store.disk c.sync_noted.new.store in
+    let new = g.S.Store.disk c.set.new.store in
+    let there = c.set.ensures.serves.goes.told tells in
+    let here = c.sync_noted.ensures.serves.goes.told there in
+    clear_but tag old.cells mid.cells new.cells (none_clear tag old.cells mid.cells (λ cell low. c.sync_noted.ensures.keeps.cells here cell)) new.seen
+    (set_clear tag GENERATION (c.args.generation + 1) (is_closed_first c.args.gates.now.generation (place_of (c.args.generation + 1))) new.seen mid.cells new.cells (omega arith) (Err c.in-Err-set.field-0) tt (c.in-Err-set.ensures.refused tells))

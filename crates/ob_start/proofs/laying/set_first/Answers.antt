@@ -1,10 +1,11 @@
-use Rattle.std.proofs.Common.{true, Bool, Err, subst}
+use Rattle.std.proofs.Common.{true, Bool, Ok, Err, subst}
 use Rattle.ob_store.specs.Told.{TellsFirst}
 use Rattle.ob_store.proofs.Doing.{does_err}
 use Rattle.ob_twin.specs.Keyed.{tagging}
 use Rattle.ob_twin.specs.Register.{first_of, place_of}
 use Rattle.ob_twin.specs.Opening.{known_of, is_closed_first}
 use Rattle.ob_twin.specs.Orders.{set_notes}
+use Rattle.ob_twin.proofs.Clear.{set_clear}
 use Rattle.ob_twin.proofs.Sets.{set_does}
 use Rattle.ob_start.proofs.Clearing.{first_put, closes_first}
 use Rattle.ob_start.proofs.laying.set_first.Goals as goal
@@ -21,3 +22,15 @@ returns-in-Err-clause-does g c =
     (subst (λ (b : Bool). TellsFirst (set_notes b first c.args.n) (g.S.Store.disk c.args.store.now).seen (g.S.Store.disk c.set.new.store).seen (g.W.Watch.trace c.args.watch.now) (g.W.Watch.trace c.set.new.watch))
     (closes_first c.args.twin c.new.result (place_of c.args.n) c.new.ensures.generation c.new.ensures.epoch)
     (set_does closes first c.args.n _ _ _ _ (Err c.in-Err.field-0) c.in-Err.ensures.does).first)
+
+pub returns-in-Ok-clause-clear : goal.returns-in-Ok-clause-clear
+returns-in-Ok-clause-clear g c = λ tells.
+    let new = g.S.Store.disk c.set.new.store in
+    set_clear (tagging c.args.sealer.now.keys) c.args.twin c.args.n (is_closed_first (known_of c.args.twin c.new.result) (place_of c.args.n)) new.seen (g.S.Store.disk c.args.store.now).cells new.cells
+    c.requires.small (Ok tt) (c.in-Ok.ensures.done (c.set.ensures.serves.goes.told tells)) tt
+
+pub returns-in-Err-clause-clear : goal.returns-in-Err-clause-clear
+returns-in-Err-clause-clear g c = λ tells.
+    let new = g.S.Store.disk c.set.new.store in
+    set_clear (tagging c.args.sealer.now.keys) c.args.twin c.args.n (is_closed_first (known_of c.args.twin c.new.result) (place_of c.args.n)) new.seen (g.S.Store.disk c.args.store.now).cells new.cells
+    c.requires.small (Err c.in-Err.field-0) tt (c.in-Err.ensures.refused tells)

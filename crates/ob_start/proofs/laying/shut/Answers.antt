@@ -3,6 +3,8 @@ use Rattle.std.proofs.lemmas.List.{take_all}
 use Rattle.ob_store.specs.Told.{Tells}
 use Rattle.ob_store.proofs.Doing.{tells_none, does_all, does_refused}
 use Rattle.ob_start.specs.Orders.{writes_of}
+use Rattle.ob_twin.proofs.Clear.{last_written}
+use Rattle.ob_start.proofs.InClear.{shut_refused}
 use Rattle.ob_start.proofs.Shutting.{none_shut, one_shut, passes_one, told_one, told_first}
 use Rattle.ob_start.proofs.laying.shut.Goals as goal
 
@@ -44,3 +46,17 @@ returns-in_err-write_noted-clause-passes g c =
     let e = c.write_noted.ensures in
     passes_one c.args.gates.now i (get_or c.args.gates.now i 0) (g.S.Store.disk c.args.store.now) (g.S.Store.disk c.loop-gate.store) (g.S.Store.disk c.write_noted.new.store) c.loop-gate-test.true refl c.loop-gate.invariant.shutting
     (c.requires.behind i c.loop-gate-test.true) e.serves.goes e.crash e.time e.rest
+
+pub returns-in_err-write_noted-clause-clear : goal.returns-in_err-write_noted-clause-clear
+returns-in_err-write_noted-clause-clear g c = λ tells.
+    let gate = get_or c.args.gates.now c.loop-gate.gate-index 0 in
+    let old = g.S.Store.disk c.args.store.now in
+    let mid = g.S.Store.disk c.loop-gate.store in
+    let new = g.S.Store.disk c.write_noted.new.store in
+    let there = c.write_noted.ensures.serves.goes.told tells in
+    let here = c.loop-gate.invariant.shutting.goes.told there in
+    shut_refused gate old.cells mid.cells new.cells (c.write_noted.ensures.rest there) new.seen c.from_residual.result c.from_residual.ensures.0
+    (last_written gate mid.seen new.seen c.write_noted.ensures.told.seen) (c.loop-gate.invariant.shutting.each here)
+
+pub returns-clause-clear : goal.returns-clause-clear
+returns-clause-clear g c = λ tells. c.loop-gate.invariant.shutting.each (c.loop-gate.invariant.shutting.goes.told tells)

@@ -6,6 +6,8 @@ use Rattle.ob_store.proofs.Moments.{passed_still}
 use Rattle.ob_store.proofs.Doing.{does_refused, does_then, does_sync, first_more, first_behind}
 use Rattle.ob_start.specs.Laying.{SameHead}
 use Rattle.ob_start.specs.Orders.{writes_of, register_gates, shut_notes}
+use Rattle.ob_twin.proofs.Clear.{both_clear, clear_all, none_clear}
+use Rattle.ob_start.proofs.InClear.{all_shut, err_clear, low_kept, some_shut}
 use Rattle.ob_start.proofs.Clearing.{head_then, failed_then, shut_again, register_behind, further, registers_apart, head_apart}
 use Rattle.ob_start.proofs.laying.shut_gates.Goals as goal
 
@@ -84,3 +86,37 @@ returns-clause-passes g c =
     let two = g.S.Store.disk c.shut-2.new.store in
     passed_still SameHead old two (g.S.Store.disk c.sync_noted.new.store) (head_then old (g.S.Store.disk c.shut.new.store) two c.shut.ensures.passes c.shut-2.ensures.passes)
     c.sync_noted.ensures.serves.goes c.sync_noted.ensures.time c.sync_noted.ensures.crash c.sync_noted.ensures.keeps
+
+-- ---- in the clear
+
+pub returns-in_err-shut-clause-clear : goal.returns-in_err-shut-clause-clear
+returns-in_err-shut-clause-clear g c = λ tag tells.
+    let old = g.S.Store.disk c.args.store.now in
+    let new = g.S.Store.disk c.shut.new.store in
+    let here = c.shut.ensures.serves.goes.told tells in
+    err_clear tag new.seen old.cells new.cells c.from_residual.result c.from_residual.ensures.0
+    (some_shut tag old.cells new.cells (c.shut.ensures.rest here) new.seen (c.in_err-shut.ensures.clear tells))
+
+pub returns-in_err-shut-2-clause-clear : goal.returns-in_err-shut-2-clause-clear
+returns-in_err-shut-2-clause-clear g c = λ tag tells.
+    let old = g.S.Store.disk c.args.store.now in
+    let one = g.S.Store.disk c.shut.new.store in
+    let new = g.S.Store.disk c.shut-2.new.store in
+    let there = c.shut-2.ensures.serves.goes.told tells in
+    let here = c.shut.ensures.serves.goes.told there in
+    clear_all tag new.seen old.cells new.cells c.from_residual-in_err-shut-2.result
+    (both_clear tag old.cells one.cells new.cells (all_shut tag old.cells one.cells (c.shut.ensures.rest here) (c.in_ok-shut.ensures.clear there))
+    (none_clear tag one.cells new.cells (low_kept c.args.more.now one.cells new.cells c.requires.behind (c.shut-2.ensures.rest there))))
+
+pub returns-clause-clear : goal.returns-clause-clear
+returns-clause-clear g c = λ tag tells.
+    let old = g.S.Store.disk c.args.store.now in
+    let one = g.S.Store.disk c.shut.new.store in
+    let two = g.S.Store.disk c.shut-2.new.store in
+    let new = g.S.Store.disk c.sync_noted.new.store in
+    let t2 = c.sync_noted.ensures.serves.goes.told tells in
+    let t1 = c.shut-2.ensures.serves.goes.told t2 in
+    let here = c.shut.ensures.serves.goes.told t1 in
+    clear_all tag new.seen old.cells new.cells c.sync_noted.result
+    (both_clear tag old.cells one.cells new.cells (all_shut tag old.cells one.cells (c.shut.ensures.rest here) (c.in_ok-shut.ensures.clear t1))
+    (none_clear tag one.cells new.cells (λ cell low. c.sync_noted.ensures.keeps.cells t2 cell ∙ low_kept c.args.more.now one.cells two.cells c.requires.behind (c.shut-2.ensures.rest t1) cell low)))
