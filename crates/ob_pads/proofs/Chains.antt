@@ -1,12 +1,13 @@
 -- Acts behind acts, and chains of calls as acts.
-use Rattle.std.proofs.Common.{◌≡◌, List, [], ◌∷◌, ◌++◌, Some, map, refl, sym, ap, subst, ◌∙◌}
+use Rattle.std.proofs.Common.{◌≡◌, ℕ, List, [], ◌∷◌, ◌++◌, Some, map, refl, sym, ap, subst, ◌∙◌}
 use Rattle.ob_store.specs.declared.watch.Note.{Note}
 use Rattle.ob_store.specs.Disk.{Disk}
 use Rattle.ob_seal.specs.declared.keys.Keys.{Keys}
 use Rattle.ob_seal.specs.Sealing.{Sealing}
-use Rattle.ob_serial.specs.Vaults.{VaultCall, VaultAnswer}
+use Rattle.ob_serial.specs.Vaults.{VaultCall, VaultAnswer, Values, Ended, RefusedBy, DoubtBy}
 use Rattle.ob_serial.specs.VaultKinds.{Kind, AllCalled}
-use Rattle.ob_pads.specs.Lives.{StoreAct, Opened, Unopened, Answered, Crashed, At, after_act, after_acts, answers_of, AreUncrashed, Opens, LeavesUnopened, Answers, IsLife, LivesOn}
+use Rattle.ob_pads.specs.Lives.{StoreAct, Opened, Unopened, Answered, Crashed, At, after_act, after_acts, answers_of, number_behind, AreUncrashed, Opens, LeavesUnopened, Answers, IsLife, LivesOn, LivesTo}
+use Rattle.ob_pads.specs.Laws.{AllServed, NoneServed}
 
 pub answers_join : {S : Type 0} (xs ys : List (StoreAct S)) → answers_of (xs ++ ys) ≡ answers_of xs ++ answers_of ys
 answers_join [] ys = refl
@@ -104,3 +105,36 @@ module _ {V S : Type 0} (kind : Kind V) (disk : S → Disk) (store : V → S) (s
         );
         ends = λ at here. rest.ends (after_act at act) refl;
       }
+
+  -- calls that weren't answered take the number no further
+  none_numbered : (n : ℕ) (first last : V) (steps : List (VaultCall × VaultAnswer)) (tells : (disk (store last)).tells) (called : AllCalled kind first steps last) → NoneServed steps
+      → number_behind n (chain_lives first last steps tells called).acts ≡ n
+  unfolding chain_lives
+  none_numbered n first last [] tells same none = refl
+  none_numbered n first last ((call, Values values) ∷ steps) tells (mid, one, more) none = absurd none
+  none_numbered n first last ((call, Ended) ∷ steps) tells (mid, one, more) none = absurd none
+  none_numbered n first last ((call, RefusedBy fault) ∷ steps) tells (mid, one, more) none = none_numbered n mid last steps tells more none
+  none_numbered n first last ((call, DoubtBy fault) ∷ steps) tells (mid, one, more) none = none_numbered n mid last steps tells more none
+
+  -- a chain behind a chain
+  chains_join : (first mid last : V) (front rest : List (VaultCall × VaultAnswer)) → AllCalled kind first front mid → AllCalled kind mid rest last → AllCalled kind first (front ++ rest) last
+  chains_join first mid last [] rest same more = subst (λ (x : V). AllCalled kind x rest last) same more
+  chains_join first mid last (step ∷ front) rest (next, one, called) more = (next, one, chains_join next mid last front rest called more)
+
+  numbered : (first mid last : V) (front rest : List (VaultCall × VaultAnswer)) (tells : (disk (store last)).tells) (called : AllCalled kind first front mid) (more : AllCalled kind mid rest last)
+      → AllServed front → NoneServed rest → number_behind (sealing first).next (chain_lives first last (front ++ rest) tells (chains_join first mid last front rest called more)).acts ≡ (sealing mid).next
+  unfolding chain_lives chains_join
+  numbered first mid last [] rest tells same more all none =
+      none_numbered (sealing first).next first last rest tells (chains_join first mid last [] rest same more) none ∙ ap (λ (x : V). (sealing x).next) (sym same)
+  numbered first mid last ((call, Values values) ∷ front) rest tells (next, one, called) more all none = numbered next mid last front rest tells called more all none
+  numbered first mid last ((call, Ended) ∷ front) rest tells (next, one, called) more all none = numbered next mid last front rest tells called more all none
+  numbered first mid last ((call, RefusedBy fault) ∷ front) rest tells (next, one, called) more all none = absurd all
+  numbered first mid last ((call, DoubtBy fault) ∷ front) rest tells (next, one, called) more all none = absurd all
+
+  pub numbered_runs : (old : S) (first mid last : V) (front rest : List (VaultCall × VaultAnswer)) → (disk (store last)).tells → ((disk (store first)).tells → Opens keys (disk old) (disk (store first)) (sealing first))
+      → AllCalled kind first front mid → AllServed front → AllCalled kind mid rest last → NoneServed rest → LivesTo disk keys old (store last) (map (λ s. s.1) (front ++ rest)) (sealing mid).next
+  unfolding chain_runs
+  numbered_runs old first mid last front rest tells opens called all more none = record {
+    lives = chain_runs old first last (front ++ rest) tells opens (chains_join first mid last front rest called more);
+    number_is = numbered first mid last front rest tells called more all none;
+  }

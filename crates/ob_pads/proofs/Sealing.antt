@@ -1,11 +1,18 @@
 -- Cells that are sealed with numbers in between: by one run of seals, by gates, and by one call behind another.
-use Rattle.std.proofs.Common.{◌≡◌, ◌⊎◌, inl, inr, ⊎_elim, ℕ, ◌+◌, ◌-◌, ◌<◌, ◌≤◌, ◌^◌, List, [], ◌∷◌, refl, sym, ap, ◌∙◌, subst, arith}
+use Rattle.std.proofs.Common.{◌≡◌, ◌⊎◌, inl, inr, ⊎_elim, ℕ, ◌+◌, ◌-◌, ◌<◌, ◌≤◌, ◌^◌, List, [], ◌∷◌, Option, Result, Ok, Err, refl, sym, ap, ◌∙◌, subst, arith}
 use Rattle.std.proofs.lemmas.Bool.{cases_eq, cases_lt}
 use Rattle.ob_store.specs.Disk.{Image}
+use Rattle.ob_store.specs.declared.event.Event.{Event}
 use Rattle.ob_seal.specs.Pieces.{onward}
 use Rattle.ob_seal.specs.Seals.{sealed}
 use Rattle.ob_seal.specs.Sealing.{Sealing}
-use Rattle.ob_pads.specs.Seals.{CellsAreSealed, IsGate, IsSealedWith, IsUnsealed, SealerGoesOn}
+use Rattle.ob_seal.specs.declared.keys.Keys.{Keys}
+use Rattle.ob_twin.specs.Clear.{InClearBy}
+use Rattle.ob_twin.specs.Keyed.{tagging}
+use Rattle.ob_serial.specs.Vaults.{VaultAnswer, Values, Ended, RefusedBy, DoubtBy}
+use Rattle.ob_serial.specs.declared.vault.EndErr.{EndErr}
+use Rattle.ob_serial.specs.declared.vault.EndErr.TheVariants as end
+use Rattle.ob_pads.specs.Seals.{answer_of_end, CellsAreSealed, ClearBy, IsGate, IsSealedWith, IsUnsealed, SealerGoesOn}
 
 -- ---- nothing was sealed
 
@@ -142,3 +149,18 @@ module _ (a b c : Sealing) (x y z : Image) (on : SealerGoesOn a b) (more : Seale
     each = λ cell low. each_by cell (left cell) low;
     alone = λ j k low_j low_k is. alone_by j k (left j) (left k) low_j low_k is;
   }
+
+-- ---- the first nine cells
+
+-- a call that leaves them as they were
+pub kept_clear : (answer : VaultAnswer) (keys : Keys) (seen : Option (List Event)) (old new : Image) → ((cell : ℕ) → cell ≤ 8 → new cell ≡ old cell) → ClearBy answer keys seen old new
+kept_clear (Values values) keys seen old new same = λ cell low. inl (same cell low)
+kept_clear Ended keys seen old new same = λ cell low. inl (same cell low)
+kept_clear (RefusedBy fault) keys seen old new same = λ cell low. inl (inl (same cell low))
+kept_clear (DoubtBy fault) keys seen old new same = λ cell low. inl (inl (same cell low))
+
+-- an end by its answer
+pub ended_clear : (r : Result (Unit {0}) EndErr) (keys : Keys) (seen : Option (List Event)) (old new : Image) → InClearBy (tagging keys) seen old new r → ClearBy (answer_of_end r) keys seen old new
+ended_clear (Ok done) keys seen old new clear = clear
+ended_clear (Err (end.Before refused)) keys seen old new clear = clear
+ended_clear (Err (end.Unsure refused)) keys seen old new clear = clear

@@ -6,10 +6,11 @@ use Rattle.ob_store.specs.Images.{IsSynced, IsImageOf, LeavesOnly}
 use Rattle.ob_store.specs.Calls.{GoesOn}
 use Rattle.ob_seal.specs.declared.keys.Keys.{Keys}
 use Rattle.ob_seal.specs.Sealing.{Sealing}
+use Rattle.ob_twin.specs.Clear.{AreInClear, AreInClearBut}
 use Rattle.ob_twin.specs.Keyed.{tagging}
 use Rattle.ob_twin.specs.Register.{StandsAt}
-use Rattle.ob_serial.specs.Vaults.{VaultAnswer}
-use Rattle.ob_pads.specs.Seals.{Pad, pads_between, SealerGoesOn, SealsBy}
+use Rattle.ob_serial.specs.Vaults.{VaultAnswer, Values, Ended}
+use Rattle.ob_pads.specs.Seals.{ClearBy, Pad, pads_between, SealerGoesOn, SealsBy}
 
 -- What happens to a store. An opening that went well gives a sealer. A head that is read, or an opening that is refused, gives none. A
 -- call of the vault, with its answer, leaves the sealer so. A crash comes in the last of these or after it.
@@ -49,6 +50,15 @@ answers_of [] = []
 answers_of (Answered store sealing answer ∷ acts) = answer ∷ answers_of acts
 answers_of (_ ∷ acts) = answers_of acts
 
+-- The number of the next seal, behind the calls that were answered: an opening's sealer begins it, and a call that was refused, or left in
+-- doubt, takes it no further.
+abbrev pub number_behind : {S : Type 0} → ℕ → List (StoreAct S) → ℕ
+number_behind n [] = n
+number_behind n (Opened store sealing ∷ acts) = number_behind sealing.next acts
+number_behind n (Answered store sealing (Values values) ∷ acts) = number_behind sealing.next acts
+number_behind n (Answered store sealing Ended ∷ acts) = number_behind sealing.next acts
+number_behind n (_ ∷ acts) = number_behind n acts
+
 -- none of them is a crash
 abbrev pub AreUncrashed : {S : Type 0} → List (StoreAct S) → Type 0
 AreUncrashed [] = Unit {0}
@@ -72,12 +82,16 @@ pub record Opens (keys : Keys) (old new : Disk) (sealing : Sealing) : Type 0 whe
   pub next : (g : ℕ) → IsAtGeneration keys g old.cells → sealing.generation ≡ suc g
   pub images : (g : ℕ) → IsAtGeneration keys g old.cells → (c : Image) → new.may_leave c → IsAtGeneration keys (suc g) c
   pub crash : LeavesNext keys old new
+  -- of its first nine cells each is as it was, or has what a register writes there
+  pub clear : AreInClear (tagging keys) old.cells new.cells
 
 -- a head that was read, or an opening that was refused
 pub record LeavesUnopened (keys : Keys) (old new : Disk) : Type 0 where
   pub goes : GoesOn old new
   pub tells : new.tells
   pub crash : LeavesNext keys old new
+  -- so is it here, but for one whose write the store refused
+  pub clear : AreInClearBut (tagging keys) new.seen old.cells new.cells
 
 -- a call of a vault: where each image stood at the run's generation, and what reads gave, so does each that a crash leaves, and what
 -- reads then give
@@ -86,6 +100,7 @@ pub record Answers (old new : Disk) (was now : Sealing) (answer : VaultAnswer) :
   pub tells : new.tells
   pub further : SealerGoesOn was now
   pub seals : SealsBy answer was now old.cells new.cells
+  pub clear : ClearBy answer was.keys new.seen old.cells new.cells
   pub images : ((c : Image) → IsImageOf old c → IsAtGeneration was.keys was.generation c) → LeavesOnly old new (IsAtGeneration was.keys was.generation)
 
 -- A crash leaves an image that the store may have left since the last act began, and nothing waits for a sync.
@@ -128,3 +143,8 @@ pub record LivesOn {S : Type 0} (disk : S → Disk) (keys : Keys) (old new : S) 
   pub answers_are : answers_of acts ≡ answers
   pub life : (at : At S) → at.store ≡ old → IsLife disk keys at acts
   pub ends : (at : At S) → at.store ≡ old → (after_acts at acts).store ≡ new
+
+-- One behind whose answered calls the next seal has this number.
+pub record LivesTo {S : Type 0} (disk : S → Disk) (keys : Keys) (old new : S) (answers : List VaultAnswer) (number : ℕ) : Type 0 where
+  pub lives : LivesOn disk keys old new answers
+  pub number_is : number_behind 0 lives.acts ≡ number

@@ -2,9 +2,13 @@
 use Rattle.std.specs.Prelude.{◌≡◌, ◌⊎◌, ◌≤◌, ◌<◌, ◌+◌, ◌-◌, ℕ, zero, suc, List, [], ◌∷◌, Option, Some, None, Result, Ok, Err}
 use Rattle.ob_base.specs.declared.fault.Fault.{Fault}
 use Rattle.ob_store.specs.Disk.{Image}
+use Rattle.ob_store.specs.declared.event.Event.{Event}
+use Rattle.ob_seal.specs.declared.keys.Keys.{Keys}
 use Rattle.ob_seal.specs.Sealing.{Sealing}
 use Rattle.ob_seal.specs.Seals.{sealed}
 use Rattle.ob_twin.specs.Bodies.{open_gate, closed_gate}
+use Rattle.ob_twin.specs.Clear.{AreInClear, AreInClearBut}
+use Rattle.ob_twin.specs.Keyed.{tagging}
 use Rattle.ob_serial.specs.Vaults.{VaultAnswer, Values, Ended, RefusedBy, DoubtBy}
 use Rattle.ob_serial.specs.declared.vault.EndErr.{EndErr}
 use Rattle.ob_serial.specs.declared.vault.EndErr.TheVariants as end
@@ -67,3 +71,11 @@ abbrev pub answer_of_end : Result (Unit {0}) EndErr → VaultAnswer
 answer_of_end (Ok done) = Ended
 answer_of_end (Err (end.Before refused)) = RefusedBy refused
 answer_of_end (Err (end.Unsure refused)) = DoubtBy refused
+
+-- The first nine cells behind a call: each is as it was, or has what a register writes there; behind one that was refused, or left in
+-- doubt, but for one whose write the store refused.
+abbrev pub ClearBy : VaultAnswer → Keys → Option (List Event) → Image → Image → Type 0
+ClearBy (Values values) keys seen old new = AreInClear (tagging keys) old new
+ClearBy Ended keys seen old new = AreInClear (tagging keys) old new
+ClearBy (RefusedBy fault) keys seen old new = AreInClearBut (tagging keys) seen old new
+ClearBy (DoubtBy fault) keys seen old new = AreInClearBut (tagging keys) seen old new

@@ -2,7 +2,7 @@
 #![tactic(auto)]
 
 ghost use Rattle.ob_serial.specs.VaultKinds.{kind_of};
-ghost use Rattle.ob_pads.specs.Laws.{PadsAreFresh, GenerationsAreDurable, LivesJoin, RunsJoin, UnopenedLives, ChainsLive};
+ghost use Rattle.ob_pads.specs.Laws.{PadsAreFresh, GenerationsAreDurable, LivesJoin, RunsJoin, UnopenedLives, ChainsAreNumbered, ChainsLive};
 
 use ob_serial::Vault;
 use ob_store::Store;
@@ -26,7 +26,10 @@ pub fn runs_join<S: Store>()
     ensures unopened { UnopenedLives (λ store. S.disk store) }
 {}
 
-/// An opening, and the chain of calls of the vault over it, are a run.
+/// An opening, and the chain of calls of the vault over it, are a run; and where calls that were
+/// answered stand in front of those that weren't, the next seal has the number of the sealer
+/// between.
 pub fn chains_are_runs<V: Vault, S: Store>()
-    ensures { ChainsLive (kind_of V.Vault) (λ store. S.disk store) }
+    ensures live { ChainsLive (kind_of V.Vault) (λ store. S.disk store) }
+    ensures numbered { ChainsAreNumbered (kind_of V.Vault) (λ store. S.disk store) }
 {}
