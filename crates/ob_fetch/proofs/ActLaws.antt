@@ -7,6 +7,7 @@ use Rattle.ob_cells.specs.Runs.{IsFurther}
 use Rattle.ob_cells.specs.Writes.{WritesWithin}
 use Rattle.ob_pads.specs.Lives.{Answers, IsAtGeneration}
 use Rattle.ob_pads.specs.Seals.{CellsAreSealed, SealsBy, answer_of_fetch}
+use Rattle.ob_pads.proofs.Sealing.{kept_clear}
 use Rattle.ob_seal.specs.Sealing.{Sealing}
 use Rattle.ob_store.specs.Calls.{GoesOn}
 use Rattle.ob_store.specs.Disk.{Disk, Image}
@@ -34,5 +35,6 @@ module _ (p : Params) (area batch : ℕ) (old new : Disk) (only : (c : Image) �
     tells = tells;
     further = record { keys = further.keys; generation = further.generation; on = further.on };
     seals = fetch_seals out r sealed;
+    clear = kept_clear (answer_of_fetch out r) was.keys new.seen old.cells new.cells (λ cell low. (within.passes.told tells).1 cell (inl (omega (arith, low))));
     images = λ all. leaves_of (SameOff (log_cell p area batch 0) (record_cells p + 1)) at at old new within.passes only (λ c left. all c (inl left)) (λ told. all old.cells (inr (told, refl))) (λ c d stands step. moved c d step stands) (λ c stands. stands);
   }
