@@ -14,7 +14,7 @@ use Rattle.ob_fetch.specs.declared.run.Run.{Run}
 use Rattle.ob_fetch.specs.Fetches.{RunIsAt, RunsAt}
 use Rattle.ob_pads.specs.Lives.{Answers, IsAtGeneration}
 use Rattle.ob_pads.specs.Seals.{CellsAreSealed, SealsBy, answer_of_end}
-use Rattle.ob_pads.proofs.Sealing.{none_sealed, sealed_join}
+use Rattle.ob_pads.proofs.Sealing.{ended_clear, none_sealed, sealed_join}
 use Rattle.ob_ring.specs.FlatTable.{FlatTable}
 use Rattle.ob_seal.specs.Sealing.{Sealing}
 use Rattle.ob_seal.specs.declared.keys.Keys.{Keys}
@@ -26,6 +26,7 @@ use Rattle.ob_store.specs.Disk.{Disk, Image}
 use Rattle.ob_store.specs.Images.{Passes, Same}
 use Rattle.ob_store.proofs.Moments.{leaves_of, passed_then, passes_so}
 use Rattle.ob_twin.proofs.Frames.{register_moved}
+use Rattle.ob_twin.specs.Clear.{InClearBy}
 use Rattle.ob_twin.specs.Keyed.{tagging}
 use Rattle.ob_twin.specs.Refused.{IsSetFault}
 use Rattle.ob_twin.specs.Register.{SameOutside}
@@ -94,12 +95,13 @@ module _ {n : ℕ} (old new : Disk) (only : (c : Image) → old.left_since old.m
   end_seals (Err (end.Before f)) sealed = tt
   end_seals (Err (end.Unsure f)) sealed = sealed
 
-  pub end_acts : (r : Result (Unit {0}) EndErr) → IfEnded (CellsAreSealed was now old.cells new.cells) r → Answers old new was now (answer_of_end r)
-  end_acts r sealed = record {
+  pub end_acts : (r : Result (Unit {0}) EndErr) → IfEnded (CellsAreSealed was now old.cells new.cells) r → InClearBy (tagging was.keys) new.seen old.cells new.cells r → Answers old new was now (answer_of_end r)
+  end_acts r sealed clear = record {
     goes = goes;
     tells = tells;
     further = record { keys = further.keys; generation = further.generation; on = further.on };
     seals = end_seals r sealed;
+    clear = ended_clear r was.keys new.seen old.cells new.cells clear;
     images = λ all. leaves_of SameGeneration stood stood old new moments only (λ c left. all c (inl left)) (λ told. all old.cells (inr (told, refl))) (λ c d stands step. kept c d step stands) (λ c stands. stands);
   }
 

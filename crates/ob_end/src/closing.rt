@@ -12,6 +12,8 @@ ghost use Rattle.ob_stand.specs.Stands.{RingStanding, Stands};
 ghost use Rattle.ob_store.specs.Calls.{Serves};
 ghost use Rattle.ob_store.specs.Images.{IsSynced, Passes};
 ghost use Rattle.ob_twin.specs.declared.twin.Twin.TheVariants.{EPOCH};
+ghost use Rattle.ob_twin.specs.Clear.{InClearBy};
+ghost use Rattle.ob_twin.specs.Keyed.{tagging};
 ghost use Rattle.ob_twin.specs.Opening.{GatesAre, gates_set, is_closed_first};
 ghost use Rattle.ob_twin.specs.Refused.{IsSetFault};
 ghost use Rattle.ob_twin.specs.Register.{place_of};
@@ -73,6 +75,9 @@ pub fn close_epoch<R: Threads + Sync, S: Store, W: Watch>(
     // own, taken meanwhile.
     ensures sealed { (S.disk store.old).tells → IfWritten (CellsAreSealed sealer.old sealer.new
         (S.disk store.old).cells (S.disk store.new).cells) result }
+    // Each byte that it leaves in the clear is of a gate or of a number's body.
+    ensures clear { (S.disk store.new).tells → InClearBy (tagging sealer.old.keys)
+        (S.disk store.new).seen (S.disk store.old).cells (S.disk store.new).cells result }
     // Neither the head nor the register of generations is written.
     ensures moments { Passes SameGeneration (S.disk store.old) (S.disk store.new) }
     // Of each epoch that stands and each end of it that the ring makes.

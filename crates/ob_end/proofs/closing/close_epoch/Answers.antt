@@ -1,10 +1,12 @@
-use Rattle.std.proofs.Common.{◌≡◌, ◌+◌, arith, refl, subst, sym}
+use Rattle.std.proofs.Common.{◌≡◌, ◌+◌, inl, arith, refl, subst, sym}
 use Rattle.ob_end.specs.EndWrites.{all_seals, end_write_notes}
 use Rattle.ob_seal.specs.declared.keys.Keys.{Keys}
 use Rattle.ob_store.specs.Calls.{IsStoreFault}
 use Rattle.ob_store.specs.Images.{LeavesOnly}
 use Rattle.ob_store.proofs.Doing.{first_more}
 use Rattle.ob_store.proofs.Serving.{on_ok, serves_err, serves_then}
+use Rattle.ob_twin.proofs.Clear.{by_then, none_clear, set_clear}
+use Rattle.ob_twin.specs.Clear.{InClearBy}
 use Rattle.ob_twin.specs.Keyed.{tagging}
 use Rattle.ob_twin.specs.Opening.{is_closed_first}
 use Rattle.ob_twin.specs.Orders.{prepare_notes}
@@ -159,3 +161,20 @@ returns-clause-room g c = c.write_end.ensures.room
 
 pub returns-clause-sheet : goal.returns-clause-sheet
 returns-clause-sheet g c = c.write_end.ensures.sheet
+
+-- ---- in the clear
+
+pub returns-in-Err-clause-clear : goal.returns-in-Err-clause-clear
+returns-in-Err-clause-clear g c = λ tells cell low. inl (inl (c.write_end.ensures.first (c.write_end.ensures.serves.goes.told tells) cell (omega (arith, low))))
+
+pub returns-clause-clear : goal.returns-clause-clear
+returns-clause-clear g c = λ tells.
+    let keys = c.args.sealer.now.keys in
+    let old = (g.S.Store.disk c.args.store.now).cells in
+    let mid = (g.S.Store.disk c.write_end.new.store).cells in
+    let new = g.S.Store.disk c.set.new.store in
+    let there = c.set.ensures.serves.goes.told tells in
+    let here = c.write_end.ensures.serves.goes.told there in
+    by_then (tagging keys) old mid new.cells (none_clear (tagging keys) old mid (λ cell low. c.write_end.ensures.first here cell (omega (arith, low)))) new.seen c.set.result
+    (subst (λ (x : Keys). InClearBy (tagging x) new.seen mid new.cells c.set.result) c.in-Ok.ensures.seals.some.keys
+    (set_clear (tagging c.write_end.new.sealer.keys) EPOCH c.args.epoch (is_closed_first c.args.gates.now.epoch (place_of c.args.epoch)) new.seen mid new.cells c.requires.epoch c.set.result (c.set.ensures.done there) (c.set.ensures.refused tells)))

@@ -1,4 +1,4 @@
-use Rattle.std.proofs.Common.{◌≡◌, ◌≤◌, ◌+◌, ◌∙◌, suc, true, Ok, Err, ap, arith, refl, subst, sym}
+use Rattle.std.proofs.Common.{◌≡◌, ◌≤◌, ◌+◌, ◌∙◌, inl, suc, true, Ok, Err, ap, arith, refl, subst, sym}
 use Rattle.ob_base.specs.Planned.{most_jobs}
 use Rattle.ob_cells.specs.Jobs.{Manned}
 use Rattle.ob_end.specs.Lifts.{lift_cells, lift_jobs, lift_notes}
@@ -14,6 +14,10 @@ use Rattle.ob_serial.specs.declared.vault.EndErr.TheVariants as end
 use Rattle.ob_serial.specs.VaultViews.{IsEndFault, IsStoreEnd}
 use Rattle.ob_store.specs.Calls.{Serves, IsStoreFault}
 use Rattle.ob_store.specs.Images.{LeavesOnly}
+use Rattle.ob_twin.specs.Clear.{AreInClear, AreInClearBut}
+use Rattle.ob_twin.proofs.Clear.{both_clear, clear_but}
+use Rattle.ob_twin.specs.Keyed.{tagging}
+use Rattle.ob_seal.specs.Sealing.{Sealing}
 use Rattle.ob_twin.specs.Opening.{GatesAre, is_closed_first}
 use Rattle.ob_twin.specs.Register.{place_of}
 use Rattle.ob_twin.specs.declared.gates.Gates.{Gates}
@@ -672,6 +676,7 @@ returns-in-Err-clause-act g c = λ tells.
     let serves = returns-in-Err-clause-serves g c in
     end_acts (g.S.Store.disk c.args.store.now) (g.S.Store.disk c.make_end.new.store) (g.met.S.Store.only_now c.args.store.now) run.sealer c.make_end.new.run.sealer serves.goes tells (returns-in-Err-clause-seals g c table.0 table.1).some
     (returns-in-Err-clause-moments g c) (Err (end.Before c.in-Err.fault)) (returns-in-Err-clause-sealed g c (serves.goes.told tells))
+    (λ cell low. inl (inl (c.make_end.ensures.keeps.cells (serves.goes.told tells) cell)))
 
 pub returns-in-Err-close_epoch-clause-answered : goal.returns-in-Err-close_epoch-clause-answered
 returns-in-Err-close_epoch-clause-answered g c =
@@ -734,10 +739,13 @@ returns-in-Err-close_epoch-clause-tables g c =
 pub returns-in-Err-close_epoch-clause-act : goal.returns-in-Err-close_epoch-clause-act
 returns-in-Err-close_epoch-clause-act g c = λ tells.
     let run = c.args.run.now in
+    let new = g.S.Store.disk c.close_epoch.new.store in
     let table = c.requires.ready.ready.table in
     let serves = returns-in-Err-close_epoch-clause-serves g c in
     end_acts (g.S.Store.disk c.args.store.now) (g.S.Store.disk c.close_epoch.new.store) (g.met.S.Store.only_now c.args.store.now) run.sealer c.close_epoch.new.sealer serves.goes tells (returns-in-Err-close_epoch-clause-seals g c table.0 table.1).some
     (returns-in-Err-close_epoch-clause-moments g c) (Err c.end_err.result) (returns-in-Err-close_epoch-clause-sealed g c (serves.goes.told tells))
+    (clear_but (tagging run.sealer.keys) (g.S.Store.disk c.args.store.now).cells (g.S.Store.disk c.make_end.new.store).cells new.cells (λ cell low. inl (c.make_end.ensures.keeps.cells (serves.goes.told tells) cell)) new.seen
+    (subst (λ (s : Sealing). AreInClearBut (tagging s.keys) new.seen (g.S.Store.disk c.make_end.new.store).cells new.cells) (ap (λ (r : Run). r.sealer) c.make_end.ensures.kept) (c.in-Err-close_epoch.ensures.clear tells)))
 
 pub returns-clause-answered : goal.returns-clause-answered
 returns-clause-answered g c = record { answers = c.in-Ok.ensures.answers; damage = λ start t seals stands tells. tt; undamaged = λ s was. tt }
@@ -792,10 +800,13 @@ returns-clause-tables g c =
 pub returns-clause-act : goal.returns-clause-act
 returns-clause-act g c = λ tells.
     let run = c.args.run.now in
+    let new = g.S.Store.disk c.close_epoch.new.store in
     let table = c.requires.ready.ready.table in
     let serves = returns-clause-serves g c in
     end_acts (g.S.Store.disk c.args.store.now) (g.S.Store.disk c.close_epoch.new.store) (g.met.S.Store.only_now c.args.store.now) run.sealer c.close_epoch.new.sealer serves.goes tells (returns-clause-seals g c table.0 table.1).some
     (returns-clause-moments g c) (Ok tt) (returns-clause-sealed g c (serves.goes.told tells))
+    (both_clear (tagging run.sealer.keys) (g.S.Store.disk c.args.store.now).cells (g.S.Store.disk c.make_end.new.store).cells new.cells (λ cell low. inl (c.make_end.ensures.keeps.cells (serves.goes.told tells) cell))
+    (subst (λ (s : Sealing). AreInClear (tagging s.keys) (g.S.Store.disk c.make_end.new.store).cells new.cells) (ap (λ (r : Run). r.sealer) c.make_end.ensures.kept) (c.in-Ok-close_epoch.ensures.clear tells)))
 
 -- ---- what it answers
 
