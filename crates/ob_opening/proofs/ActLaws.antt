@@ -1,5 +1,5 @@
 -- An opening as acts of a life.
-use Rattle.std.specs.Prelude.{◌≡◌, ◌⊎◌, ℕ, zero, suc, ◌+◌, ◌-◌, ◌<◌, ◌≤◌, Bool, true, false, IsTrue, List, [], ◌∷◌, ◌++◌, length, map, take, Option, Some, None, Result, Ok, Err, IfOk, IfErr, is_ok}
+use Rattle.std.specs.Prelude.{◌≡◌, ◌⊎◌, ℕ, zero, suc, ◌+◌, ◌-◌, ◌<◌, ◌≤◌, Bool, true, false, IsTrue, List, [], ◌∷◌, ◌++◌, length, take, Option, Some, None, Result, Ok, Err, IfErr, is_ok}
 use Rattle.std.proofs.Common.{arith, inl, inr, ⊎_elim, refl, sym, ap, subst, ◌∙◌, append_assoc}
 use Rattle.std.proofs.lemmas.List.{append-nil, length-map, length-take-le, take_all}
 use Rattle.std.proofs.lemmas.Bool.{true≢false}
@@ -16,7 +16,7 @@ use Rattle.ob_store.specs.Told.{Tells, TellsFirst}
 use Rattle.ob_store.proofs.Doing.{first_all, first_behind}
 use Rattle.ob_seal.specs.declared.keys.Keys.{Keys}
 use Rattle.ob_twin.specs.Keyed.{tagging}
-use Rattle.ob_twin.specs.Opening.{GatesAre, HasOpen}
+use Rattle.ob_twin.specs.Opening.{GatesAre}
 use Rattle.ob_twin.specs.Register.{StandsAt}
 use Rattle.ob_twin.specs.declared.gates.Gates.{Gates}
 use Rattle.ob_twin.specs.declared.gates.Open.{Open as Known}
@@ -27,13 +27,13 @@ use Rattle.ob_log.specs.Logs.{BatchRecord, RecordFits, RecordsFit, record_at}
 use Rattle.ob_schedule.specs.Phases.{open_phases}
 use Rattle.ob_schedule.specs.Schedule.{Fills, Public, open_notes}
 use Rattle.ob_recover.specs.Life.{LifeAct, LifeState, Open, ShowBatch, WordId, IsActAllowed, IsLife, life_step, reached}
-use Rattle.ob_recover.specs.Calls.{CallLaw, Finds, Leaves, acts_of, repeated}
+use Rattle.ob_recover.specs.Calls.{Finds, repeated}
 use Rattle.ob_recover.proofs.Pads.{life_goes_on}
 use Rattle.ob_stand.specs.Stands.{OneOf, RingStanding, Stands, with_generation}
 use Rattle.ob_stand.proofs.OnceLaws.{register_once}
 use Rattle.ob_recover.specs.declared.found.Found.{Found}
 use Rattle.ob_recover.specs.Finds.{FindDoes, FindsPart, IsFoundInRing, IsFoundOf, ObeysFound, finding_notes}
-use Rattle.ob_recover.specs.Repeats.{RepeatsFirst, RepeatsTold}
+use Rattle.ob_recover.specs.Repeats.{RepeatsTold}
 use Rattle.ob_recover.proofs.FindLaws.{number_found}
 use Rattle.ob_recover.specs.Fronts.{AreFirstNotes}
 use Rattle.ob_recover.specs.Known.{fills_of, gates_open, public_of_kept}
@@ -41,8 +41,8 @@ use Rattle.ob_recover.specs.Lives.{IsLifeAt, life_batch}
 use Rattle.ob_recover.specs.Telling.{AreTold}
 use Rattle.ob_recover.proofs.ShownOpening.{cuts_of_fronts, openings_are_scheduled, openings_begin}
 use Rattle.ob_recover.proofs.Telling.{as_told, openings_are_told}
-use Rattle.ob_opening.specs.OpeningActs.{AreGatesIn, HasNotBegun, HasShown, IsLeftAt, OpensInLife, StandsInLife, notes_of_opening, opening_call, phases_of_opening}
-use Rattle.ob_opening.specs.OpeningRuns.{BeginsAt, OpeningLeaves, OpensFrom, begun_notes, next_notes}
+use Rattle.ob_opening.specs.OpeningActs.{AreGatesIn, IsLeftAt, OpensInLife, StandsInLife, notes_of_opening, phases_of_opening}
+use Rattle.ob_opening.specs.OpeningRuns.{OpeningLeaves, OpensFrom, begun_notes, next_notes}
 use Rattle.ob_opening.specs.OpeningParts.{FoundDoes, FoundRefused}
 use Rattle.ob_opening.specs.Openings.{OpensWhatStood}
 use Rattle.ob_opening.specs.declared.opening.Opening.{Opening}

@@ -1,4 +1,5 @@
 pub mod OrderLaws
+pub mod ClearLaws
 pub mod EpochLaws
 pub mod DrawLaws
 pub mod FirstLaws

@@ -11,6 +11,7 @@ use Rattle.ob_store.specs.Lines.{Trace}
 use Rattle.ob_store.proofs.Moments.{leaves_of, then_on, weakened}
 use Rattle.ob_seal.specs.Sealing.{Sealing}
 use Rattle.ob_seal.specs.declared.keys.Keys.{Keys}
+use Rattle.ob_twin.specs.Clear.{AreInClear, AreInClearBut, InClearBy}
 use Rattle.ob_twin.specs.Keyed.{tagging}
 use Rattle.ob_twin.specs.Register.{OldOrNew}
 use Rattle.ob_pads.specs.Lives.{IsAtGeneration, IsFormattedStore, LeavesUnopened, Opens}
@@ -43,8 +44,9 @@ module _ {S : Type 0} (disk : S → Disk) (keys : Keys) (p : Params) (old new : 
     told : (disk old).tells
     told = goes.told tells
 
-    opened_of : {L : Type 0} (most : ℕ) (before later : Trace) (o : Opening L) → IsRingOpened disk keys most p old new before later o → OpensFrom disk keys p old new → Opens keys (disk old) (disk new) o.sealer
-    opened_of most before later o is begins =
+    opened_of : {L : Type 0} (most : ℕ) (before later : Trace) (o : Opening L) → IsRingOpened disk keys most p old new before later o → OpensFrom disk keys p old new → AreInClear (tagging keys) (disk old).cells (disk new).cells
+        → Opens keys (disk old) (disk new) o.sealer
+    opened_of most before later o is begins clear =
         let found_in = (is.told told).found_in in
         let here : (g : ℕ) → IsAtGeneration keys g (disk old).cells → (is.found).generation ≡ g =
         λ g stands. generation_is keys p (disk old).cells is.found g found_in stands in
@@ -57,19 +59,21 @@ module _ {S : Type 0} (disk : S → Disk) (keys : Keys) (p : Params) (old new : 
           images = λ g stands c left. subst (λ (i : Image). IsAtGeneration keys (suc g) i) (sym (fun_ext (λ k. (is.told told).settled c left k)))
               (subst (λ n. IsAtGeneration keys (suc n) (disk new).cells) (here g stands) (is.stood told (subst (λ n. IsAtGeneration keys n (disk old).cells) (sym (here g stands)) stands)));
           crash = λ g stands. begun_leaves g told stands begins;
+          clear = clear;
         }
 
-    pub unopened_by : Passes Same (disk old) (disk new) ⊎ OpensFrom disk keys p old new → LeavesUnopened keys (disk old) (disk new)
-    unopened_by leaves = record {
+    pub unopened_by : Passes Same (disk old) (disk new) ⊎ OpensFrom disk keys p old new → AreInClearBut (tagging keys) (disk new).seen (disk old).cells (disk new).cells → LeavesUnopened keys (disk old) (disk new)
+    unopened_by leaves clear = record {
       goes = goes;
       tells = tells;
       crash = λ g stands. ⊎_elim (λ passes. reads_leave g (disk new) stands passes) (λ begun. begun_leaves g told stands begun) leaves;
+      clear = clear;
     }
 
     pub act_of : {L : Type 0} (most : ℕ) (before later : Trace) (r : Result (Opening L) Fault) → IfOk r (IsRingOpened disk keys most p old new before later) → OpeningLeaves disk keys p old new r
-        → MatchResult r (λ o. Opens keys (disk old) (disk new) o.sealer) (λ refused. LeavesUnopened keys (disk old) (disk new))
-    act_of most before later (Ok o) is begins = opened_of most before later o is begins
-    act_of most before later (Err f) is leaves = unopened_by leaves
+        → InClearBy (tagging keys) (disk new).seen (disk old).cells (disk new).cells r → MatchResult r (λ o. Opens keys (disk old) (disk new) o.sealer) (λ refused. LeavesUnopened keys (disk old) (disk new))
+    act_of most before later (Ok o) is begins clear = opened_of most before later o is begins clear
+    act_of most before later (Err f) is leaves clear = unopened_by leaves clear
 
 -- a store that was formatted stands at generation 1
 pub formatted_store : {S : Type 0} (disk : S → Disk) (keys : Keys) (p : Params) (drawn : List ℕ) (new : S) → (disk new).tells → (disk new).leaves

@@ -1,11 +1,12 @@
 -- A new ring store: what its format draws, writes and leaves.
-use Rattle.std.specs.Prelude.{◌≡◌, ◌⊎◌, ◌<◌, ℕ, ◌+◌, ◌*◌, true, List, [], ◌∷◌, ◌++◌, replicate, take, drop, None, Result, Ok, Err}
+use Rattle.std.specs.Prelude.{◌≡◌, ◌⊎◌, ◌<◌, ℕ, ◌+◌, ◌*◌, true, List, [], ◌∷◌, ◌++◌, replicate, take, drop, Option, None, Result, Ok, Err, OnOk}
 use Rattle.ob_base.specs.declared.params.Params.{Params}
 use Rattle.ob_base.specs.declared.fault.Fault.{Fault}
 use Rattle.ob_base.specs.declared.fault.Fault.TheVariants as fault
 use Rattle.ob_base.specs.Tree.{buckets, width}
 use Rattle.std.specs.FinMap as finite
 use Rattle.ob_base.specs.Layout.{checkpoint_cells, log_gate, slot_cell}
+use Rattle.ob_store.specs.declared.event.Event.{Event}
 use Rattle.ob_store.specs.declared.watch.Note.{Note}
 use Rattle.ob_store.specs.declared.watch.Note.TheVariants.{Sync}
 use Rattle.ob_store.specs.Runs.{write_notes}
@@ -20,6 +21,8 @@ use Rattle.ob_twin.specs.Orders.{set_notes}
 use Rattle.ob_check.specs.Written as check
 use Rattle.ob_check.specs.Written.{area_of}
 use Rattle.ob_twin.specs.Register.{StandsAt}
+use Rattle.ob_start.specs.Clear.{LaidInClearBy}
+use Rattle.ob_start.specs.Heads.{head_cell}
 use Rattle.ob_start.specs.Laying.{HasNoHead, IsTornHead}
 use Rattle.ob_start.specs.Orders.{lay_notes}
 use Rattle.ob_tables.specs.Rank.{ranks_of}
@@ -74,6 +77,17 @@ pub record IsRingLaid (keys : Keys) (p : Params) (drawn : List ℕ) (image : Ima
 -- is made.
 abbrev pub RingFormatLeaves : Keys → Params → List ℕ → Disk → Image → Type 0
 RingFormatLeaves keys p drawn old image = IsTornHead old image ⊎ HasNoHead image ⊎ IsRingLaid keys p drawn image
+
+-- ---- what it leaves in the clear
+
+-- the head's cell is blank, or has the head of these parameters, each byte of it
+abbrev pub IsHeadOrBlank : Keys → Params → List ℕ → Type 0
+IsHeadOrBlank keys p bytes = (bytes ≡ replicate 128 0) ⊎ (bytes ≡ head_cell keys 1 p)
+
+-- The head, and no other byte, in its cell, and in each of the registers' what it had, or what a register writes there. Refused, the head's
+-- cell may be blank, or as it was; and a cell whose write the store refused may have anything.
+abbrev pub FormatsInClear : {T E : Type 0} → Keys → Params → Option (List Event) → Image → Image → Result T E → Type 0
+FormatsInClear keys p seen old new result = LaidInClearBy (IsHeadOrBlank keys p) (tagging keys) seen old new result × OnOk result (new 0 ≡ head_cell keys 1 p)
 
 -- ---- the first generation
 

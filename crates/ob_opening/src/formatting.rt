@@ -17,10 +17,11 @@ ghost use Rattle.ob_stand.specs.Fresh.{fresh_content};
 ghost use Rattle.ob_opening.specs.OpeningActs.{AreSlotsIn, StandsInLife};
 ghost use Rattle.ob_start.specs.Laying.{SameHead};
 ghost use Rattle.ob_stand.specs.Stands.{Stands};
+ghost use Rattle.ob_twin.specs.Clear.{InClearBy};
 ghost use Rattle.ob_twin.specs.Keyed.{tagging};
 ghost use Rattle.ob_twin.specs.Reading.{NoneOpen};
 ghost use Rattle.ob_twin.specs.Register.{StandsAt};
-ghost use Rattle.ob_opening.specs.Formats.{BeginsFirst, IsBlankTables, HasBlankSlots, HasClosedLogs, IsRingLaid, FormatBegins, RingFormatLeaves, IsFormatFault, all_gates, drawn_ranks, epoch_notes, format_words, formatted_standing};
+ghost use Rattle.ob_opening.specs.Formats.{BeginsFirst, IsBlankTables, HasBlankSlots, HasClosedLogs, IsRingLaid, FormatBegins, FormatsInClear, RingFormatLeaves, IsFormatFault, all_gates, drawn_ranks, epoch_notes, format_words, formatted_standing};
 
 use crate::drawing::fill_all;
 use crate::gates::log_gates;
@@ -30,9 +31,9 @@ use ob_check::Sheet;
 use ob_recover::VERSION;
 use ob_seal::{Keys, Sealer, Tape};
 use ob_start::{head_cell, lay_registers, set_first};
-use ob_store::{Store, Watch, sync_noted, write_through};
+use ob_store::{Store, Watch, sync_noted};
 use ob_tables::{Book, Metas, Stash, Tables};
-use ob_twin::Twin;
+use ob_twin::{Twin, write_out};
 use std::alloc::Global;
 use std::thread::Threads;
 
@@ -126,6 +127,8 @@ fn lay_epoch<R: Threads + Sync, S: Store, W: Watch>(
     ensures checkpoint { (S.disk store.old).tells
         → OnOk result (check.HoldsCheckpointFrom sealer.old.keys p.now 0 (content_of tables.now)
         sealer.old.generation (buckets p.now * width p.now) (S.disk store.new).cells) }
+    ensures clear { (S.disk store.new).tells → InClearBy (tagging sealer.old.keys)
+        (S.disk store.new).seen (S.disk store.old).cells (S.disk store.new).cells result }
     ensures same_keys { sealer.new.keys ≡ sealer.old.keys }
     ensures low { (S.disk store.old).tells → (k : ℕ) → k < 5 → (S.disk store.new).cells k
         ≡ (S.disk store.old).cells k }
@@ -185,6 +188,8 @@ fn lay<R: Threads + Sync, S: Store, T: Tape, W: Watch>(
     ensures laid { (S.disk store.old).tells
         → OnOk result (IsRingLaid sealer.old.keys p.now (T.drawn tape.new)
         (S.disk store.new).cells) }
+    ensures clear { (S.disk store.new).tells → FormatsInClear sealer.old.keys p.now
+        (S.disk store.new).seen (S.disk store.old).cells (S.disk store.new).cells result }
     ensures durable { (S.disk store.old).tells → OnOk result (IsSynced (S.disk store.new)) }
     ensures crash { (S.disk store.old).tells
         → LeavesOnly (S.disk store.old) (S.disk store.new)
@@ -205,7 +210,7 @@ fn lay<R: Threads + Sync, S: Store, T: Tape, W: Watch>(
         Ok(()) => {}
         Err(failed) => return Err(failed),
     }
-    write_through(store, 0, &head_cell(sealer, VERSION, p), watch)
+    write_out(store, 0, &head_cell(sealer, VERSION, p), watch)
 }
 
 /// Makes a ring store of these parameters without a key, at epoch 0 and generation 1: no head, then
@@ -255,6 +260,9 @@ pub fn format<R: Threads + Sync, S: Store, T: Tape, W: Watch>(
     // checkpoint's.
     ensures laid { (S.disk store.old).tells
         → OnOk result (IsRingLaid keys.now p.now (T.drawn tape.new) (S.disk store.new).cells) }
+    // In the clear it leaves the head and what registers write there, each byte of it.
+    ensures clear { (S.disk store.new).tells → FormatsInClear keys.now p.now
+        (S.disk store.new).seen (S.disk store.old).cells (S.disk store.new).cells result }
     // Each gate of both logs has the bytes of a closed one.
     ensures closed { (S.disk store.old).tells
         → OnOk result (HasClosedLogs p.now (S.disk store.new).cells) }

@@ -5,6 +5,7 @@ ghost use Rattle.ob_store.specs.Calls.{Serves, IsStoreFault};
 ghost use Rattle.ob_pads.specs.Lives.{LeavesUnopened, Opens};
 ghost use Rattle.ob_stand.specs.Stands.{RingStanding, Stands};
 ghost use Rattle.ob_recover.specs.Finds.{IsFoundInRing, ObeysFound};
+ghost use Rattle.ob_twin.specs.Clear.{InClearBy};
 ghost use Rattle.ob_twin.specs.Keyed.{tagging};
 ghost use Rattle.ob_twin.specs.Register.{StandsAt};
 ghost use Rattle.ob_recover.specs.Life.{LifeAct, LifeState, WordId};
@@ -55,6 +56,8 @@ fn open_found<S: Lanes, R: Threads + Sync, T: Tape, W: Watch>(
         → OnOk result (StandsAt (tagging keys.now) 1 (S.disk store.new).cells
         (suc found.generation)) }
     ensures leaves { OpeningLeaves S.disk keys.now p.now store.old store.new result }
+    ensures clear { (S.disk store.new).tells → InClearBy (tagging keys.now) (S.disk store.new).seen
+        (S.disk store.old).cells (S.disk store.new).cells result }
     ensures begins { OnOk result (BeginsAt S.disk keys.now (next_notes found) found.generation
         store.old store.new) }
     ensures tape { OnOk result (IsAtStart (T.present tape.new) (T.drawn tape.new)

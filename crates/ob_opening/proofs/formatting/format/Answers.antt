@@ -1,12 +1,13 @@
-use Rattle.std.proofs.Common.{[], ap, sym, subst, ◌∙◌, ◌≡◌, ◌⊎◌, inl, inr, None, refl, arith}
+use Rattle.std.proofs.Common.{[], ap, sym, subst, ◌∙◌, ◌≡◌, ◌⊎◌, inl, inr, None, Ok, Err, refl, arith}
 use mathlib.Core.Path.{fun_ext}
+use Rattle.ob_base.specs.declared.fault.Failed.{Failed}
 use Rattle.ob_base.specs.declared.fault.Fault.TheVariants.{Memory, StoreFault}
 use Rattle.ob_store.specs.Disk.{Image}
 use Rattle.ob_store.proofs.Doing.{does_all, does_err, first_all, first_more, tells_none}
 use Rattle.ob_seal.specs.Sealing.{Sealing}
 use Rattle.ob_schedule.specs.Schedule.{format_notes}
 use Rattle.ob_stand.specs.Stands.{Stands}
-use Rattle.ob_opening.specs.Formats.{formatted_standing, BeginsFirst, IsRingLaid, RingFormatLeaves}
+use Rattle.ob_opening.specs.Formats.{formatted_standing, BeginsFirst, FormatsInClear, IsRingLaid, RingFormatLeaves}
 use Rattle.ob_opening.proofs.FirstLives.{first_stands}
 use Rattle.ob_opening.proofs.PadLaws.{formatted_store}
 use Rattle.ob_store.specs.Calls.{IsFailed, IsStoreFault}
@@ -122,3 +123,18 @@ returns-in-Ok-lay-clause-durable g c = c.in-Ok-lay.ensures.durable
 
 pub returns-in-Ok-lay-clause-does : goal.returns-in-Ok-lay-clause-does
 returns-in-Ok-lay-clause-does g c = does_all _ _ _ _ (format_notes c.args.p.now) tt c.in-Ok-lay.ensures.does.all
+
+-- ---- in the clear
+
+pub returns-in-Err-clause-clear : goal.returns-in-Err-clause-clear
+returns-in-Err-clause-clear g c = λ tells. ((λ cell low. inl (inl (inl refl))), tt)
+
+pub returns-in-Ok-lay-clause-clear : goal.returns-in-Ok-lay-clause-clear
+returns-in-Ok-lay-clause-clear g c = λ tells.
+    let new = g.S.Store.disk c.lay.new.store in
+    subst (λ (s : Sealing). FormatsInClear {T = Unit {0}} {E = Failed} s.keys c.args.p.now new.seen (g.S.Store.disk c.args.store.now).cells new.cells (Ok tt)) c.new-sealer.ensures (c.in-Ok-lay.ensures.clear tells)
+
+pub returns-clause-clear : goal.returns-clause-clear
+returns-clause-clear g c = λ tells.
+    let new = g.S.Store.disk c.lay.new.store in
+    subst (λ (s : Sealing). FormatsInClear {T = Unit {0}} {E = Failed} s.keys c.args.p.now new.seen (g.S.Store.disk c.args.store.now).cells new.cells (Err c.in-Err-lay.field-0)) c.new-sealer.ensures (c.in-Err-lay.ensures.clear tells)

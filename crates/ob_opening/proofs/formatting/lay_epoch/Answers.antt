@@ -16,6 +16,8 @@ use Rattle.ob_opening.proofs.EpochLaws.{before_both, before_slots, cells_fit, ch
 use Rattle.ob_check.specs.Written as check
 use Rattle.ob_seal.specs.declared.keys.Keys.{Keys}
 use Rattle.ob_tables.specs.Content.{content_of}
+use Rattle.ob_twin.specs.Clear.{InClearBy}
+use Rattle.ob_twin.proofs.Clear.{by_then, none_clear}
 use Rattle.ob_twin.specs.Keyed.{tagging}
 use Rattle.ob_twin.specs.Register.{StandsAt}
 use Rattle.ob_store.specs.Calls.{IsFailed}
@@ -252,3 +254,40 @@ returns-clause-durable g c = λ tells.
     let two = c.in-Ok-write.ensures.serves.tells one in
     let keeps = c.sync_noted.ensures.keeps in
     c.set_first.ensures.durable (keeps.tells two)
+
+-- ---- in the clear
+
+pub returns-in-Err-clause-clear : goal.returns-in-Err-clause-clear
+returns-in-Err-clause-clear g c = λ told cell low.
+    let tells = c.write_long.ensures.serves.goes.told told in
+    inl (inl (before_slots c.args.p.now c.slot_cell.result _ cell _ _ c.slot_cell.ensures.cell (omega (arith, low)) (c.write_long.ensures.run.within.rest tells)))
+
+pub returns-in-Err-write-clause-clear : goal.returns-in-Err-write-clause-clear
+returns-in-Err-write-clause-clear g c = λ told cell low.
+    let one = c.write.ensures.serves.goes.told told in
+    let tells = c.write_long.ensures.serves.goes.told one in
+    inl (inl (before_both c.args.p.now c.slot_cell.result _ cell _ _ _ c.slot_cell.ensures.cell (omega (arith, low)) (c.write.ensures.rest one) (c.write_long.ensures.run.within.rest tells)))
+
+pub returns-in-Err-sync_noted-clause-clear : goal.returns-in-Err-sync_noted-clause-clear
+returns-in-Err-sync_noted-clause-clear g c = λ told cell low.
+    let two = c.sync_noted.ensures.serves.goes.told told in
+    let one = c.write.ensures.serves.goes.told two in
+    let tells = c.write_long.ensures.serves.goes.told one in
+    inl (inl (c.sync_noted.ensures.keeps.cells two cell
+    ∙ before_both c.args.p.now c.slot_cell.result _ cell _ _ _ c.slot_cell.ensures.cell (omega (arith, low)) (c.write.ensures.rest one) (c.write_long.ensures.run.within.rest tells)))
+
+pub returns-clause-clear : goal.returns-clause-clear
+returns-clause-clear g c = λ told.
+    let old = (g.S.Store.disk c.args.store.now).cells in
+    let mid = (g.S.Store.disk c.sync_noted.new.store).cells in
+    let new = g.S.Store.disk c.set_first.new.store in
+    let keys = c.args.sealer.now.keys in
+    let three = c.set_first.ensures.serves.goes.told told in
+    let two = c.sync_noted.ensures.serves.goes.told three in
+    let one = c.write.ensures.serves.goes.told two in
+    let tells = c.write_long.ensures.serves.goes.told one in
+    by_then (tagging keys) old mid new.cells
+    (none_clear (tagging keys) old mid (λ cell low. c.sync_noted.ensures.keeps.cells two cell
+    ∙ before_both c.args.p.now c.slot_cell.result _ cell _ _ _ c.slot_cell.ensures.cell (omega (arith, low)) (c.write.ensures.rest one) (c.write_long.ensures.run.within.rest tells)))
+    new.seen c.set_first.result
+    (subst (λ (x : Keys). InClearBy (tagging x) new.seen mid new.cells c.set_first.result) (c.write.ensures.some_sealed.keys ∙ c.write_long.ensures.run.seals.some.keys) (c.set_first.ensures.clear told))

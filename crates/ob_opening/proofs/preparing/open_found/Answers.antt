@@ -6,7 +6,10 @@ use Rattle.ob_start.specs.Beginning.{BeginLeaves, BeginsFrom}
 use Rattle.ob_store.specs.Calls.{IsStoreFault}
 use Rattle.ob_store.proofs.Serving.{goes_then, serves_err, serves_ok, serves_then}
 use Rattle.ob_tables.specs.Content.{content_of}
+use Rattle.ob_twin.specs.declared.gates.Gates.{Gates}
 use Rattle.ob_twin.specs.declared.gates.Open.{Open}
+use Rattle.ob_twin.specs.Clear.{AreInClear, AreInClearBut}
+use Rattle.ob_twin.proofs.Clear.{both_clear, none_clear}
 use Rattle.ob_twin.specs.Keyed.{tagging}
 use Rattle.ob_twin.specs.Register.{KeepsAt, SameOutside, StandsAt}
 use Rattle.ob_twin.specs.Opening.{GatesAre}
@@ -215,7 +218,7 @@ returns-clause-told g c = λ tells.
       rest = rest;
       settled = synced_on mid new (c.in-Ok.ensures.durable tells) c.in-Ok-replay.ensures.passes (keeps.cells told);
       generation_gates = gates_moved c.begin.new.gates.generation 1 new.cells mid.cells (λ k from to. keeps.cells told k) (c.in-Ok.ensures.known tells);
-      epoch_gates = subst (λ (known : Open). GatesAre known 5 new.cells) (sym c.begin.ensures.epoch) (gates_moved found.gates.epoch 5 new.cells old (λ k from to. rest k (inr from)) was.epoch_gates);
+      epoch_gates = subst (λ (known : Open). GatesAre known 5 new.cells) (sym (ap (λ (x : Gates). x.epoch) c.in-Ok.ensures.gates)) (gates_moved found.gates.epoch 5 new.cells old (λ k from to. rest k (inr from)) was.epoch_gates);
     }
 
 pub returns-clause-stood : goal.returns-clause-stood
@@ -262,3 +265,30 @@ replay-requires-clause-crew g c κs within = subst (λ (m : Manned). most_jobs c
 
 pub returns-clause-lanes : goal.returns-clause-lanes
 returns-clause-lanes g c = ap (λ (m : Manned). m.lanes) c.in-Ok-replay.ensures.crew
+
+-- ---- in the clear
+
+pub returns-in-Err-clause-clear : goal.returns-in-Err-clause-clear
+returns-in-Err-clause-clear g c = λ tells.
+    let new = g.S.Store.disk c.begin.new.store in
+    subst (λ (s : Sealing). AreInClearBut (tagging s.keys) new.seen (g.S.Store.disk c.args.store.now).cells new.cells) c.new-known.ensures (c.in-Err.ensures.clear tells)
+
+pub returns-in-Err-replay-clause-clear : goal.returns-in-Err-replay-clause-clear
+returns-in-Err-replay-clause-clear g c = λ tells cell low.
+    let tag = tagging c.args.keys.now in
+    let old = (g.S.Store.disk c.args.store.now).cells in
+    let mid = (g.S.Store.disk c.begin.new.store).cells in
+    let new = (g.S.Store.disk c.replay.new.store).cells in
+    let there = c.in-Err-replay.ensures.serves.goes.told tells in
+    inl (both_clear tag old mid new (subst (λ (s : Sealing). AreInClear (tagging s.keys) old mid) c.new-known.ensures (c.in-Ok.ensures.clear there))
+    (none_clear tag mid new (λ k here. c.in-Err-replay.ensures.keeps.cells there k)) cell low)
+
+pub returns-clause-clear : goal.returns-clause-clear
+returns-clause-clear g c = λ tells.
+    let tag = tagging c.args.keys.now in
+    let old = (g.S.Store.disk c.args.store.now).cells in
+    let mid = (g.S.Store.disk c.begin.new.store).cells in
+    let new = g.S.Store.disk c.replay.new.store in
+    let there = c.in-Ok-replay.ensures.serves.goes.told tells in
+    both_clear tag old mid new.cells (subst (λ (s : Sealing). AreInClear (tagging s.keys) old mid) c.new-known.ensures (c.in-Ok.ensures.clear there))
+    (none_clear tag mid new.cells (λ cell low. c.in-Ok-replay.ensures.keeps.cells there cell))

@@ -13,6 +13,7 @@ use Rattle.ob_start.specs.Orders.{registers_notes}
 use Rattle.ob_recover.specs.Finds.{IsFoundOf}
 use Rattle.ob_stand.specs.Stands.{RingStanding, Stands}
 use Rattle.ob_stand.proofs.Frames.{stands_all}
+use Rattle.ob_twin.proofs.Clear.{by_then, none_clear}
 use Rattle.ob_twin.specs.Keyed.{tagging}
 use Rattle.ob_twin.specs.Register.{StandsAt}
 use Rattle.ob_opening.specs.OpeningParts.{IsFoundRefusal}
@@ -215,15 +216,21 @@ returns-in-Err-find-clause-tape_err g c = inl refl
 pub returns-in-Err-clause-act : goal.returns-in-Err-clause-act
 returns-in-Err-clause-act g c = λ tells.
     let store = c.args.store.now in
-    unopened_by g.S.Store.disk c.args.keys.now c.args.p.now store store (g.met.S.Store.only_now store) (goes_same (g.S.Store.disk store)) tells (returns-in-Err-clause-leaves g c)
+    unopened_by g.S.Store.disk c.args.keys.now c.args.p.now store store (g.met.S.Store.only_now store) (goes_same (g.S.Store.disk store)) tells (returns-in-Err-clause-leaves g c) (λ cell low. inl (inl refl))
 
 pub returns-in-Err-find-clause-act : goal.returns-in-Err-find-clause-act
 returns-in-Err-find-clause-act g c = λ tells.
     let store = c.args.store.now in
     unopened_by g.S.Store.disk c.args.keys.now c.args.p.now store c.find.new.store (g.met.S.Store.only_now store) c.in-Err-find.ensures.serves.goes tells (returns-in-Err-find-clause-leaves g c)
+    (λ cell low. inl (inl (c.in-Err-find.ensures.keeps.cells (c.in-Err-find.ensures.serves.goes.told tells) cell)))
 
 pub returns-clause-act : goal.returns-clause-act
 returns-clause-act g c = λ tells.
     let store = c.args.store.now in
+    let tag = tagging c.args.keys.now in
+    let mid = (g.S.Store.disk c.find.new.store).cells in
+    let new = g.S.Store.disk c.open_found.new.store in
+    let here = c.find.ensures.serves.goes.told (c.open_found.ensures.serves.goes.told tells) in
     act_of g.S.Store.disk c.args.keys.now c.args.p.now store c.open_found.new.store (g.met.S.Store.only_now store) (returns-clause-serves g c).goes tells c.args.lanes (g.W.Watch.trace c.args.watch.now) (g.W.Watch.trace c.open_found.new.watch)
     c.open_found.result (returns-clause-opened g c) (returns-clause-leaves g c)
+    (by_then tag (g.S.Store.disk store).cells mid new.cells (none_clear tag (g.S.Store.disk store).cells mid (λ cell low. c.in-Ok-find.ensures.keeps.cells here cell)) new.seen c.open_found.result (c.open_found.ensures.clear tells))
