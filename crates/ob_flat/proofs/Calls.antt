@@ -157,5 +157,6 @@ module _ {S : Type 0} (disk : S → Disk) (only : (store : S) (c : Image) → (d
     tells = tells;
     further = further p known epoch values before after old new notes call answer f.does;
     seals = seals_by call answer (f.goes.told tells) f.does f.rest;
+    clear = f.clear tells;
     images = λ all. leaves_of (SameOffEpoch p.keys (suc epoch)) stands stands old new f.passes (only before.store) (λ c left. all c (inl left)) (λ told. all old.cells (inr (told, refl))) (λ c d at step. moved c d step at) (λ c at. at);
   }

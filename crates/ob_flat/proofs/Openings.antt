@@ -1,5 +1,5 @@
 -- Openings as acts.
-use Rattle.std.proofs.Common.{◌⊎◌, inl, inr, ⊎_elim, ℕ, suc, Result, Ok, Err, OnOk, OnErr, sym, subst}
+use Rattle.std.proofs.Common.{◌⊎◌, inl, inr, ⊎_elim, ℕ, suc, Result, Ok, Err, OnOk, OnErr, ap, sym, subst}
 use Rattle.std.specs.Prelude.{IfOk}
 use mathlib.Core.Path.{fun_ext}
 use Rattle.ob_base.specs.declared.params.Params.{Params}
@@ -9,6 +9,7 @@ use Rattle.ob_store.specs.Images.{Same, IsSynced, Passes, LeavesOnly}
 use Rattle.ob_store.specs.Calls.{GoesOn}
 use Rattle.ob_store.proofs.Moments.{leaves_of, then_on, weakened}
 use Rattle.ob_seal.specs.declared.keys.Keys.{Keys}
+use Rattle.ob_twin.specs.Clear.{InClearBy}
 use Rattle.ob_twin.specs.Keyed.{tagging}
 use Rattle.ob_twin.specs.Register.{OldOrNew}
 use Rattle.ob_start.specs.Beginning.{BeginsFrom}
@@ -38,14 +39,15 @@ module _ {S : Type 0} (disk : S → Disk) (keys : Keys) (old new : S) (only : (c
       (b.since tells stands))
 
   pub reads_unopened : GoesOn (disk old) (disk new) → (disk new).tells → Passes Same (disk old) (disk new) → LeavesUnopened keys (disk old) (disk new)
-  reads_unopened goes tells passes = record { goes = goes; tells = tells; crash = λ g stands. reads_leave g (disk new) stands passes }
+  reads_unopened goes tells passes = record { goes = goes; tells = tells; crash = λ g stands. reads_leave g (disk new) stands passes; clear = λ cell low. inl (inl (ap (λ (i : Image). i cell) (passes.told tells).1)) }
 
   module _ (goes : GoesOn (disk old) (disk new)) (tells : (disk new).tells) where
     told : (disk old).tells
     told = goes.told tells
 
-    pub opens_of : (r : Result Opening Fault) → IfOk r (λ o. HasSealedNothing keys o.sealer) → IfOk r (λ o. (disk old).tells → IsSynced (disk new)) → OpeningBegins disk keys old new r → IfOk r (λ o. Opens keys (disk old) (disk new) o.sealer)
-    opens_of (Ok o) fresh durable begins = record {
+    pub opens_of : (r : Result Opening Fault) → IfOk r (λ o. HasSealedNothing keys o.sealer) → IfOk r (λ o. (disk old).tells → IsSynced (disk new)) → OpeningBegins disk keys old new r
+        → InClearBy (tagging keys) (disk new).seen (disk old).cells (disk new).cells r → IfOk r (λ o. Opens keys (disk old) (disk new) o.sealer)
+    opens_of (Ok o) fresh durable begins clear = record {
       goes = goes;
       tells = tells;
       keys_are = fresh.keys_are;
@@ -53,15 +55,17 @@ module _ {S : Type 0} (disk : S → Disk) (keys : Keys) (old new : S) (only : (c
       next = λ g stands. (begins g told stands).next;
       images = λ g stands c left. subst (λ (i : Image). IsAtGeneration keys (suc g) i) (sym (fun_ext (λ k. durable told c left k))) (begins g told stands).stands;
       crash = λ g stands. begun_leaves g told stands (begins g told stands).leaves;
+      clear = clear;
     }
-    opens_of (Err f) fresh durable begins = tt
+    opens_of (Err f) fresh durable begins clear = tt
 
-    pub unopened_of : (r : Result Opening Fault) → OpeningBegins disk keys old new r → OnErr r (LeavesUnopened keys (disk old) (disk new))
-    unopened_of (Ok o) begins = tt
-    unopened_of (Err f) begins = record {
+    pub unopened_of : (r : Result Opening Fault) → OpeningBegins disk keys old new r → InClearBy (tagging keys) (disk new).seen (disk old).cells (disk new).cells r → OnErr r (LeavesUnopened keys (disk old) (disk new))
+    unopened_of (Ok o) begins clear = tt
+    unopened_of (Err f) begins clear = record {
       goes = goes;
       tells = tells;
       crash = λ g stands. ⊎_elim (λ passes. reads_leave g (disk new) stands passes) (λ begun. begun_leaves g told stands (begun g told stands)) begins;
+      clear = clear;
     }
 
 -- a store that was formatted

@@ -177,6 +177,7 @@ none_opened disk keys p s t only =
       since = inl (passed_none d Same (λ c. refl));
       register = inl (passed_none d Same (λ c. refl));
       order = inl (first_none registers_notes d.seen d.seen t (none_noted d.seen));
+      clear = λ tells cell low. inl (inl refl);
       unwritten = λ own. none_alone p.keys d t;
     }
 

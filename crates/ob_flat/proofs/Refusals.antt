@@ -1,5 +1,6 @@
 -- What a refused end of an epoch leaves and tells.
 use Rattle.std.proofs.Common.{◌≡◌, ◌⊎◌, inl, inr, ⊎_elim, ℕ, suc, ◌+◌, ◌≤◌, ◌<◌, ◌^◌, List, length, Option, None, Err, refl, sym, subst}
+use Rattle.ob_store.specs.declared.event.Event.{Event}
 use Rattle.ob_base.specs.declared.params.Params.{Params}
 use Rattle.ob_base.specs.declared.fault.Fault.{Fault}
 use Rattle.ob_base.specs.declared.fault.Fault.TheVariants.{StoreFault}
@@ -16,7 +17,10 @@ use Rattle.ob_twin.specs.declared.gates.Open.{Open}
 use Rattle.ob_twin.specs.declared.twin.Twin.TheVariants.{EPOCH}
 use Rattle.ob_twin.specs.declared.set_err.SetErr.{SetErr}
 use Rattle.ob_twin.specs.declared.set_err.SetErr.TheVariants.{Before, Unsure}
+use Rattle.ob_twin.specs.Clear.{AreInClearBut}
+use Rattle.ob_twin.specs.Keyed.{tagging}
 use Rattle.ob_twin.specs.Refused.{IsSetFault, IsBefore}
+use Rattle.ob_pads.specs.Seals.{ClearBy}
 use Rattle.ob_serial.specs.declared.vault.EndErr.{EndErr}
 use Rattle.ob_serial.specs.declared.vault.EndErr.TheVariants as end
 use Rattle.ob_serial.specs.Vaults.{Standing, RefusedBy}
@@ -63,3 +67,8 @@ module _ {S : Type 0} (p : Params) (known : Open) (epoch : ℕ) (values : List (
   pub values_free : (kept : List (Option (List ℕ))) (notes : List Note) (r : EndErr) → EndDoes p known epoch values before after old new notes (end_answer (Err r)) → EndDoes p known epoch kept before after old new notes (end_answer (Err r))
   values_free kept notes (end.Before fault) does = does
   values_free kept notes (end.Unsure fault) does = does
+
+-- what a refused end leaves in the clear
+pub closed_clear : (keys : Keys) (seen : Option (List Event)) (old new : Image) (refused : SetErr) → AreInClearBut (tagging keys) seen old new → ClearBy (end_answer (Err (end_err_of refused))) keys seen old new
+closed_clear keys seen old new (Before f) clear = clear
+closed_clear keys seen old new (Unsure f) clear = clear

@@ -16,6 +16,7 @@ use Rattle.ob_flat.specs.Rows.{row_cells}
 use Rattle.ob_twin.specs.declared.gates.Open.{Open}
 use Rattle.ob_twin.specs.Register.{place_of}
 use Rattle.ob_twin.specs.Opening.{with_mark}
+use Rattle.ob_pads.specs.Seals.{ClearBy}
 use Rattle.ob_serial.specs.Vaults.{VaultState, VaultCounts, VaultCall, Fetch, End, VaultAnswer, Values, Ended, RefusedBy, DoubtBy, Standing, standing_now, counts_of, MayStand, StandsIn}
 use Rattle.ob_flat.specs.Places.{area_of}
 use Rattle.ob_flat.specs.Standing.{IsMapOf, StandsFlat}
@@ -136,3 +137,5 @@ pub record FlatCalled {S : Type 0} (p : Params) (known : Open) (epoch : ℕ) (va
   -- whatever it answers, no other cell changes, and a crash at any moment leaves no other one changed
   pub rest : old.tells → SameOffEpoch p.keys (suc epoch) new.cells old.cells
   pub passes : Passes (SameOffEpoch p.keys (suc epoch)) old new
+  -- of the epochs' register each cell is as it was, or has what a register writes there; refused, but for one whose write the store refused
+  pub clear : new.tells → ClearBy answer before.sealing.keys new.seen old.cells new.cells

@@ -14,6 +14,7 @@ use Rattle.ob_seal.specs.Sealing.{Sealing}
 use Rattle.ob_flat.specs.Rows.{AreRows}
 use Rattle.ob_flat.specs.Reads.{IsFirstRowDamage}
 use Rattle.ob_twin.specs.declared.gates.Open.{Open}
+use Rattle.ob_twin.specs.Clear.{InClearBy}
 use Rattle.ob_twin.specs.Keyed.{tagging}
 use Rattle.ob_twin.specs.Register.{StandsAt}
 use Rattle.ob_twin.specs.Opening.{GatesAre}
@@ -168,5 +169,7 @@ pub record IsOpening {S : Type 0} (disk : S → Disk) (keys : Keys) (p : Params)
   -- Its register of generations alone, whatever else the store stands for.
   pub register : OpeningBegins disk keys old new result
   pub order : OpeningTells keys p.keys (disk old) (disk new) shown_old shown_new result
+  -- Of its head and registers each cell is as it was, or has what a register writes there; refused, but for one whose write the store refused.
+  pub clear : (disk new).tells → InClearBy (tagging keys) (disk new).seen (disk old).cells (disk new).cells result
   -- Refused, unless its store failed, it has read and done nothing else.
   pub unwritten : IfErr result (λ refused. (IsStoreFault refused → ⊥) → ReadsAlone p.keys (disk old) (disk new) shown_old shown_new)

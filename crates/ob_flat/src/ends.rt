@@ -7,6 +7,8 @@ ghost use Rattle.ob_store.specs.Calls.{Serves, Holds};
 ghost use Rattle.ob_cells.specs.Runs.{IsFurther};
 ghost use Rattle.ob_flat.specs.Rows.{row_cells};
 ghost use Rattle.ob_twin.specs.declared.twin.Twin.TheVariants.{EPOCH};
+ghost use Rattle.ob_twin.specs.Clear.{InClearBy};
+ghost use Rattle.ob_twin.specs.Keyed.{tagging};
 ghost use Rattle.ob_twin.specs.Register.{place_of};
 ghost use Rattle.ob_twin.specs.Opening.{GatesAre, with_mark};
 ghost use Rattle.ob_twin.specs.Refused.{IsSetFault, IsBefore};
@@ -66,6 +68,9 @@ pub fn write_epoch<S: Store, W: Watch>(
         (S.disk store.old).cells }
     ensures passes { Passes (SameOffEpoch (length values.now) epoch) (S.disk store.old)
         (S.disk store.new) }
+    // Each byte that it leaves in the clear is of a gate or of a number's body.
+    ensures clear { (S.disk store.new).tells → InClearBy (tagging sealer.old.keys)
+        (S.disk store.new).seen (S.disk store.old).cells (S.disk store.new).cells result }
     // Where the store stood for an epoch, it stands for the next one,
     ensures done { (p : Params) (g : ℕ) (now next : Standing)
         → EndsFrom sealer.old.keys p g (S.disk store.old) epoch values.now now next

@@ -6,6 +6,7 @@ ghost use Rattle.ob_store.specs.declared.watch.Note.{Note};
 ghost use Rattle.ob_store.specs.Images.{IsSynced, Passes, LeavesOnly};
 ghost use Rattle.ob_store.specs.Calls.{Serves};
 ghost use Rattle.ob_store.specs.Lines.{Shows};
+ghost use Rattle.ob_pads.specs.Seals.{ClearBy};
 ghost use Rattle.ob_serial.specs.Vaults.{Standing};
 ghost use Rattle.ob_serial.specs.VaultViews.{end_answer, IsEndFault, IsStoreEnd};
 ghost use Rattle.ob_flat.specs.Calls.{EndDoes, KnowsNext, SameOffEpoch};
@@ -65,6 +66,9 @@ pub fn end_held<'a, S: Store, W: Watch>(
         (S.disk held.old.store.now).cells }
     ensures passes { Passes (SameOffEpoch (length values.now) (suc held.old.epoch))
         (S.disk held.old.store.now) (S.disk held.new.store.now) }
+    ensures clear { (S.disk held.new.store.now).tells → ClearBy (end_answer result)
+        held.old.sealer.keys (S.disk held.new.store.now).seen (S.disk held.old.store.now).cells
+        (S.disk held.new.store.now).cells }
     ensures images { (p : Params) (g : ℕ) (now next : Standing)
         → EndsFrom held.old.sealer.keys p g (S.disk held.old.store.now) (suc held.old.epoch)
         values.now now next

@@ -25,12 +25,12 @@ returns-clause-opens g c = λ tells.
     let p = c.args.params.now in
     let old = g.S.Store.disk c.args.store.now in
     let new = g.S.Store.disk c.prepare.new.store in
-    opens_of (λ s. g.S.Store.disk s) keys c.args.store.now c.prepare.new.store (g.met.S.Store.only_now c.args.store.now) e.serves.goes tells c.prepare.result (sealers keys p old new c.prepare.result e.opening.begins) (syncs keys p old new c.prepare.result e.opening.begins) e.opening.register
+    opens_of (λ s. g.S.Store.disk s) keys c.args.store.now c.prepare.new.store (g.met.S.Store.only_now c.args.store.now) e.serves.goes tells c.prepare.result (sealers keys p old new c.prepare.result e.opening.begins) (syncs keys p old new c.prepare.result e.opening.begins) e.opening.register (e.opening.clear tells)
 
 pub returns-clause-unopened : goal.returns-clause-unopened
 returns-clause-unopened g c = λ tells.
     let e = c.prepare.ensures in
-    unopened_of (λ s. g.S.Store.disk s) c.args.keys.now c.args.store.now c.prepare.new.store (g.met.S.Store.only_now c.args.store.now) e.serves.goes tells c.prepare.result e.opening.register
+    unopened_of (λ s. g.S.Store.disk s) c.args.keys.now c.args.store.now c.prepare.new.store (g.met.S.Store.only_now c.args.store.now) e.serves.goes tells c.prepare.result e.opening.register (e.opening.clear tells)
 
 pub returns-clause-value : goal.returns-clause-value
 returns-clause-value g c = c.prepare.ensures.opening.value

@@ -9,8 +9,12 @@ use Rattle.ob_store.proofs.Serving.{if_ok, on_ok}
 use Rattle.ob_store.proofs.Doing.{tells_then, first_more, first_behind, sync_cut}
 use Rattle.ob_seal.specs.declared.keys.Keys.{Keys}
 use Rattle.ob_flat.specs.Rows.{row_cells}
+use Rattle.ob_twin.specs.Clear.{InClearBy}
+use Rattle.ob_twin.specs.Opening.{is_closed_first}
+use Rattle.ob_twin.specs.declared.twin.Twin.TheVariants.{EPOCH}
+use Rattle.ob_twin.proofs.Clear.{by_then, none_clear, set_clear}
 use Rattle.ob_twin.specs.Keyed.{tagging}
-use Rattle.ob_twin.specs.Register.{StandsAt, IsPut}
+use Rattle.ob_twin.specs.Register.{StandsAt, IsPut, place_of}
 use Rattle.ob_twin.specs.Refused.{SetLeaves}
 use Rattle.ob_twin.proofs.Moves.{under_next}
 use Rattle.ob_twin.proofs.Sets.{put_stands, leaves_either, leaves_before}
@@ -216,3 +220,30 @@ returns-clause-passes g c =
     let new = g.S.Store.disk c.set.new.store in
     let rows = rows_synced c.area_of-base.ensures.area c.in-Ok.ensures.rows c.in-Ok-sync_noted.ensures.serves c.sync_noted.ensures.keeps c.sync_noted.ensures.crash c.sync_noted.ensures.time in
     both_pass (length c.args.values.now) c.args.epoch old mid new rows.within.passes c.set.ensures.passes
+
+-- ---- in the clear
+
+pub returns-in-Err-clause-clear : goal.returns-in-Err-clause-clear
+returns-in-Err-clause-clear g c = λ told cell low.
+    let rows = rows_at c.area_of-base.ensures.area c.in-Err.ensures.rows in
+    let tells = c.in-Err.ensures.rows.serves.goes.told told in
+    inl (inl (rows.within.rest tells cell (inl (omega (arith, low)))))
+
+pub returns-in-Err-sync_noted-clause-clear : goal.returns-in-Err-sync_noted-clause-clear
+returns-in-Err-sync_noted-clause-clear g c = λ told cell low.
+    let rows = rows_synced c.area_of-base.ensures.area c.in-Ok.ensures.rows c.in-Err-sync_noted.ensures.serves c.sync_noted.ensures.keeps c.sync_noted.ensures.crash c.sync_noted.ensures.time in
+    let tells = c.in-Ok.ensures.rows.serves.goes.told (c.sync_noted.ensures.serves.goes.told told) in
+    inl (inl (rows.within.rest tells cell (inl (omega (arith, low)))))
+
+pub returns-clause-clear : goal.returns-clause-clear
+returns-clause-clear g c = λ told.
+    let keys = c.args.sealer.now.keys in
+    let old = (g.S.Store.disk c.args.store.now).cells in
+    let mid = (g.S.Store.disk c.sync_noted.new.store).cells in
+    let new = g.S.Store.disk c.set.new.store in
+    let rows = rows_synced c.area_of-base.ensures.area c.in-Ok.ensures.rows c.in-Ok-sync_noted.ensures.serves c.sync_noted.ensures.keeps c.sync_noted.ensures.crash c.sync_noted.ensures.time in
+    let there = c.set.ensures.serves.goes.told told in
+    let tells = c.in-Ok.ensures.rows.serves.goes.told (c.sync_noted.ensures.serves.goes.told there) in
+    by_then (tagging keys) old mid new.cells (none_clear (tagging keys) old mid (λ cell low. rows.within.rest tells cell (inl (omega (arith, low))))) new.seen c.set.result
+    (subst (λ (x : Keys). InClearBy (tagging x) new.seen mid new.cells c.set.result) rows.seals.some.keys
+    (set_clear (tagging c.write_rows.new.sealer.keys) EPOCH c.args.epoch (is_closed_first c.args.gates.now.epoch (place_of c.args.epoch)) new.seen mid new.cells c.requires.small c.set.result (c.set.ensures.done there) (c.set.ensures.refused told)))

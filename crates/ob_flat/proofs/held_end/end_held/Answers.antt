@@ -1,4 +1,4 @@
-use Rattle.std.proofs.Common.{◌≡◌, suc, ◌+◌, ◌<◌, ◌≤◌, ◌^◌, length, Err, subst, sym, arith, add-one, rules}
+use Rattle.std.proofs.Common.{inl, refl, ◌≡◌, suc, ◌+◌, ◌<◌, ◌≤◌, ◌^◌, length, Err, subst, sym, arith, add-one, rules}
 use Rattle.ob_cells.specs.Runs.{IsFurther}
 use Rattle.ob_twin.specs.declared.twin.Twin.TheVariants.{EPOCH}
 use Rattle.ob_twin.specs.Refused.{IsSetFault}
@@ -6,7 +6,10 @@ use Rattle.ob_flat.specs.Ends.{EndsFrom, EndTells, IfUnsure}
 use Rattle.ob_store.specs.Calls.{Holds}
 use Rattle.ob_flat.specs.Rows.{row_cells}
 use Rattle.ob_flat.specs.Places.{area_of}
-use Rattle.ob_flat.proofs.Refusals.{none_done, refused_leaves, refused_tells}
+use Rattle.ob_pads.specs.Seals.{ClearBy}
+use Rattle.ob_serial.specs.VaultViews.{end_answer}
+use Rattle.ob_serial.specs.declared.vault.EndErr.{EndErr}
+use Rattle.ob_flat.proofs.Refusals.{closed_clear, none_done, refused_leaves, refused_tells}
 use Rattle.ob_flat.proofs.Frames.{none_pass}
 use Rattle.ob_flat.proofs.held_end.end_held.Goals as goal
 
@@ -52,3 +55,18 @@ returns-clause-images g c = λ p n now next from.
 
 pub returns-then-is_worn-clause-passes : goal.returns-then-is_worn-clause-passes
 returns-then-is_worn-clause-passes g c = none_pass (length c.args.values.now) (suc c.args.held.now.epoch) (g.S.Store.disk c.args.held.now.store.now)
+
+-- ---- in the clear
+
+pub returns-then-is_worn-clause-clear : goal.returns-then-is_worn-clause-clear
+returns-then-is_worn-clause-clear g c = λ tells cell low. inl (inl refl)
+
+pub returns-in-Err-clause-clear : goal.returns-in-Err-clause-clear
+returns-in-Err-clause-clear g c = λ tells.
+    let keys = c.args.held.now.sealer.keys in
+    let old = (g.S.Store.disk c.args.held.now.store.now).cells in
+    let new = g.S.Store.disk c.write_epoch.new.store in
+    subst (λ (e : EndErr). ClearBy (end_answer (Err e)) keys new.seen old new.cells) (sym c.end_err.ensures) (closed_clear keys new.seen old new.cells c.in-Err.refused (c.in-Err.ensures.clear tells))
+
+pub returns-clause-clear : goal.returns-clause-clear
+returns-clause-clear g c = λ tells. c.in-Ok.ensures.clear tells

@@ -15,6 +15,9 @@ use Rattle.ob_flat.specs.Places.{area_of}
 use Rattle.ob_flat.specs.Orders.{found_notes}
 use Rattle.ob_flat.specs.Openings.{ReadsAlone}
 use Rattle.ob_flat.specs.Standing.{StandsFlat}
+use Rattle.ob_twin.specs.declared.gates.Gates.{Gates}
+use Rattle.ob_twin.specs.Keyed.{tagging}
+use Rattle.ob_twin.proofs.Clear.{both_clear, clear_but, none_clear}
 use Rattle.ob_twin.specs.Opening.{GatesAre}
 use Rattle.ob_twin.proofs.Frames.{gates_moved}
 use Rattle.ob_flat.proofs.Moved.{stands_same, generation_set}
@@ -39,6 +42,7 @@ returns-in-Err-clause-opening g c =
       since = inl e.passes;
       register = inl e.passes;
       order = inl reads;
+      clear = λ tells cell low. inl (inl (ap (λ (i : Image). i cell) (e.passes.told tells).1));
       unwritten = λ own. record { epoch = 0; told = first_more _ _ _ _ registers_notes (read_notes (area_of keys 0) keys) reads; keeps = e.keeps; passes = e.passes };
     }
 
@@ -80,6 +84,7 @@ returns-in-Err-read_values-clause-opening g c =
         told = first_behind _ _ _ _ _ _ registers_notes (read_notes (area_of keys numbers.epoch) keys ++ begin_notes c.read_registers.new.gates.generation (suc numbers.generation)) c.in-Ok.ensures.does
             (first_more _ _ _ _ (read_notes (area_of keys numbers.epoch) keys) (begin_notes c.read_registers.new.gates.generation (suc numbers.generation)) reads);
       });
+      clear = λ tells cell low. inl (inl (ap (λ (i : Image). i cell) (passes.told tells).1));
       unwritten = λ own. record {
         epoch = numbers.epoch;
         told = first_behind _ _ _ _ _ _ registers_notes (read_notes (area_of keys numbers.epoch) keys) c.in-Ok.ensures.does reads;
@@ -141,6 +146,8 @@ returns-in-Err-begin-clause-opening g c =
         told = first_behind _ _ _ _ _ _ registers_notes (area ++ begin_notes c.read_registers.new.gates.generation (suc numbers.generation)) c.in-Ok.ensures.does
             (first_behind _ _ _ _ _ _ area (begin_notes c.read_registers.new.gates.generation (suc numbers.generation)) reads c.in-Err-begin.ensures.does.first);
       });
+      clear = λ tells. clear_but (tagging sealed_by) old.cells mid.cells new.cells
+          (none_clear (tagging sealed_by) old.cells mid.cells (λ cell low. ap (λ (i : Image). i cell) (passes.told (c.begin.ensures.serves.goes.told tells)).1)) new.seen (c.in-Err-begin.ensures.clear tells);
       unwritten = λ own.
           let alone : ReadsAlone p.keys old mid (g.W.Watch.trace c.args.watch.now) shown_mid = record {
             epoch = numbers.epoch;
@@ -182,7 +189,7 @@ returns-clause-opening g c =
             rows = subst (λ (image : Image). AreRows sealed_by (area_of p.keys numbers.epoch) image values) same (subst (λ b. AreRows sealed_by b one.cells values) c.area_of-base.ensures.area (c.in-Ok-read_values.ensures.value (first.tells tells)));
           };
       begins =
-          let gates : old.tells → GatesAre c.begin.new.gates.epoch 5 old.cells = λ tells. subst (λ k. GatesAre k 5 old.cells) (sym c.begin.ensures.epoch) (c.in-Ok.ensures.epoch tells) in
+          let gates : old.tells → GatesAre c.begin.new.gates.epoch 5 old.cells = λ tells. subst (λ k. GatesAre k 5 old.cells) (sym (ap (λ (x : Gates). x.epoch) begun.gates)) (c.in-Ok.ensures.epoch tells) in
           record {
             params = refl;
             sealer = record { keys_are = ap (λ (s : Sealing). s.keys) c.new.ensures ∙ c.keys.ensures; none_sealed = ap (λ (s : Sealing). s.next) c.new.ensures };
@@ -245,5 +252,7 @@ returns-clause-opening g c =
                 (tells_then area area last last _ _ _ _ _ _ reads
                 (subst (λ n. Tells (begin_notes known n) (begin_notes known n) mid.seen new.seen shown_mid shown_new) (sym begun.next.0 ∙ sym generation_is) begun.does.all));
           };
+      clear = λ tells. both_clear (tagging sealed_by) old.cells mid.cells new.cells
+          (none_clear (tagging sealed_by) old.cells mid.cells (λ cell low. ap (λ (i : Image). i cell) (passes.told (c.begin.ensures.serves.goes.told tells)).1)) (begun.clear tells);
       unwritten = tt;
     }

@@ -57,6 +57,7 @@ returns-in-Err-clause-called g c =
         goes = c.end_held.ensures.serves.goes;
         rest = subst (λ n. old.tells → SameOffEpoch n (suc self.held.epoch) new.cells old.cells) whole c.end_held.ensures.rest;
         passes = subst (λ n. Passes (SameOffEpoch n (suc self.held.epoch)) old new) whole c.end_held.ensures.passes;
+        clear = c.in-Err.ensures.clear;
       },
     )
 
@@ -108,6 +109,7 @@ returns-clause-called g c =
         goes = c.end_held.ensures.serves.goes;
         rest = subst (λ n. old.tells → SameOffEpoch n (suc self.held.epoch) new.cells old.cells) whole c.end_held.ensures.rest;
         passes = subst (λ n. Passes (SameOffEpoch n (suc self.held.epoch)) old new) whole c.end_held.ensures.passes;
+        clear = c.in-Ok.ensures.clear;
       },
     )
 
