@@ -41,3 +41,4 @@ pub mod Leaving
 pub mod Whole
 pub mod Joining
 pub mod Formatted
+pub mod SealCounts

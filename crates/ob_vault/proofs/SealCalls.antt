@@ -1,7 +1,8 @@
 -- Calls of a ring store as acts.
 use Rattle.std.proofs.Common.{List, inl, inr, refl}
 use Rattle.ob_pads.specs.Lives.{Answers, IsAtGeneration}
-use Rattle.ob_pads.specs.Seals.{SealerGoesOn, SealsBy}
+use Rattle.ob_pads.proofs.Sealing.{kept_clear}
+use Rattle.ob_pads.specs.Seals.{ClearBy, SealerGoesOn, SealsBy}
 use Rattle.ob_vault.specs.RingVaults.{KeepsRun, RingCalled, Running}
 use Rattle.ob_seal.specs.Sealing.{Sealing}
 use Rattle.ob_serial.specs.Vaults.{VaultAnswer, VaultCall, DoubtBy, End, Ended, Fetch, RefusedBy, Values}
@@ -21,12 +22,13 @@ module _ (old new : Disk) (only : (c : Image) → old.left_since old.moment c �
   kept : (c d : Image) → SameGeneration c d → stood d → stood c
   kept c d same stands = register_moved (tagging was.keys) 1 was.generation c d (λ k from to. same k to) stands
 
-  acts_by : (answer : VaultAnswer) → SealsBy answer was now old.cells new.cells → Answers old new was now answer
-  acts_by answer seals = record {
+  acts_by : (answer : VaultAnswer) → SealsBy answer was now old.cells new.cells → ClearBy answer was.keys new.seen old.cells new.cells → Answers old new was now answer
+  acts_by answer seals clear = record {
     goes = goes;
     tells = tells;
     further = further;
     seals = seals;
+    clear = clear;
     images = λ all. leaves_of SameGeneration stood stood old new moments only (λ c left. all c (inl left)) (λ told. all old.cells (inr (told, refl))) (λ c d stands step. kept c d step stands) (λ c stands. stands);
   }
 
@@ -51,9 +53,19 @@ module _ {S : Type 0} (disk : S → Disk) (old new : Running S) (notes : List No
   sealed_by (End writes) (DoubtBy f) tells is = is.sealed tells
   sealed_by (End writes) (Values out) tells is = absurd is
 
+  clear_by : (call : VaultCall) (answer : VaultAnswer) → (disk new.store).tells → RingCalled disk old new notes call answer → ClearBy answer ((old.run).sealer).keys (disk new.store).seen (disk old.store).cells (disk new.store).cells
+  clear_by (Fetch asks) (Values out) tells is = kept_clear (Values out) ((old.run).sealer).keys (disk new.store).seen (disk old.store).cells (disk new.store).cells (is.first tells)
+  clear_by (Fetch asks) (RefusedBy f) tells is = kept_clear (RefusedBy f) ((old.run).sealer).keys (disk new.store).seen (disk old.store).cells (disk new.store).cells (is.first tells)
+  clear_by (Fetch asks) Ended tells is = absurd is
+  clear_by (Fetch asks) (DoubtBy f) tells is = absurd is
+  clear_by (End writes) Ended tells is = is.clear tells
+  clear_by (End writes) (RefusedBy f) tells is = is.clear tells
+  clear_by (End writes) (DoubtBy f) tells is = is.clear tells
+  clear_by (End writes) (Values out) tells is = absurd is
+
   pub is_act : ((c : Image) → (disk old.store).left_since (disk old.store).moment c → (disk old.store).may_leave c) → (call : VaultCall) (answer : VaultAnswer) → RingCalled disk old new notes call answer → (disk new.store).tells
       → Answers (disk old.store) (disk new.store) (old.run).sealer (new.run).sealer answer
   is_act only call answer is tells =
       let k = kept_by call answer is in
       acts_by (disk old.store) (disk new.store) only (old.run).sealer (new.run).sealer k.goes tells (record { keys = k.keys; generation = k.generation; on = k.on }) k.moments answer
-      (sealed_by call answer (k.goes.told tells) is)
+      (sealed_by call answer (k.goes.told tells) is) (clear_by call answer tells is)

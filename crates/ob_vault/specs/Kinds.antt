@@ -29,6 +29,8 @@ pub record StoreKind : Type 1 where
   pub format_lays : Params → Image → Type 0
   pub format_leaves : Keys → Params → (drawn : List ℕ) → Disk → Image → Type 0
   pub format_fault : Fault → Type 0
+  -- And what its head and registers then show in the clear, by its answer: where the store tells these calls, and had and has these cells.
+  pub format_clears : Keys → Params → Option (List Event) → (old new : Image) → Result (Unit {0}) Fault → Type 0
   -- What an opening finds: the last epoch that ended, the batches that the running one has left, the new generation, and a map.
   pub Found : Type 0
   pub epoch : Found → ℕ
@@ -66,6 +68,8 @@ pub record StoreKind : Type 1 where
   pub Hidden : Type 0
   pub hidden : Params → Found → Hidden
   pub draws : Params → Hidden → VaultCall → Drawn → Hidden → Type 0
+  -- how many seals it has made in its generation
+  pub seals : Hidden → ℕ
   pub is_of_tape : Params → Hidden → Option VaultCall → (words : List ℕ) → Option Fault → Type 0
   -- What may be seen, of so many lanes at most, of a call that was refused with this fault, or left in doubt by it, once a tape had given
   -- these words.

@@ -20,3 +20,4 @@ pub mod Acts
 pub mod Shown
 pub mod Lives
 pub mod Joined
+pub mod SealCounts

@@ -25,7 +25,7 @@ use Rattle.ob_start.specs.Heads.{IsHead, IsHeadFault, IsHeadRead}
 use Rattle.ob_store.specs.Disk.{Disk, Image}
 use Rattle.ob_store.specs.Told.{events_of}
 use Rattle.ob_twin.specs.declared.gates.Gates.{Gates}
-use Rattle.ob_opening.specs.Formats.{HasClosedLogs, RingFormatLeaves}
+use Rattle.ob_opening.specs.Formats.{FormatsInClear, HasClosedLogs, RingFormatLeaves}
 use Rattle.ob_opening.specs.OpeningActs.{AreGatesIn}
 use Rattle.ob_opening.specs.Openings.{IsOpenFault, IsOpenRefusal, IsStandingRefusal, fresh_sealer}
 use Rattle.ob_vault.specs.Causes.{IsCallWorn, IsRingWorn, IsSlotDamage, IsStashFull, RingLasts}
@@ -111,6 +111,7 @@ ring_kind = record {
   format_lays = HasClosedLogs;
   format_leaves = λ keys p drawn old image. RingFormatLeaves keys p drawn old image;
   format_fault = λ refused. refused ≡ fault.Memory;
+  format_clears = λ keys p seen old new answer. FormatsInClear keys p seen old new answer;
   Found = RingFound;
   epoch = λ f. (f.run).epoch;
   left = λ p f. (f.run).left;
@@ -135,6 +136,7 @@ ring_kind = record {
   Hidden = RingHidden;
   hidden = λ p f. ring_hidden f;
   draws = RingDraws;
+  seals = λ h. h.seals;
   is_of_tape = IsTapeBehind;
   cut = RingCut;
   cut_shown = RingCutShown;

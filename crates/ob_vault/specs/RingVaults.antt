@@ -20,7 +20,7 @@ use Rattle.ob_fetch.specs.declared.run.Run.{Run}
 use Rattle.ob_fetch.specs.Fetches.{FetchAnswers, FetchDraws, FetchShows, IsFetchRefusal, IsOpenIfShown, IsWornForBatch, MovesPlanner, RunIsAt, next_batch, record_next, words_since}
 use Rattle.ob_log.specs.Appends.{IsWornOut, append_notes}
 use Rattle.ob_log.specs.Logs.{BatchRecord, OpenRecords}
-use Rattle.ob_pads.specs.Seals.{CellsAreSealed}
+use Rattle.ob_pads.specs.Seals.{CellsAreSealed, ClearBy, answer_of_end}
 use Rattle.ob_recover.specs.Repeats.{asked_of_record, batch_cells}
 use Rattle.ob_ring.specs.FlatTable.{FlatTable}
 use Rattle.ob_ring.specs.Picked.{SameSeals}
@@ -164,6 +164,8 @@ module _ {S : Type 0} (disk : S → Disk) (old new : Running S) (notes : List No
           → FetchAnswers ((old.run).sealer).keys (old.run).params start.versions (disk new.store).cells t record_of_fetch (((old.run).ring).stash).rows (((new.run).ring).stash).rows result
       pub undamaged : (s : RingStanding) → RunIsAt old.run s (disk old.store) → IsUndamaged result
       pub sealed : (disk old.store).tells → OnOk result SealsCells
+      -- the head and the registers stay
+      pub first : (disk new.store).tells → (cell : ℕ) → cell ≤ 8 → (disk new.store).cells cell ≡ (disk old.store).cells cell
       -- a word for each place, or none where numbers are worn
       pub draws : FetchDraws ((old.run).params).places old.drawn new.drawn result
       pub seals : Seals (record_cells (old.run).params) (old.run).sealer (new.run).sealer result
@@ -208,6 +210,8 @@ module _ {S : Type 0} (disk : S → Disk) (old new : Running S) (notes : List No
           → EndDamage ((old.run).sealer).keys (old.run).params start.versions (disk new.store).cells t result
       pub undamaged : (s : RingStanding) → RunIsAt old.run s (disk old.store) → IsEndUndamaged result
       pub sealed : (disk old.store).tells → IfEnded SealsCells result
+      -- the head stays, and each cell of the registers, or has what a register writes there; refused, but for one whose write was
+      pub clear : (disk new.store).tells → ClearBy (answer_of_end result) ((old.run).sealer).keys (disk new.store).seen (disk old.store).cells (disk new.store).cells
       pub draws : (t : FlatTable) → StandsFor (old.run).ring t → EndDraws (old.run).params t (old.run).epoch (old.run).drawn old.drawn new.drawn result
       pub seals : (t : FlatTable) → StandsFor (old.run).ring t → Seals (seals_for_end (old.run).params t) (old.run).sealer (new.run).sealer result
       -- its notes are the schedule's end of what the store knows, and the lifts' reads are dealt to the lanes; refused they are what its

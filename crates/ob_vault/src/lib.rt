@@ -13,7 +13,7 @@ mod ring;
 mod runs;
 mod vault;
 
-pub use acts::{calls_are_acts, ring_chains_are_runs};
+pub use acts::{calls_are_acts, ring_chains_are_runs, seals_are_public};
 pub use lives::{calls_are_lives, calls_show_lives, chains_are_lives, openings_are_lives};
 pub use phases::{calls_are_told_by_shape, phases_follow};
 pub use ring::{

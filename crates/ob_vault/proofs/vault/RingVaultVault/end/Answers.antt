@@ -110,6 +110,7 @@ returns-clause-called g c =
             damage = c.end-result.ensures.answered.damage;
             undamaged = c.end-result.ensures.answered.undamaged;
             sealed = c.end-result.ensures.sealed;
+            clear = λ tells. (c.end-result.ensures.act tells).clear;
             draws = c.end-result.ensures.draws;
             seals = c.end-result.ensures.seals;
             scheduled = told.2;

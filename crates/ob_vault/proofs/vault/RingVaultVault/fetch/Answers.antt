@@ -1,4 +1,4 @@
-use Rattle.std.proofs.Common.{◌+◌, ◌∙◌, ◌%◌, false, suc, ◌≡◌, ◌<◌, ◌≤◌, ◌^◌, ap, arith, length, replicate, sym, subst}
+use Rattle.std.proofs.Common.{◌+◌, ◌∙◌, ◌%◌, false, suc, ◌≡◌, ◌<◌, ◌≤◌, ◌^◌, inl, ap, arith, length, replicate, sym, subst}
 use Rattle.ob_base.specs.Layout.{log_cell, record_cells}
 use Rattle.ob_base.specs.declared.params.Params.{Params}
 use Rattle.ob_base.specs.Planned.{most_jobs}
@@ -117,6 +117,7 @@ returns-clause-called g c =
             answers = c.fetch-result.ensures.value;
             undamaged = λ s at. fetch_undamaged s r asks new c.fetch-result.new.run c.fetch-result.new.out c.fetch-result.result (c.fetch-result.ensures.standing.stands s at);
             sealed = c.fetch-result.ensures.sealed;
+            first = λ tells cell low. (c.fetch-result.ensures.within.passes.told tells).1 cell (inl (omega (arith, low)));
             draws = c.fetch-result.ensures.draws;
             seals = c.fetch-result.ensures.seals;
             scheduled = told.3;
