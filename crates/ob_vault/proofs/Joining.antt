@@ -2,23 +2,29 @@
 use Rattle.std.specs.Prelude.{◌≡◌, ◌⊎◌, ℕ, zero, suc, List, [], ◌∷◌, ◌++◌, length, Option, None, Some}
 use Rattle.std.proofs.Common.{refl, sym, ap, subst, ◌∙◌, inl, inr, ⊎_elim, append_assoc}
 use Rattle.std.proofs.lemmas.List.{append-nil}
-use mathlib.Core.Path.{fun_ext}
 use Rattle.ob_base.specs.declared.params.Params.{Params}
 use Rattle.ob_recover.proofs.FreshLaws.{lives_are_fresh}
 use Rattle.ob_recover.proofs.Pads.{life_goes_on}
 use Rattle.ob_recover.specs.Calls.{Finds, repeated}
-use Rattle.ob_recover.specs.Life.{IsLife, LifeAct, LifeState, Open, ShowBatch, WordId, formatted_life, life_step, reached}
+use Rattle.ob_recover.specs.Life.{Append, IsActAllowed, IsLife, LifeAct, LifeBatch, LifeState, Open, ShowBatch, WordId, formatted_life, life_step, reached}
 use Rattle.ob_fresh.proofs.NoneTwice.{no_word_twice}
 use Rattle.ob_fresh.proofs.Turns.{next_on}
 use Rattle.ob_fresh.specs.Drawn.{AllDrawNext, AreWordsInTurn, WordsKept, formatted_words, words_behind}
 use Rattle.ob_vault.proofs.VersionWords.{format_ranked}
-use Rattle.ob_vault.specs.Acts.{AreBatchesSmall, AreTapeWords}
+use Rattle.ob_vault.specs.Acts.{AreBatchesSmall, AreTapeWords, IsBatchSmall}
+use Rattle.ob_schedule.specs.Schedule.{Fills}
 use Rattle.ob_seal.specs.declared.keys.Keys.{Keys}
+use Rattle.ob_serial.specs.Vaults.{VaultCall}
 use Rattle.ob_store.specs.Disk.{Disk, Image}
+use Rattle.ob_store.specs.declared.event.Event.{Event}
 use Rattle.ob_opening.specs.OpeningActs.{IsLeftAt, StandsInLife}
-use Rattle.ob_vault.proofs.Whole.{reached_join, whole_run}
-use Rattle.ob_vault.specs.Joined.{AreGiven, AreParts, AreRunsFrom, IsPart, RunPart, RunsAreOneLife, Served, Stopped, begun_at}
-use Rattle.ob_vault.specs.Lives.{IsNextInLife, IsRunInLife, IsStoppedInLife, opening_acts}
+use Rattle.ob_vault.proofs.Fetching.{none_pending, same_act}
+use Rattle.ob_vault.proofs.Whole.{reached_join, small_step, whole_run}
+use Rattle.ob_vault.specs.Hidden.{RingHidden}
+use Rattle.ob_vault.specs.Joined.{AreGiven, AreParts, AreRunsFrom, IsPart, IsRunTold, RunPart, RunsAreOneLife, Served, Stopped}
+use Rattle.ob_vault.specs.Lives.{IsRunInLife, IsStoppedInLife, opening_acts}
+use Rattle.ob_vault.specs.RingKind.{RingFound, ring_hidden}
+use Rattle.ob_vault.specs.Shapes.{Shape}
 
 -- ---- an opening's acts leave the log
 
@@ -63,12 +69,15 @@ module _ (p : Params) (word_of : WordId → ℕ) where
 
 -- ---- the runs
 
-module _ {S : Type 0} (disk : S → Disk) (keys : Keys) (p : Params) (word_of : WordId → ℕ) where
-  -- the life is where the first of them begins
-  abbrev Here : LifeState → List (RunPart S) → Type 0
-  Here s [] = Unit {0}
-  Here s (part ∷ parts) = StandsInLife keys p word_of s (disk (begun_at part)).cells × AreBatchesSmall s.log
+none_found : (found : List LifeAct) → Finds None found → found ≡ []
+none_found found (inl none) = none
+none_found found (inr (a, pending, is)) = none_pending (found ≡ []) a pending
 
+-- the next of some acts may be in flight
+abbrev IsNext : Option LifeAct → List LifeAct → Type 0
+IsNext in_flight rest = (in_flight ≡ None) ⊎ ((a : LifeAct) × (more : List LifeAct) × (in_flight ≡ Some a) × (rest ≡ a ∷ more))
+
+module _ {S : Type 0} (disk : S → Disk) (keys : Keys) (p : Params) (word_of : WordId → ℕ) where
   record AreOfLife (s : LifeState) (parts : List (RunPart S)) : Type 0 where
     acts : List LifeAct
     is_life : IsLife p word_of s acts
@@ -84,80 +93,177 @@ module _ {S : Type 0} (disk : S → Disk) (keys : Keys) (p : Params) (word_of : 
     turn = λ k. next_on p word_of s k first later.acts (turn k) (later.turn (words_behind p word_of s k first));
   }
 
-  -- where the next one begins, the acts are those, those that were made of a refused call, and some more; behind the last one, no more
-  record Ahead (s : LifeState) (acts made : List LifeAct) (in_flight : Option LifeAct) (parts : List (RunPart S)) : Type 0 where
-    more : List LifeAct
-    rest : List LifeAct
-    begins : more ≡ made ++ rest
-    finds : Finds in_flight rest
-    is_life : IsLife p word_of s (acts ++ more)
-    here : Here (reached p word_of s (acts ++ more)) parts
-    turn : (k : WordsKept) → AllDrawNext p word_of s k (acts ++ more)
+  -- each image that may be left is at this state, or behind the act in flight
+  abbrev AllLeft : LifeState → Option LifeAct → (Image → Type 0) → Type 0
+  AllLeft t pending may_leave = (c : Image) → may_leave c → IsLeftAt keys p word_of t pending c
 
-  ahead : (s : LifeState) (acts made : List LifeAct) (in_flight : Option LifeAct) (may_leave : Image → Type 0) → IsLife p word_of s (acts ++ made) → ((k : WordsKept) → AllDrawNext p word_of s k (acts ++ made)) → ((c : Image) → may_leave c → IsNextInLife keys p word_of s acts made in_flight c) → (parts : List (RunPart S)) → AreRunsFrom disk keys p may_leave parts
-      → Ahead s acts made in_flight parts
-  ahead s acts made in_flight may_leave life turn next [] from = record { more = made; rest = []; begins = sym (append-nil made); finds = inl refl; is_life = life; here = tt; turn = turn }
-  ahead s acts made in_flight may_leave life turn next (part ∷ parts) from =
-      let n : IsNextInLife keys p word_of s acts made in_flight (disk (begun_at part)).cells = next (disk (begun_at part)).cells from.0 in
-      record { more = n.more; rest = n.found; begins = n.begins; finds = n.finds; is_life = n.is_life; here = (n.stands, n.small); turn = n.turn }
+  abbrev AllSmall : LifeState → Option LifeAct → Type 0
+  AllSmall t pending = (found : List LifeAct) → Finds pending found → AreBatchesSmall (reached p word_of t found).log
 
-  -- behind an opening that was refused
-  stopped_next : (s : LifeState) (new : Disk) → IsStoppedInLife keys p word_of s new → AreBatchesSmall s.log → (c : Image) → new.may_leave c → (first : List LifeAct) × IsLife p word_of s first × StandsInLife keys p word_of (reached p word_of s first) c
-      × AreBatchesSmall (reached p word_of s first).log × ((rest : List LifeAct) × (opening_acts s ≡ first ++ rest))
-  stopped_next s new o small c left =
-      let at : IsLeftAt keys p word_of (reached p word_of s o.made) o.in_flight c = o.images c left in
+  -- Of the act in flight the runs find this, and from there they are of the life.
+  record Resolved (t : LifeState) (pending : Option LifeAct) (parts : List (RunPart S)) : Type 0 where
+    found : List LifeAct
+    finds : Finds pending found
+    life : IsLife p word_of t found
+    later : AreOfLife (reached p word_of t found) parts
+
+  -- so it is of the runs behind a store, wherever it was left
+  abbrev Again : S → List (RunPart S) → Type 0
+  Again new parts = (u : LifeState) (flies : Option LifeAct) → AllLeft u flies (disk new).may_leave → AllSmall u flies → Resolved u flies parts
+
+  -- ---- an opening that was refused
+
+  -- with what was in flight behind the acts that were made
+  prefix_found : (t : LifeState) (made rest found : List LifeAct) (in_flight : Option LifeAct) → opening_acts t ≡ made ++ rest → IsNext in_flight rest → Finds in_flight found → (more : List LifeAct) × (opening_acts t ≡ (made ++ found) ++ more)
+  prefix_found t made rest found in_flight are next (inl none) = (rest, are ∙ ap (λ (l : List LifeAct). l ++ rest) (sym (append-nil made) ∙ ap (λ (l : List LifeAct). made ++ l) (sym none)))
+  prefix_found t made rest found in_flight are (inl idle) (inr (a, flies, is)) = none_pending ((more : List LifeAct) × (opening_acts t ≡ (made ++ found) ++ more)) a (sym idle ∙ flies)
+  prefix_found t made rest found in_flight are (inr (b, more, own, rest_is)) (inr (a, flies, is)) = (
+    more,
+    are ∙ ap (λ (l : List LifeAct). made ++ l) (rest_is ∙ ap (λ (x : LifeAct). x ∷ more) (same_act b a (sym own ∙ flies)))
+        ∙ sym (append_assoc made (a ∷ []) more) ∙ ap (λ (l : List LifeAct). (made ++ l) ++ more) (sym is),
+  )
+
+  smalls_then : (t : LifeState) (made rest : List LifeAct) (in_flight : Option LifeAct) → opening_acts t ≡ made ++ rest → IsNext in_flight rest → AreBatchesSmall t.log → AllSmall (reached p word_of t made) in_flight
+  smalls_then t made rest in_flight are next small found finds =
+      let pre = prefix_found t made rest found in_flight are next finds in
+      subst AreBatchesSmall (sym (ap (λ (u : LifeState). u.log) (sym (reached_join p word_of t made found)) ∙ log_of_opening p word_of t (made ++ found) pre.0 pre.1)) small
+
+  module _ (old new : S) (parts : List (RunPart S)) (again : Again new parts) where
+    behind_opening : (t : LifeState) (made rest : List LifeAct) (in_flight : Option LifeAct) → opening_acts t ≡ made ++ rest → IsNext in_flight rest → IsLife p word_of t made → AreBatchesSmall t.log → AllLeft (reached p word_of t made) in_flight (disk new).may_leave
+        → AreOfLife t (Stopped old new ∷ parts)
+    behind_opening t made rest in_flight are next life small many =
+        let r : Resolved (reached p word_of t made) in_flight parts = again (reached p word_of t made) in_flight many (smalls_then t made rest in_flight are next small) in
+        let pre = prefix_found t made rest r.found in_flight are next r.finds in
+        join t (Stopped old new) parts (made ++ r.found) (life_goes_on p word_of t made r.found life r.life) (pre.0, pre.1) (λ k. turn_of_opening p word_of t k (made ++ r.found) pre.0 pre.1)
+        (subst (λ (u : LifeState). AreOfLife u parts) (sym (reached_join p word_of t made r.found)) r.later)
+
+    module _ (t : LifeState) (pending : Option LifeAct) (small : AllSmall t pending) where
+      -- nothing was settled
+      unsettled : AllLeft t pending (disk new).may_leave → Resolved t pending (Stopped old new ∷ parts)
+      unsettled many =
+          let r : Resolved t pending parts = again t pending many small in
+          record {
+            found = r.found;
+            finds = r.finds;
+            life = r.life;
+            later = join (reached p word_of t r.found) (Stopped old new) parts [] tt (opening_acts (reached p word_of t r.found), refl) (λ k. tt) r.later;
+          }
+
+      -- it was settled that nothing was found
+      not_found : AllLeft t None (disk new).may_leave → Resolved t pending (Stopped old new ∷ parts)
+      not_found many =
+          let r : Resolved t None parts = again t None many (λ found finds. subst (λ (l : List LifeAct). AreBatchesSmall (reached p word_of t l).log) (sym (none_found found finds)) (small [] (inl refl))) in
+          record {
+            found = [];
+            finds = inl refl;
+            life = tt;
+            later = join t (Stopped old new) parts [] tt (opening_acts t, refl) (λ k. tt) (subst (λ (l : List LifeAct). AreOfLife (reached p word_of t l) parts) (none_found r.found r.finds) r.later);
+          }
+
+      settled : (found : List LifeAct) → Finds pending found → (made rest : List LifeAct) (in_flight : Option LifeAct) → found ++ opening_acts (reached p word_of t found) ≡ made ++ rest → IsNext in_flight rest → IsLife p word_of t made
+          → AllLeft (reached p word_of t made) in_flight (disk new).may_leave → Resolved t pending (Stopped old new ∷ parts)
+      settled found (inl none) made rest in_flight are next life many = record {
+        found = [];
+        finds = inl refl;
+        life = tt;
+        later = behind_opening t made rest in_flight (sym (ap (λ (l : List LifeAct). l ++ opening_acts (reached p word_of t l)) none) ∙ are) next life (small [] (inl refl)) many;
+      }
+      settled found (inr (a, flies, is)) [] rest in_flight are (inl idle) life many = not_found (λ c will. subst (λ (f : Option LifeAct). IsLeftAt keys p word_of t f c) idle (many c will))
+      settled found (inr (a, flies, is)) [] rest in_flight are (inr (b, more, own, rest_is)) life many =
+          let heads : a ∷ opening_acts (life_step p word_of t a) ≡ b ∷ more = sym (ap (λ (l : List LifeAct). l ++ opening_acts (reached p word_of t l)) is) ∙ are ∙ rest_is in
+          let still : in_flight ≡ pending = own ∙ ap (λ (x : LifeAct). Some x) (sym (same_head a b (opening_acts (life_step p word_of t a)) more heads)) ∙ sym flies in
+          unsettled (λ c will. subst (λ (f : Option LifeAct). IsLeftAt keys p word_of t f c) still (many c will))
+      settled found (inr (a, flies, is)) (m ∷ made) rest in_flight are next life many =
+          let whole : a ∷ opening_acts (life_step p word_of t a) ≡ m ∷ (made ++ rest) = sym (ap (λ (l : List LifeAct). l ++ opening_acts (reached p word_of t l)) is) ∙ are in
+          let same : m ≡ a = sym (same_head a m (opening_acts (life_step p word_of t a)) (made ++ rest) whole) in
+          let own : opening_acts (life_step p word_of t a) ≡ made ++ rest = same_tail a m (opening_acts (life_step p word_of t a)) (made ++ rest) whole in
+          let here : IsActAllowed p word_of t a × IsLife p word_of (life_step p word_of t a) made = subst (λ (x : LifeAct). IsActAllowed p word_of t x × IsLife p word_of (life_step p word_of t x) made) same life in
+          record {
+            found = a ∷ [];
+            finds = inr (a, flies, refl);
+            life = (here.0, tt);
+            later = behind_opening (life_step p word_of t a) made rest in_flight own next here.1 (small (a ∷ []) (inr (a, flies, refl)))
+                (λ c will. subst (λ (x : LifeAct). IsLeftAt keys p word_of (reached p word_of (life_step p word_of t x) made) in_flight c) same (many c will));
+          }
+
+      stopped : (o : IsStoppedInLife keys p word_of t pending (disk new)) → ((o.made ≡ []) × (o.in_flight ≡ pending)) ⊎ ((rest : List LifeAct) × (o.found ++ opening_acts (reached p word_of t o.found) ≡ o.made ++ rest) × IsNext o.in_flight rest)
+          → Resolved t pending (Stopped old new ∷ parts)
+      stopped o (inl (none, still)) = unsettled (λ c will. subst (λ (l : List LifeAct). IsLeftAt keys p word_of (reached p word_of t l) pending c) none
+          (subst (λ (f : Option LifeAct). IsLeftAt keys p word_of (reached p word_of t o.made) f c) still (o.images c will)))
+      stopped o (inr (rest, are, next)) = settled o.found o.finds o.made rest o.in_flight are next o.is_life o.images
+
+  -- ---- a run that was served
+
+  module _ (most : ℕ) (old : S) (found : RingFound) (opened : S) (calls : List VaultCall) (steps : List (Shape × Fills)) (behind : RingHidden) (refused : Option VaultCall) (words : List ℕ) (seen : List Event) (new : S) (parts : List (RunPart S)) where
+    abbrev part : RunPart S
+    part = Served most old found opened calls steps behind refused words seen new
+
+    served : (t : LifeState) → StandsInLife keys p word_of t (disk old).cells → AreBatchesSmall t.log → IsRunTold disk keys p part → AreTapeWords word_of (ring_hidden found).generation words → Again new parts → AreOfLife t (part ∷ parts)
+    served t stands small told tape again =
+        let (begins, goes_on, (m, is_map)) = told in
+        let run : IsRunInLife keys most p word_of t found (disk opened) calls steps behind refused words seen (disk new) =
+        whole_run keys most p (disk old).cells found (disk opened) (disk new) calls steps behind refused words seen begins goes_on word_of t stands small tape in
+        let left = (run.goes).left m is_map in
+        let acts : List LifeAct = opening_acts t ++ (run.goes).acts in
+        let last : LifeState = reached p word_of (reached p word_of t (opening_acts t)) (run.goes).acts in
+        let with_made : IsLife p word_of t (acts ++ left.made) = life_goes_on p word_of t acts left.made run.is_life (subst (λ (u : LifeState). IsLife p word_of u left.made) (sym run.leads) left.is_life) in
+        let there : reached p word_of t (acts ++ left.made) ≡ reached p word_of last left.made = reached_join p word_of t acts left.made ∙ ap (λ (u : LifeState). reached p word_of u left.made) run.leads in
+        let r : Resolved (reached p word_of t (acts ++ left.made)) left.in_flight parts = again (reached p word_of t (acts ++ left.made)) left.in_flight
+        (λ c will. subst (λ (u : LifeState). IsLeftAt keys p word_of u left.in_flight c) (sym there) (left.images c will))
+        (λ f finds. subst (λ (u : LifeState). AreBatchesSmall (reached p word_of u f).log) (sym there) (small_found last left.made left.in_flight left.small.0 (λ b e. left.small.1 b e) f finds)) in
+        join t part parts (acts ++ (left.made ++ r.found)) (subst (λ (l : List LifeAct). IsLife p word_of t l) (append_assoc acts left.made r.found) (life_goes_on p word_of t (acts ++ left.made) r.found with_made r.life))
+        (run, m, is_map, r.found, r.finds, refl)
+        (λ k. found_turn t acts left.made left.in_flight k (run.turn_left m is_map k) (λ a flies. run.turn_flown m is_map a flies k) r.found r.finds)
+        (subst (λ (u : LifeState). AreOfLife u parts) (sym (ap (λ (l : List LifeAct). reached p word_of t l) (sym (append_assoc acts left.made r.found)) ∙ reached_join p word_of t (acts ++ left.made) r.found)) r.later)
+      where
+        small_found : (u : LifeState) (made : List LifeAct) (in_flight : Option LifeAct) → AreBatchesSmall (reached p word_of u made).log → ((b : LifeBatch) → in_flight ≡ Some (Append b) → IsBatchSmall b) → (f : List LifeAct) → Finds in_flight f
+            → AreBatchesSmall (reached p word_of (reached p word_of u made) f).log
+        small_found u made in_flight few own f (inl none) = subst (λ (l : List LifeAct). AreBatchesSmall (reached p word_of (reached p word_of u made) l).log) (sym none) few
+        small_found u made in_flight few own f (inr (a, flies, is)) =
+            subst (λ (l : List LifeAct). AreBatchesSmall (reached p word_of (reached p word_of u made) l).log) (sym is) (small_step p word_of (reached p word_of u made) a few (λ b e. own b (flies ∙ e)))
+
+        found_turn : (s : LifeState) (acts made : List LifeAct) (in_flight : Option LifeAct) (k : WordsKept) → AllDrawNext p word_of s k (acts ++ made) → ((a : LifeAct) → in_flight ≡ Some a → AllDrawNext p word_of s k (acts ++ (made ++ a ∷ []))) → (f : List LifeAct) → Finds in_flight f
+            → AllDrawNext p word_of s k (acts ++ (made ++ f))
+        found_turn s acts made in_flight k idle flown f (inl none) = subst (λ (l : List LifeAct). AllDrawNext p word_of s k (acts ++ l)) (sym (append-nil made) ∙ ap (λ (l : List LifeAct). made ++ l) (sym none)) idle
+        found_turn s acts made in_flight k idle flown f (inr (a, flies, is)) = subst (λ (l : List LifeAct). AllDrawNext p word_of s k (acts ++ (made ++ l))) (sym is) (flown a flies)
+
+  -- ---- all of them
+
+  resolve : (parts : List (RunPart S)) (t : LifeState) (pending : Option LifeAct) (may_leave : Image → Type 0) → AllLeft t pending may_leave → AllSmall t pending → AreRunsFrom disk keys p may_leave parts → AreGiven word_of parts → Resolved t pending parts
+  resolve [] t pending may_leave left small from given = record { found = []; finds = inl refl; life = tt; later = record { acts = []; is_life = tt; parts_are = refl; turn = λ k. tt } }
+  resolve (Served most old found opened calls steps behind refused words seen new ∷ parts) t pending may_leave left small from given =
+      let at : IsLeftAt keys p word_of t pending (disk old).cells = left (disk old).cells from.0 in
+      let again : Again new parts = λ u flies many smalls. resolve parts u flies (disk new).may_leave many smalls from.2 given.1 in
       ⊎_elim
-      (λ (stands : StandsInLife keys p word_of (reached p word_of s o.made) c). (o.made, o.is_life, stands, subst AreBatchesSmall (sym (log_of_opening p word_of s o.made o.rest o.acts)) small, (o.rest, o.acts)))
-      (λ (one : (a : LifeAct) × (o.in_flight ≡ Some a) × StandsInLife keys p word_of (life_step p word_of (reached p word_of s o.made) a) c).
-      let whole = flying one.0 one.1 o.next in (
-        o.made ++ one.0 ∷ [],
-        life_goes_on p word_of s o.made (one.0 ∷ []) o.is_life (at.allowed one.0 one.1, tt),
-        subst (λ (u : LifeState). StandsInLife keys p word_of u c) (sym (reached_join p word_of s o.made (one.0 ∷ []))) one.2,
-        subst AreBatchesSmall (sym (log_of_opening p word_of s (o.made ++ one.0 ∷ []) whole.0 whole.1)) small,
-        whole,
-      ))
-      (at.stands c refl)
-    where
-      flying : (a : LifeAct) → o.in_flight ≡ Some a → (o.in_flight ≡ None) ⊎ ((b : LifeAct) × (more : List LifeAct) × (o.in_flight ≡ Some b) × (o.rest ≡ b ∷ more)) → (rest : List LifeAct) × (opening_acts s ≡ (o.made ++ a ∷ []) ++ rest)
-      flying a e (inl idle) = absurd (none_some a (sym idle ∙ e))
-        where
-          none_some : (x : LifeAct) → ◌≡◌ {A = Option LifeAct} None (Some x) → ⊥
-          none_some x n = cc n
-      flying a e (inr (b, more, flies, is)) =
-          let same : b ≡ a = same_some b a (sym flies ∙ e) in
-          (more, o.acts ∙ ap (λ (l : List LifeAct). o.made ++ l) (is ∙ ap (λ (x : LifeAct). x ∷ more) same) ∙ sym (append_assoc o.made (a ∷ []) more))
-        where
-          same_some : (x y : LifeAct) → ◌≡◌ {A = Option LifeAct} (Some x) (Some y) → x ≡ y
-          same_some x y n = cc n
+      (λ (stands : StandsInLife keys p word_of t (disk old).cells). record {
+        found = [];
+        finds = inl refl;
+        life = tt;
+        later = served most old found opened calls steps behind refused words seen new parts t stands (small [] (inl refl)) from.1 given.0 again;
+      })
+      (λ (one : (a : LifeAct) × (pending ≡ Some a) × StandsInLife keys p word_of (life_step p word_of t a) (disk old).cells). record {
+        found = one.0 ∷ [];
+        finds = inr (one.0, one.1, refl);
+        life = (at.allowed one.0 one.1, tt);
+        later = served most old found opened calls steps behind refused words seen new parts (life_step p word_of t one.0) one.2 (small (one.0 ∷ []) (inr (one.0, one.1, refl))) from.1 given.0 again;
+      })
+      (at.stands (disk old).cells refl)
+  resolve (Stopped old new ∷ parts) t pending may_leave left small from given =
+      let o : IsStoppedInLife keys p word_of t pending (disk new) = from.1 word_of t pending (left (disk old).cells from.0.0) (λ c will. left c (from.0.1 c will)) in
+      let again : Again new parts = λ u flies many smalls. resolve parts u flies (disk new).may_leave many smalls from.2 given in
+      stopped old new parts again t pending small o o.part
 
-  runs : (parts : List (RunPart S)) (s : LifeState) (may_leave : Image → Type 0) → Here s parts → AreRunsFrom disk keys p may_leave parts → AreGiven word_of parts → AreOfLife s parts
-  runs [] s may_leave here from given = record { acts = []; is_life = tt; parts_are = refl; turn = λ k. tt }
-  runs (Served most old found opened calls steps behind refused words seen new ∷ parts) s may_leave here from given =
-      let (begins, goes_on, (m, is_map)) = from.1 in
-      let run : IsRunInLife keys most p word_of s found (disk opened) calls steps behind refused words seen (disk new) =
-      whole_run keys most p (disk old).cells found (disk opened) (disk new) calls steps behind refused words seen begins goes_on word_of s here.0 here.1 given.0 in
-      let left = (run.goes).left m is_map in
-      let with_made : IsLife p word_of s ((opening_acts s ++ (run.goes).acts) ++ left.made) =
-      life_goes_on p word_of s (opening_acts s ++ (run.goes).acts) left.made run.is_life (subst (λ (t : LifeState). IsLife p word_of t left.made) (sym run.leads) left.is_life) in
-      let a : Ahead s (opening_acts s ++ (run.goes).acts) left.made left.in_flight parts = ahead s (opening_acts s ++ (run.goes).acts) left.made left.in_flight (disk new).may_leave with_made (run.turn_left m is_map) (λ c will. run.next m is_map c will) parts from.2 in
-      join s (Served most old found opened calls steps behind refused words seen new) parts ((opening_acts s ++ (run.goes).acts) ++ a.more) a.is_life
-      (run, m, is_map, a.rest, a.finds, ap (λ (l : List LifeAct). (opening_acts s ++ (run.goes).acts) ++ l) a.begins) a.turn
-      (runs parts (reached p word_of s ((opening_acts s ++ (run.goes).acts) ++ a.more)) (disk new).may_leave a.here from.2 given.1)
-  runs (Stopped old new ∷ []) s may_leave here from given = join s (Stopped old new) [] [] tt (opening_acts s, refl) (λ k. tt) (runs [] s (disk new).may_leave tt tt tt)
-  runs (Stopped old new ∷ part ∷ parts) s may_leave here from given =
-      let (settled, stops) = from.1 in
-      let o : IsStoppedInLife keys p word_of s (disk new) = stops word_of s here.0 (λ c left. subst (λ (i : Image). StandsInLife keys p word_of s i) (sym (fun_ext (λ k. settled c left k))) here.0) in
-      let (first, life, stands, small, is) = stopped_next s (disk new) o here.1 (disk (begun_at part)).cells (from.2).0 in
-      join s (Stopped old new) (part ∷ parts) first life is (λ k. turn_of_opening p word_of s k first is.0 is.1) (runs (part ∷ parts) (reached p word_of s first) (disk new).may_leave (stands, small) from.2 given)
-
-  formatted_here : (made : Disk) (slot : ℕ → ℕ → ℕ) → ((c : Image) → made.may_leave c → StandsInLife keys p word_of (formatted_life slot) c) → AreBatchesSmall (formatted_life slot).log → (parts : List (RunPart S)) → AreRunsFrom disk keys p made.may_leave parts
-      → Here (formatted_life slot) parts
-  formatted_here made slot stands small [] from = tt
-  formatted_here made slot stands small (part ∷ parts) from = (stands (disk (begun_at part)).cells from.0, small)
+  -- from a store that stands for a life
+  from_life : (parts : List (RunPart S)) (t : LifeState) (may_leave : Image → Type 0) → ((c : Image) → may_leave c → StandsInLife keys p word_of t c) → AreBatchesSmall t.log → AreRunsFrom disk keys p may_leave parts → AreGiven word_of parts → AreOfLife t parts
+  from_life parts t may_leave stands small from given =
+      let r : Resolved t None parts = resolve parts t None may_leave
+      (λ c left. record { allowed = λ a e. none_pending (IsActAllowed p word_of t a) a e; stands = λ i same. inl (subst (λ (x : Image). StandsInLife keys p word_of t x) same (stands c left)) })
+      (λ found finds. subst (λ (l : List LifeAct). AreBatchesSmall (reached p word_of t l).log) (sym (none_found found finds)) small) from given in
+      subst (λ (l : List LifeAct). AreOfLife (reached p word_of t l) parts) (none_found r.found r.finds) r.later
 
 pub runs_are_one_life : {S : Type 0} (disk : S → Disk) → RunsAreOneLife disk
 runs_are_one_life disk keys p drawn made parts f from word_of given =
-    let all = runs disk keys p word_of parts (formatted_life f.slot) (disk made).may_leave (formatted_here disk keys p word_of (disk made) f.slot (λ c left. f.stands word_of c left) f.small parts from) from given in
+    let all = from_life disk keys p word_of parts (formatted_life f.slot) (disk made).may_leave (λ c left. f.stands word_of c left) f.small from given in
     let turn : AreTapeWords word_of 1 drawn → AreWordsInTurn p word_of f.slot all.acts =
     λ tape. record { format = format_ranked p drawn f.slot word_of f.many f.of_words tape; behind = all.turn (formatted_words p) } in
     record {

@@ -1,15 +1,16 @@
 -- An opening that was refused leaves a store where its life is.
-use Rattle.std.specs.Prelude.{◌≡◌, ◌⊎◌, ℕ, suc, Bool, List, [], ◌∷◌, ◌++◌, length, Some, None}
+use Rattle.std.specs.Prelude.{◌≡◌, ◌⊎◌, ℕ, suc, Bool, List, [], ◌∷◌, ◌++◌, length, Option, Some, None}
 use Rattle.std.proofs.Common.{arith, sym, ap, subst, ◌∙◌, inl, inr}
 use Rattle.ob_base.specs.declared.params.Params.{Params}
-use Rattle.ob_recover.specs.Calls.{Finds, acts_of}
+use Rattle.ob_recover.proofs.Pads.{life_goes_on}
+use Rattle.ob_recover.specs.Calls.{Finds}
 use Rattle.ob_recover.specs.Life.{IsActAllowed, IsLife, LifeAct, LifeState, Open, WordId, life_step, reached}
 use Rattle.ob_vault.proofs.Fetching.{none_pending, same_act}
 use Rattle.ob_vault.specs.RingLaws.{ReadsHead}
 use Rattle.ob_seal.specs.declared.keys.Keys.{Keys}
 use Rattle.ob_store.specs.Disk.{Disk, Image}
 use Rattle.ob_store.specs.Lines.{Trace}
-use Rattle.ob_opening.specs.OpeningActs.{IsLeftAt, OpensInLife, StandsInLife, opening_call}
+use Rattle.ob_opening.specs.OpeningActs.{IsLeftAt, OpensInLife, StandsInLife}
 use Rattle.ob_vault.proofs.OpenedLife.{repeats_live}
 use Rattle.ob_vault.specs.Lives.{IsStoppedInLife, opening_acts}
 
@@ -18,52 +19,45 @@ allowed_at : (p : Params) (word_of : WordId → ℕ) (s : LifeState) (xs : List 
 allowed_at p word_of s [] a ys life = life.0
 allowed_at p word_of s (x ∷ xs) a ys life = allowed_at p word_of (life_step p word_of s x) xs a ys life.1
 
-none_found : (found : List LifeAct) → Finds None found → found ≡ []
-none_found found (inl none) = none
-none_found found (inr (a, pending, is)) = none_pending (found ≡ []) a pending
+-- an opening's acts may always be made
+pub opening_lives : (p : Params) (word_of : WordId → ℕ) (s : LifeState) → IsLife p word_of s (opening_acts s)
+opening_lives p word_of s = (omega arith, repeats_live p word_of (life_step p word_of s (Open (suc s.generation))) (length s.log) (omega arith))
 
-module _ (keys : Keys) (most : ℕ) (p : Params) (old mid new : Disk) (before after : Trace) (answered : Bool) (head : ReadsHead old mid) (word_of : WordId → ℕ) (s : LifeState)
-    (acts : IsLeftAt keys p word_of s None mid.cells → OpensInLife keys most p word_of s None mid new before after answered) (tells : old.tells) (here : StandsInLife keys p word_of s old.cells)
-    (each : (c : Image) → old.may_leave c → StandsInLife keys p word_of s c) where
+module _ (keys : Keys) (most : ℕ) (p : Params) (old mid new : Disk) (before after : Trace) (answered : Bool) (head : ReadsHead old mid) (word_of : WordId → ℕ) (s : LifeState) (pending : Option LifeAct)
+    (acts : IsLeftAt keys p word_of s pending mid.cells → OpensInLife keys most p word_of s pending mid new before after answered) (tells : old.tells) (here : IsLeftAt keys p word_of s pending old.cells)
+    (each : (c : Image) → old.may_leave c → IsLeftAt keys p word_of s pending c) where
   same_cells : old.cells ≡ mid.cells
   same_cells = λ i k. sym ((head.keeps).cells tells k) i
 
-  here_too : StandsInLife keys p word_of s mid.cells
-  here_too = subst (λ (c : Image). StandsInLife keys p word_of s c) same_cells here
+  o : OpensInLife keys most p word_of s pending mid new before after answered
+  o = acts (subst (λ (c : Image). IsLeftAt keys p word_of s pending c) same_cells here)
 
-  o : OpensInLife keys most p word_of s None mid new before after answered
-  o = acts (record { allowed = λ a e. none_pending (IsActAllowed p word_of s a) a e; stands = λ i same. inl (subst (λ (c : Image). StandsInLife keys p word_of s c) same here_too) })
+  found_lives : (found : List LifeAct) → Finds pending found → IsLife p word_of s found
+  found_lives found (inl none) = subst (λ (l : List LifeAct). IsLife p word_of s l) (sym none) tt
+  found_lives found (inr (a, flies, is)) = subst (λ (l : List LifeAct). IsLife p word_of s l) (sym is) (here.allowed a flies, tt)
 
-  whole : acts_of (opening_call p word_of s o.found) ≡ opening_acts s
-  whole = ap (λ (found : List LifeAct). acts_of (opening_call p word_of s found)) (none_found o.found o.finds)
-
-  is_whole_life : IsLife p word_of s (opening_acts s)
-  is_whole_life = (omega arith, repeats_live p word_of (life_step p word_of s (Open (suc s.generation))) (length s.log) (omega arith))
+  all_lives : IsLife p word_of s (o.found ++ opening_acts (reached p word_of s o.found))
+  all_lives = life_goes_on p word_of s o.found (opening_acts (reached p word_of s o.found)) (found_lives o.found o.finds) (opening_lives p word_of (reached p word_of s o.found))
 
   left_then : (i : Image) → new.may_leave i → StandsInLife keys p word_of (reached p word_of s o.made) i ⊎ ((a : LifeAct) × (o.in_flight ≡ Some a) × StandsInLife keys p word_of (life_step p word_of (reached p word_of s o.made) a) i)
-  left_then = (o.law).leaves (λ c left. let back = (head.passes).now c left in inl (subst (λ (i : Image). StandsInLife keys p word_of s i) (sym back.2) (each back.0 back.1)))
+  left_then = (o.law).leaves (λ c left. let back = (head.passes).now c left in let at = each back.0 back.1 in at.stands c (sym back.2))
 
-  stopped : (rest : List LifeAct) → opening_acts s ≡ o.made ++ rest → (o.in_flight ≡ None) ⊎ ((a : LifeAct) × (more : List LifeAct) × (o.in_flight ≡ Some a) × (rest ≡ a ∷ more)) → IsStoppedInLife keys p word_of s new
-  stopped rest are next = record {
+  allowed_then : ((o.made ≡ []) × (o.in_flight ≡ pending))
+      ⊎ ((rest : List LifeAct) × (o.found ++ opening_acts (reached p word_of s o.found) ≡ o.made ++ rest) × ((o.in_flight ≡ None) ⊎ ((a : LifeAct) × (more : List LifeAct) × (o.in_flight ≡ Some a) × (rest ≡ a ∷ more))))
+      → (a : LifeAct) → o.in_flight ≡ Some a → IsActAllowed p word_of (reached p word_of s o.made) a
+  allowed_then (inl (none, still)) a e = subst (λ (l : List LifeAct). IsActAllowed p word_of (reached p word_of s l) a) (sym none) (here.allowed a (sym still ∙ e))
+  allowed_then (inr (rest, are, inl idle)) a e = none_pending (IsActAllowed p word_of (reached p word_of s o.made) a) a (sym idle ∙ e)
+  allowed_then (inr (rest, are, inr (b, more, flies, is))) a e =
+      subst (λ (x : LifeAct). IsActAllowed p word_of (reached p word_of s o.made) x) (same_act b a (sym flies ∙ e))
+      (allowed_at p word_of s o.made b more (subst (λ (l : List LifeAct). IsLife p word_of s l) (are ∙ ap (λ (l : List LifeAct). o.made ++ l) is) all_lives))
+
+  pub stops_in_life : IsStoppedInLife keys p word_of s pending new
+  stops_in_life = record {
+    found = o.found;
+    finds = o.finds;
     made = o.made;
-    rest = rest;
     in_flight = o.in_flight;
-    acts = are;
-    next = next;
+    part = (o.law).part;
     is_life = (o.law).is_life;
-    images = λ c left. record { allowed = λ a e. may_come next a e; stands = λ i same. left_then i (subst new.may_leave same left) };
+    images = λ c left. record { allowed = allowed_then (o.law).part; stands = λ i same. left_then i (subst new.may_leave same left) };
   }
-    where
-      may_come : (o.in_flight ≡ None) ⊎ ((a : LifeAct) × (more : List LifeAct) × (o.in_flight ≡ Some a) × (rest ≡ a ∷ more)) → (a : LifeAct) → o.in_flight ≡ Some a → IsActAllowed p word_of (reached p word_of s o.made) a
-      may_come (inl idle) a e = none_pending (IsActAllowed p word_of (reached p word_of s o.made) a) a (sym idle ∙ e)
-      may_come (inr (b, more, flies, is)) a e =
-          subst (λ (x : LifeAct). IsActAllowed p word_of (reached p word_of s o.made) x) (same_act b a (sym flies ∙ e))
-          (allowed_at p word_of s o.made b more (subst (λ (l : List LifeAct). IsLife p word_of s l) (are ∙ ap (λ (l : List LifeAct). o.made ++ l) is) is_whole_life))
-
-  by_part : ((o.made ≡ []) × (o.in_flight ≡ None)) ⊎ ((rest : List LifeAct) × (acts_of (opening_call p word_of s o.found) ≡ o.made ++ rest) × ((o.in_flight ≡ None) ⊎ ((a : LifeAct) × (more : List LifeAct) × (o.in_flight ≡ Some a) × (rest ≡ a ∷ more))))
-      → IsStoppedInLife keys p word_of s new
-  by_part (inl (none, idle)) = stopped (opening_acts s) (ap (λ (l : List LifeAct). l ++ opening_acts s) (sym none)) (inl idle)
-  by_part (inr (rest, are, next)) = stopped rest (sym whole ∙ are) next
-
-  pub stops_in_life : IsStoppedInLife keys p word_of s new
-  stops_in_life = by_part (o.law).part

@@ -28,7 +28,7 @@ reached_join p word_of s [] ys = refl
 reached_join p word_of s (x ∷ xs) ys = reached_join p word_of (life_step p word_of s x) xs ys
 
 -- the log's batches stay small
-small_step : (p : Params) (word_of : WordId → ℕ) (t : LifeState) (a : LifeAct) → AreBatchesSmall t.log → ((b : LifeBatch) → Some a ≡ Some (Append b) → IsBatchSmall b) → AreBatchesSmall (life_step p word_of t a).log
+pub small_step : (p : Params) (word_of : WordId → ℕ) (t : LifeState) (a : LifeAct) → AreBatchesSmall t.log → ((b : LifeBatch) → Some a ≡ Some (Append b) → IsBatchSmall b) → AreBatchesSmall (life_step p word_of t a).log
 small_step p word_of t (Open g) small own = small
 small_step p word_of t (Append r) small own = λ b has. ⊎_elim (λ (was : Has t.log b). small b was) (λ (is : r ≡ b). subst IsBatchSmall is (own r refl)) (has_push t.log r b has)
 small_step p word_of t ShowBatch small own = small
@@ -58,10 +58,10 @@ module _ (keys : Keys) (p : Params) (word_of : WordId → ℕ) (s : LifeState) (
         }
 
     -- with a refused call's acts, and the one in flight
-    made_turn : (made : List LifeAct) (in_flight : Option LifeAct) → ((k : WordsKept) → AllDrawNext p word_of s k acts) → ((k : WordsKept) → DrawInTurn p word_of t (words_behind p word_of s k acts) made in_flight) → (k : WordsKept) → AllDrawNext p word_of s k (acts ++ made)
+    pub made_turn : (made : List LifeAct) (in_flight : Option LifeAct) → ((k : WordsKept) → AllDrawNext p word_of s k acts) → ((k : WordsKept) → DrawInTurn p word_of t (words_behind p word_of s k acts) made in_flight) → (k : WordsKept) → AllDrawNext p word_of s k (acts ++ made)
     made_turn made in_flight turn left k = next_on p word_of s k acts made (turn k) (subst (λ (u : LifeState). AllDrawNext p word_of u (words_behind p word_of s k acts) made) (sym leads) (left k).made_next)
 
-    flown_turn : (made : List LifeAct) (in_flight : Option LifeAct) (a : LifeAct) → in_flight ≡ Some a → ((k : WordsKept) → AllDrawNext p word_of s k acts) → ((k : WordsKept) → DrawInTurn p word_of t (words_behind p word_of s k acts) made in_flight)
+    pub flown_turn : (made : List LifeAct) (in_flight : Option LifeAct) (a : LifeAct) → in_flight ≡ Some a → ((k : WordsKept) → AllDrawNext p word_of s k acts) → ((k : WordsKept) → DrawInTurn p word_of t (words_behind p word_of s k acts) made in_flight)
         → (k : WordsKept) → AllDrawNext p word_of s k (acts ++ (made ++ a ∷ []))
     flown_turn made in_flight a flies turn left k =
         next_on p word_of s k acts (made ++ a ∷ []) (turn k)
@@ -104,5 +104,7 @@ whole_run keys most p image f opened new calls steps behind refused words seen b
       next = λ m is c left. next_of keys p word_of s (opening_acts s ++ g.acts) whole (reached p word_of (reached p word_of s (opening_acts s)) g.acts) (reached_join p word_of s (opening_acts s) g.acts) most behind refused words seen new (g.left m is) turn (λ k. g.turn_left m is (words_behind p word_of s k (opening_acts s ++ g.acts)) (behind_all k)) c left;
       turn = turn;
       turn_left = λ m is. made_turn keys p word_of s (opening_acts s ++ g.acts) whole (reached p word_of (reached p word_of s (opening_acts s)) g.acts) (reached_join p word_of s (opening_acts s) g.acts) (g.left m is).made (g.left m is).in_flight turn
+          (λ k. g.turn_left m is (words_behind p word_of s k (opening_acts s ++ g.acts)) (behind_all k));
+      turn_flown = λ m is a flies. flown_turn keys p word_of s (opening_acts s ++ g.acts) whole (reached p word_of (reached p word_of s (opening_acts s)) g.acts) (reached_join p word_of s (opening_acts s) g.acts) (g.left m is).made (g.left m is).in_flight a flies turn
           (λ k. g.turn_left m is (words_behind p word_of s k (opening_acts s ++ g.acts)) (behind_all k));
     }

@@ -18,7 +18,6 @@ use Rattle.ob_serial.specs.Serial.{Map}
 use Rattle.ob_serial.specs.Vaults.{VaultCall}
 use Rattle.ob_stand.specs.Fresh.{fresh_content}
 use Rattle.ob_store.specs.Disk.{Disk, Image}
-use Rattle.ob_store.specs.Images.{IsSynced}
 use Rattle.ob_store.specs.declared.event.Event.{Event}
 use Rattle.ob_opening.specs.Formats.{drawn_ranks}
 use Rattle.ob_opening.specs.OpeningActs.{AreSlotsIn}
@@ -46,17 +45,23 @@ AreGiven word_of (Served most old found opened calls steps behind refused words 
 AreGiven word_of (Stopped old new ∷ parts) = AreGiven word_of parts
 
 module _ {S : Type 0} (disk : S → Disk) (keys : Keys) (p : Params) where
-  -- what `run` says of each: where it found a map; or, of a store for which no write waited, where its opening was refused
+  -- what `run` says of each: where it found a map; or where its opening was refused
   abbrev pub IsRunTold : RunPart S → Type 0
   IsRunTold (Served most old found opened calls steps behind refused words seen new) =
       RingBegins keys p (disk old).cells found × RingGoesOn keys most p found (disk opened) calls steps behind refused words seen (disk new) × ((m : Map nat_cmp) × IsRingMap keys p (disk opened) found m)
-  IsRunTold (Stopped old new) = IsSynced (disk old) × RingStops keys p (disk old) (disk new)
+  IsRunTold (Stopped old new) = RingStops keys p (disk old) (disk new)
+
+  -- It began at an image that might have been left. Where its opening was refused, writes may have waited there, so that a crash might then
+  -- have left another one: each of these might have been left too.
+  abbrev pub IsBegunWithin : (Image → Type 0) → RunPart S → Type 0
+  IsBegunWithin may_leave (Served most old found opened calls steps behind refused words seen new) = may_leave (disk old).cells
+  IsBegunWithin may_leave (Stopped old new) = may_leave (disk old).cells × ((c : Image) → (disk old).may_leave c → may_leave c)
 
   -- Each is told so, and begins at an image that a crash might have left: the first at one of these, each later one at one of the run
   -- before.
   abbrev pub AreRunsFrom : (Image → Type 0) → List (RunPart S) → Type 0
   AreRunsFrom may_leave [] = Unit {0}
-  AreRunsFrom may_leave (part ∷ parts) = may_leave (disk (begun_at part)).cells × IsRunTold part × AreRunsFrom (disk (left_at part)).may_leave parts
+  AreRunsFrom may_leave (part ∷ parts) = IsBegunWithin may_leave part × IsRunTold part × AreRunsFrom (disk (left_at part)).may_leave parts
 
   module _ (word_of : WordId → ℕ) where
     -- The acts of a run: the opening's, those of its calls, which show what fills its holes, those that were made of a call that was refused,

@@ -68,20 +68,23 @@ pub record IsOpenedInLife (p : Params) (word_of : WordId → ℕ) (f : RingFound
 abbrev pub RingBegins : Keys → Params → Image → RingFound → Type 0
 RingBegins keys p image f = (word_of : WordId → ℕ) (s : LifeState) → StandsInLife keys p word_of s image → AreBatchesSmall s.log → IsOpenedInLife p word_of f s
 
--- Of one that was refused the first acts were made, and the next may be in flight: the next opening can go on from each image that a
--- crash then leaves.
-pub record IsStoppedInLife (keys : Keys) (p : Params) (word_of : WordId → ℕ) (s : LifeState) (new : Disk) : Type 0 where
+-- One was refused, over a store whose last run may have left an act in flight. Either nothing was settled, and that act still is; or it was
+-- found or it wasn't, and of it and of the opening's acts the first were made, and the next may be in flight. The next opening can go on
+-- from each image that a crash then leaves.
+pub record IsStoppedInLife (keys : Keys) (p : Params) (word_of : WordId → ℕ) (s : LifeState) (pending : Option LifeAct) (new : Disk) : Type 0 where
+  pub found : List LifeAct
+  pub finds : Finds pending found
   pub made : List LifeAct
-  pub rest : List LifeAct
   pub in_flight : Option LifeAct
-  pub acts : opening_acts s ≡ made ++ rest
-  pub next : (in_flight ≡ None) ⊎ ((a : LifeAct) × (more : List LifeAct) × (in_flight ≡ Some a) × (rest ≡ a ∷ more))
+  pub part : ((made ≡ []) × (in_flight ≡ pending))
+      ⊎ ((rest : List LifeAct) × (found ++ opening_acts (reached p word_of s found) ≡ made ++ rest) × ((in_flight ≡ None) ⊎ ((a : LifeAct) × (more : List LifeAct) × (in_flight ≡ Some a) × (rest ≡ a ∷ more))))
   pub is_life : IsLife p word_of s made
   pub images : (c : Image) → new.may_leave c → IsLeftAt keys p word_of (reached p word_of s made) in_flight c
 
--- In each life that the cells stood for, and each image that a crash might have left.
+-- So it is for each life that was left so in the cells, and in each image that a crash might have left: whether writes waited there or not.
 abbrev pub RingStops : Keys → Params → (old new : Disk) → Type 0
-RingStops keys p old new = (word_of : WordId → ℕ) (s : LifeState) → StandsInLife keys p word_of s old.cells → ((c : Image) → old.may_leave c → StandsInLife keys p word_of s c) → IsStoppedInLife keys p word_of s new
+RingStops keys p old new = (word_of : WordId → ℕ) (s : LifeState) (pending : Option LifeAct) → IsLeftAt keys p word_of s pending old.cells → ((c : Image) → old.may_leave c → IsLeftAt keys p word_of s pending c)
+    → IsStoppedInLife keys p word_of s pending new
 
 -- ---- what is left
 
@@ -158,7 +161,8 @@ OpeningsGoOn = (keys : Keys) (p : Params) (image : Image) (f : RingFound) → Is
 -- The acts of an opening that was refused, behind the head's read, are made of that life.
 abbrev pub OpeningsStop : {S : Type 0} → (S → Disk) → Type 0
 OpeningsStop {S} disk = (keys : Keys) (most : ℕ) (p : Params) (old mid new : S) (before after : Trace) (answered : Bool) → ReadsHead (disk old) (disk mid)
-    → ((word_of : WordId → ℕ) (s : LifeState) → (disk mid).tells → IsLeftAt keys p word_of s None (disk mid).cells → OpensInLife keys most p word_of s None (disk mid) (disk new) before after answered) → (disk old).tells → RingStops keys p (disk old) (disk new)
+    → ((word_of : WordId → ℕ) (s : LifeState) (pending : Option LifeAct) → (disk mid).tells → IsLeftAt keys p word_of s pending (disk mid).cells → OpensInLife keys most p word_of s pending (disk mid) (disk new) before after answered)
+    → (disk old).tells → RingStops keys p (disk old) (disk new)
 
 -- Calls that were answered, and one that was refused behind them, of which this was seen and shown, go on from what was found.
 abbrev pub RunsGoOn : {V S : Type 0} → Kind V → (S → Disk) → Type 0
@@ -195,6 +199,8 @@ pub record IsRunInLife (keys : Keys) (most : ℕ) (p : Params) (word_of : WordId
   -- whatever words were kept before, those of the run are drawn in turn
   pub turn : (k : WordsKept) → AllDrawNext p word_of s k (opening_acts s ++ goes.acts)
   pub turn_left : (m : Map nat_cmp) (is : IsRingMap keys p opened f m) (k : WordsKept) → AllDrawNext p word_of s k ((opening_acts s ++ goes.acts) ++ (goes.left m is).made)
+  -- with the act in flight too
+  pub turn_flown : (m : Map nat_cmp) (is : IsRingMap keys p opened f m) (a : LifeAct) → (goes.left m is).in_flight ≡ Some a → (k : WordsKept) → AllDrawNext p word_of s k ((opening_acts s ++ goes.acts) ++ ((goes.left m is).made ++ a ∷ []))
 
 -- What an opening begins with, and what then goes on, are one: over a store that stood for a life the whole run is a part of that, and all
 -- that was ever shown of it is fresh.
