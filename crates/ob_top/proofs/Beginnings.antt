@@ -47,7 +47,8 @@ use Rattle.ob_opening.specs.declared.opening.Opening.{Opening}
 use Rattle.ob_top.proofs.Running.{IsQuiet}
 use Rattle.ob_top.specs.Begun.{IsBegun, MayServe}
 use Rattle.ob_top.specs.Formats.{FormatEnds, IsFormatted}
-use Rattle.ob_top.specs.Runs.{BreaksAtHead, BreaksAtOpening, CameIn, EndsEarly}
+use Rattle.ob_top.specs.Runs.{BreaksAtHead, BreaksAtOpening, EndsEarly}
+use Rattle.ob_top.specs.Parts.{CameIn}
 
 -- the watch was found broken
 pub broke_early : {S : Type 0} (disk : S → Disk) (keys : Keys) (most : ℕ) (old new : Disk) (t u : Trace) (before after : Flow) (err : RunErr) → IsWatched u (Some err)

@@ -23,9 +23,11 @@ use Rattle.ob_top.specs.Outside.{Given, blind, Outside, IsCommandFinished, IsFin
 use Rattle.ob_top.specs.Formats.{FormatDone}
 use Rattle.ob_vault.specs.RingKind.{ring_kind}
 use Rattle.ob_vault.specs.Lives.{ring_lives}
-use Rattle.ob_top.specs.Runs.{manner, RunDone}
+use Rattle.ob_top.specs.Runs.{RunDone}
+use Rattle.ob_top.specs.Parts.{manner}
 use Rattle.ob_store.specs.Lines.{Trace, first_line, open_line, start_line}
-use Rattle.ob_top.specs.Top.{AskForSomething, ByTrace, CommandDoes, IsRefusedWithout, TracedDoes, WatchedDoes, start_for, traced_of}
+use Rattle.ob_top.specs.Top.{ByTrace}
+use Rattle.ob_top.specs.Over.{AskForSomething, CommandDoes, IsRefusedWithout, TracedDoes, WatchedDoes, start_for, traced_of}
 use Rattle.ob_top.proofs.Beginnings.{ring_quiet}
 use Rattle.ob_top.proofs.Finishing.{run_done, format_done}
 

@@ -38,7 +38,8 @@ use Rattle.ob_vault.specs.KindLives.{LifeWords}
 use Rattle.ob_vault.specs.Shapes.{Shape, refused, shapes}
 use Rattle.ob_conduct.specs.Acts.{calls}
 use Rattle.ob_desk.specs.Beats.{BeatKind}
-use Rattle.ob_top.specs.Runs.{Manner, manner, CameIn, IsInputRefused, EndsEarly, EndsFor, Ran, Went, RunDone}
+use Rattle.ob_top.specs.Runs.{IsInputRefused, EndsEarly, EndsFor, Ran, Went, RunDone}
+use Rattle.ob_top.specs.Parts.{Manner, manner, CameIn}
 use Rattle.ob_top.specs.Complete.{CanFormat, CanRun, DoesWhatItCan, StopsFull, TraceHolds}
 use Rattle.ob_vault.proofs.Standing.{ring_keeps}
 use Rattle.ob_top.proofs.Counted.{one_lanes, one_script}
@@ -47,7 +48,7 @@ use Rattle.ob_words.proofs.Named.{no_bad_number, no_bad_lanes, one_keys, keys_st
 -- ---- format
 
 -- a watch that was whole and has broken: its sink's count rose
-rose_added : (text : List ℕ) (t u : Trace) → AddsOnly text t u → t.broken ≡ false → u.broken ≡ true → Rose t.faults u.faults
+pub rose_added : (text : List ℕ) (t u : Trace) → AddsOnly text t u → t.broken ≡ false → u.broken ≡ true → Rose t.faults u.faults
 rose_added text t u adds whole broken = subst (λ (b : Bool). BreaksOnly false b t.faults u.faults) broken (subst (λ (b : Bool). BreaksOnly b u.broken t.faults u.faults) whole adds.breaks)
 
 format_fault : {S : Type 0} (disk : S → Disk) (tape : Given) (keys : Keys) (p : Params) (old new : S) (before written after : Flow) (t u : Trace) (f : Option RunErr) → FormatEnds ring_kind ring_lives disk tape keys p old new before written t u f → ErrTold written after f

@@ -40,7 +40,8 @@ use Rattle.ob_outcomes.proofs.Counting.{few_epochs, few_txns}
 use Rattle.ob_drill.specs.Reading.{ChangesNone, IsRefusal}
 use Rattle.ob_top.specs.Drilling.{DrillFails, HasDrilled, IsWant, WasRun, no_output}
 use Rattle.ob_top.specs.Endings.{err_of}
-use Rattle.ob_top.specs.Runs.{ServedOver, manner}
+use Rattle.ob_top.specs.Runs.{ServedOver}
+use Rattle.ob_top.specs.Parts.{manner}
 use Rattle.ob_top.specs.SelfTests.{IsServedAndRead}
 use Rattle.ob_top.specs.declared.drill.Drilled.{Drilled}
 use Rattle.ob_conduct.specs.declared.run_err.RunErr.{RunErr}

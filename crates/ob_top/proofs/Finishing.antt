@@ -25,7 +25,8 @@ use Rattle.ob_top.specs.Formats.{FormatEnds, FormatDone}
 use Rattle.ob_vault.specs.Kinds.{StoreKind}
 use Rattle.ob_vault.specs.KindLives.{LifeWords}
 use Rattle.ob_top.specs.Endings.{LinesStand, told_fault}
-use Rattle.ob_top.specs.Runs.{Manner, Went, RunOn, RunDone}
+use Rattle.ob_top.specs.Runs.{Went, RunOn, RunDone}
+use Rattle.ob_top.specs.Parts.{Manner}
 use Rattle.ob_top.proofs.Lines.{cut_printed}
 use Rattle.ob_top.specs.Sound.{StandsOn}
 use Rattle.ob_top.proofs.Running.{IsQuiet}

@@ -1,13 +1,15 @@
 -- The headline, from what a run has done.
-use Rattle.std.proofs.Common.{◌≤◌, ◌≡◌, ◌∙◌, ◌+◌, ℕ, suc, Bool, not, List, [], ◌∷◌, ◌++◌, length, map, Option, Some, None, refl, sym, subst, inl, inr, arith, ap}
+use Rattle.std.proofs.Common.{◌≤◌, ◌≡◌, ◌∙◌, ◌+◌, ℕ, suc, Bool, not, List, [], ◌∷◌, ◌++◌, length, map, Option, Some, None, refl, sym, subst, inl, inr, arith, ap, is_some, true, false}
 use Rattle.std.proofs.lemmas.List.{append-nil}
+use Rattle.ob_base.specs.declared.fault.Fault.{Fault}
+use Rattle.ob_top.proofs.Early.{early_cause}
 use Rattle.std.specs.Borrow.{Bor}
 use Rattle.std.specs.Ordering.{nat_cmp}
 use Rattle.std.specs.Prelude.{decimal}
 use Rattle.ob_base.specs.Causes.{Rose}
 use Rattle.ob_base.specs.declared.fault.Fault.TheVariants.{Memory, Usage, BadScript, BadParams, NotStore, Damaged, StoreFault, StashFull, Worn, SourceFault, SinkFault}
 use Rattle.ob_base.specs.declared.params.Params.{Params}
-use Rattle.ob_conduct.specs.Acts.{calls, history}
+use Rattle.ob_conduct.specs.Acts.{calls, history, fault_of}
 use Rattle.ob_conduct.specs.Records.{IsOver, contents}
 use Rattle.ob_conduct.specs.declared.run_err.RunErr.{RunErr}
 use Rattle.ob_conduct.specs.declared.run_err.RunErr.TheVariants as failed
@@ -17,7 +19,7 @@ use Rattle.ob_io.specs.Streams.{Flow}
 use Rattle.ob_recover.proofs.Pads.{life_goes_on}
 use Rattle.ob_recover.specs.Calls.{Finds}
 use Rattle.ob_recover.specs.Life.{IsLife, LifeAct, LifeState, reached}
-use Rattle.ob_report.specs.Faults.{fault_line, status_of}
+use Rattle.ob_report.specs.Faults.{fault_line, status_of, fault_status}
 use Rattle.ob_report.specs.Printed.{IsPrinted}
 use Rattle.ob_report.specs.Report.{report}
 use Rattle.ob_script.specs.Script.{Scripts}
@@ -47,17 +49,17 @@ use Rattle.ob_top.specs.Calls.{RunCall, EndPoint, IsRunCause, end_point}
 use Rattle.ob_top.specs.Endings.{told_fault}
 use Rattle.ob_top.specs.Headline.{Headline, RunTold, Stood}
 use Rattle.ob_top.specs.Listed.{AreListed}
-use Rattle.ob_top.specs.Outside.{ErrTold, Given, HasTrace, Outside, blind, outside}
+use Rattle.ob_top.specs.Outside.{ErrTold, Given, HasTrace, Outside, blind, outside, IsOnlyTold}
 use Rattle.ob_top.specs.Pasts.{LeadsTo, PastLife, life_of, with_acts}
-use Rattle.ob_top.specs.Promised.{Promised, Unserved, faults_of}
-use Rattle.ob_top.specs.Runs.{EndsEarly, EndsFor, EndsWith, IsNextEpoch, IsLeftOnDisk, Ran, RunDone, Went, manner}
+use Rattle.ob_top.specs.Promised.{Promised, Unserved, faults_of, IsEarlyCause}
+use Rattle.ob_top.specs.Runs.{EndsEarly, EndsFor, IsLeftOnDisk, Ran, RunDone, Went}
+use Rattle.ob_top.specs.Parts.{EndsWith, IsNextEpoch, manner}
 use Rattle.ob_top.specs.Sound.{StandsOn}
 use Rattle.ob_top.specs.Top.{ByTrace}
-use Rattle.ob_top.proofs.Completing.{RunTells}
+use Rattle.ob_top.proofs.Completing.{RunTells, rose_added}
 use Rattle.ob_top.proofs.Counted.{one_lanes}
 use Rattle.ob_top.proofs.Living.{whole_lives}
 use Rattle.ob_top.proofs.Lasting.{fresh_on, leads_on, past_on, opened_there, opened_turn, stopped_next}
-use Rattle.ob_top.proofs.Sounding.{none_told_at_0}
 
 no_rise : Rose 0 0 → ⊥
 no_rise rose = omega (arith, rose)
@@ -212,8 +214,15 @@ module _ {S : Type 0} (disk : S → Disk) (keys : Keys) (call : RunCall S) (t u 
           let (now, (g, stands)) = stood.sound c may in
           record { at = now; generation = g; stands = stands; earlier = g; no_lower = omega arith; was = inr (c, may, stands) }
 
-      pub read_only : Passes Same (disk call.old) (disk call.new) → Unserved disk keys p past call.old call.new
-      read_only passes = record {
+      abbrev Told : Fault → Type 0
+      Told f = (call.status ≡ fault_status f) × IsPrinted call.before.output call.after.output (fault_line (Some f)) × IsEarlyCause disk p past call f
+
+      pub read_only : (f : Fault) → Told f → Passes Same (disk call.old) (disk call.new) → Unserved disk keys p past call
+      read_only f said passes = record {
+        fault = f;
+        status_is = said.0;
+        output = said.1;
+        cause = said.2;
         opening = leaves_of Same (StandsAsBefore ring_kind keys p (disk call.old)) (StandsAsBefore ring_kind keys p (disk call.old)) (disk call.old) (disk call.new) passes (only_now call.old) left_so (λ tells. stands_so (disk call.old).cells stood.is_at.stands refl)
             (λ c d was same. subst (StandsAsBefore ring_kind keys p (disk call.old)) (sym same) was) (λ c was. was);
         sound = λ c may.
@@ -235,12 +244,16 @@ module _ {S : Type 0} (disk : S → Disk) (keys : Keys) (call : RunCall S) (t u 
             let (g, stands) = stood.is_at.stands in
             ring_keeps.one_head keys p q ((disk call.old).cells 0) (ring_keeps.has_head keys p g (disk call.old).cells at stands) (head stood.tells.0)
 
-        pub early : (e : RunErr) → EndsEarly ring_kind ring_lives keys call.by.lanes (disk call.old) (disk call.new) t u disk call.before.input call.after.input e → Unserved disk keys p past call.old call.new
-        early (failed.Fault refusal) (inl head) = read_only head.passes
-        early (failed.Fault refusal) (inr (inl input)) = read_only input.passes
-        early (failed.Fault refusal) (inr (inr o)) =
+        pub early : (e : RunErr) → Told (fault_of e) → EndsEarly ring_kind ring_lives keys call.by.lanes (disk call.old) (disk call.new) t u disk call.before.input call.after.input e → Unserved disk keys p past call
+        early (failed.Fault refusal) said (inl head) = read_only refusal said head.passes
+        early (failed.Fault refusal) said (inr (inl input)) = read_only refusal said input.passes
+        early (failed.Fault refusal) said (inr (inr o)) =
             let same : o.p ≡ p = sym (one_p o.p o.head) in
             record {
+              fault = refusal;
+              status_is = said.0;
+              output = said.1;
+              cause = said.2;
               opening = subst (λ (q : Params). LeavesOnly (disk call.old) (disk call.new) (StandsAsBefore ring_kind keys q (disk call.old))) same
                   (o.left at stood.tells.0 (subst (λ (q : Params). Stands ring_kind keys q (disk call.old).cells at) (sym same) stood.is_at.stands) (subst (λ (q : Params). AllStand ring_kind keys q (disk call.old)) (sym same) stood.sound));
               sound = images;
@@ -249,11 +262,15 @@ module _ {S : Type 0} (disk : S → Disk) (keys : Keys) (call : RunCall S) (t u 
                   let (now, allowed) = images c may in
                   (first, rest, is, leads_on p past stood.is_past first life turn keys c now allowed stands small);
             }
-        early failed.Unwatched (inl head) = read_only head.passes
-        early failed.Unwatched (inr o) =
+        early failed.Unwatched said (inl head) = read_only SinkFault said head.passes
+        early failed.Unwatched said (inr o) =
             let same : o.p ≡ p = sym (one_p o.p o.opened.head) in
             let stands = subst (λ (q : Params). Stands ring_kind keys q (disk call.old).cells at) (sym same) stood.is_at.stands in
             record {
+              fault = SinkFault;
+              status_is = said.0;
+              output = said.1;
+              cause = said.2;
               opening = subst (λ (q : Params). LeavesOnly (disk call.old) (disk call.new) (StandsAsBefore ring_kind keys q (disk call.old))) same (o.left at stood.tells.0 stands (subst (λ (q : Params). AllStand ring_kind keys q (disk call.old)) (sym same) stood.sound));
               sound = images;
               again = λ there c may.
@@ -277,33 +294,29 @@ module _ {S : Type 0} (disk : S → Disk) (keys : Keys) (call : RunCall S) (t u 
           subst (λ (q : Params). Stood disk keys q at past call.tape call.old → Promised disk keys q at past call) same (λ so. inl (by_ran records r so output)) stood
 
   module _ (only_now : (x : S) (c : Image) → (disk x).left_since (disk x).moment c → (disk x).may_leave c) (includes_reads : (x : S) → (disk x).tells → (disk x).leaves → (disk x).may_leave (disk x).cells) (goes : GoesOn (disk call.old) (disk call.new))
-      (p : Params) (at : Standing) (past : PastLife) (stood : Stood disk keys p at past call.tape call.old) where
+      (p : Params) (at : Standing) (past : PastLife) (stood : Stood disk keys p at past call.tape call.old) (whole : t.broken ≡ false) where
     by_went : (records : List (EpochRecord ℕ)) (err : Option RunErr) (written : Flow) (line : ErrTold written call.after.output err) → Output includes_reads goes at past err written line records → StandsOn ring_kind disk keys call.old call.new
         → Went ring_kind ring_lives disk call.by call.tape keys call.old call.new call.before (outside call.after.input written) t u records err → Promised disk keys p at past call
     by_went records None written line output sound ran = by_run includes_reads goes at past None written line only_now records output sound p stood ran
     by_went records (Some err) written line output sound (inr ran) = by_run includes_reads goes at past (Some err) written line only_now records output sound p stood ran
-    by_went records (Some err) written line output sound (inl (none, ended, lives)) = inr ((λ zero. no_err (none_told_at_0 (Some err) (sym output.0 ∙ zero))), early includes_reads goes at past (Some err) written line only_now p stood sound err ended)
-      where
-        no_err : ◌≡◌ {A = Option RunErr} (Some err) None → ⊥
-        no_err e = cc e
+    by_went records (Some err) written line output sound (inl (none, ended, lives)) =
+        let said = subst (λ (rs : List (EpochRecord ℕ)). IsPrinted call.before.output call.after.output (report decimal rs ++ fault_line (Some (fault_of err)))) none output.1 in
+        inr (early includes_reads goes at past (Some err) written line only_now p stood sound err (output.0, said, early_cause disk keys p at past call stood t u whole traced err ended) ended)
 
     pub done_promised : RunDone ring_kind ring_lives disk call.by call.tape keys call.old call.new call.before call.after t u call.status → Promised disk keys p at past call
     done_promised d = by_went d.records d.err d.written d.line (d.status_is, d.output_is, d.all_written) d.sound d.went
 
-    -- nothing was done
-    pub none_promised : (n : ℕ) → call.status ≡ suc n → call.new ≡ call.old → Promised disk keys p at past call
-    none_promised n status same =
-        inr ((λ zero. no_zero (sym zero ∙ status)), read_only includes_reads goes at past None call.after.output refl only_now p stood (subst (λ (x : S). Passes Same (disk call.old) (disk x)) (sym same) (same_none (disk call.old))))
-      where
-        no_zero : 0 ≡ suc n → ⊥
-        no_zero e = omega (arith, e)
+    -- nothing was done, and this told
+    pub none_promised : (f : Fault) → IsOnlyTold f call.before call.after call.status → IsEarlyCause disk p past call f → call.new ≡ call.old → Promised disk keys p at past call
+    none_promised f told cause same =
+        inr (read_only includes_reads goes at past None call.after.output refl only_now p stood f (told.status_is, told.printed, cause) (subst (λ (x : S). Passes Same (disk call.old) (disk x)) (sym same) (same_none (disk call.old))))
 
 -- ---- by the words
 
 module _ {S W : Type 0} (disk : S → Disk) (flow : W → Flow) (beat : BeatKind) (tape : Given) (text : Option (Bor (List ℕ))) (old new : S) (was is : Option W) (before after : Outside) (status : ℕ)
     (only_now : (x : S) (c : Image) → (disk x).left_since (disk x).moment c → (disk x).may_leave c) (includes_reads : (x : S) → (disk x).tells → (disk x).leaves → (disk x).may_leave (disk x).cells) (goes : GoesOn (disk old) (disk new)) where
   abbrev pub called : Bool → ℕ → RunCall S
-  called turns k = record { old = old; new = new; before = before; after = after; traced_before = faults_of flow was; traced_after = faults_of flow is; by = manner beat (not turns) k; tape = tape; status = status }
+  called turns k = record { old = old; new = new; before = before; after = after; has_trace = is_some was; traced_before = faults_of flow was; traced_after = faults_of flow is; by = manner beat (not turns) k; tape = tape; status = status }
 
   module _ (turns : Bool) (k : ℕ) (keys : Keys) (p : Params) (at : Standing) (past : PastLife) (stood : Stood disk keys p at past tape old) where
     abbrev Keeps : Type 0
@@ -315,17 +328,23 @@ module _ {S W : Type 0} (disk : S → Disk) (flow : W → Flow) (beat : BeatKind
         subst (λ (x : Option W). Rose (faults_of flow x) (faults_of flow is)) (sym has.was_is) (subst (λ (x : Option W). Rose (flow has.before).faults (faults_of flow x)) (sym has.is_is)
         (subst (λ n. Rose (flow has.before).faults n) (sym has.told.1) (subst (λ n. Rose n u.faults) (sym has.tells.1) (rose_later has.start.faults t.faults u.faults has.line.faults rose))))
 
+    -- so it did where the first line broke it
+    first_broke : (t u : Trace) → HasTrace flow open_line was is t u → t.broken ≡ true → u ≡ t → Rose (faults_of flow was) (faults_of flow is)
+    first_broke t u has broken still =
+        subst (λ (x : Option W). Rose (faults_of flow x) (faults_of flow is)) (sym has.was_is) (subst (λ (x : Option W). Rose (flow has.before).faults (faults_of flow x)) (sym has.is_is)
+        (subst (λ n. Rose (flow has.before).faults n) (sym has.told.1) (subst (λ n. Rose n u.faults) (sym has.tells.1) (subst (λ (x : Trace). Rose has.start.faults x.faults) (sym still) (rose_added open_line has.start t has.line has.whole broken)))))
+
     abbrev Done : Trace → Trace → Type 0
     Done t u = RunDone ring_kind ring_lives disk (manner beat (not turns) k) tape keys old new before after t u status
 
     by_trace : (trace : Option (List ℕ)) → ByTrace flow was is before after status trace open_line Done old new → Keeps
-    by_trace None (kept, done) = done_promised disk keys (called turns k) blind blind (λ rose. absurd (no_rise rose)) only_now includes_reads goes p at past stood done
-    by_trace (Some file) (inl (none, kept, same, line)) = none_promised disk keys (called turns k) blind blind (λ rose. absurd (no_rise rose)) only_now includes_reads goes p at past stood 6 line.status_is same
-    by_trace (Some file) (inr (t, u, has, inl (broken, still, same, line))) = none_promised disk keys (called turns k) t u (sink_rose open_line t u has) only_now includes_reads goes p at past stood 6 line.status_is same
-    by_trace (Some file) (inr (t, u, has, inr (whole, done))) = done_promised disk keys (called turns k) t u (sink_rose open_line t u has) only_now includes_reads goes p at past stood done
+    by_trace None (kept, done) = done_promised disk keys (called turns k) blind blind (λ rose. absurd (no_rise rose)) only_now includes_reads goes p at past stood refl done
+    by_trace (Some file) (inl (none, kept, same, line)) = none_promised disk keys (called turns k) blind blind (λ rose. absurd (no_rise rose)) only_now includes_reads goes p at past stood refl SinkFault line (inl (ap is_some none)) same
+    by_trace (Some file) (inr (t, u, has, inl (broken, still, same, line))) = none_promised disk keys (called turns k) blind blind (λ rose. absurd (no_rise rose)) only_now includes_reads goes p at past stood refl SinkFault line (inr (first_broke t u has broken still)) same
+    by_trace (Some file) (inr (t, u, has, inr (whole, done))) = done_promised disk keys (called turns k) t u (sink_rose open_line t u has) only_now includes_reads goes p at past stood whole done
 
     pub told_promised : (lanes trace : Option (List ℕ)) → AreLanes lanes k → HasKeys text keys → RunTells disk flow beat tape [] text old new was is before after status lanes turns trace → Keeps
-    told_promised lanes trace are has (inl (kept, line)) = none_promised disk keys (called turns k) blind blind (λ rose. absurd (no_rise rose)) only_now includes_reads goes p at past stood 8 line.status_is kept.0
+    told_promised lanes trace are has (inl (kept, line)) = none_promised disk keys (called turns k) blind blind (λ rose. absurd (no_rise rose)) only_now includes_reads goes p at past stood refl Memory line tt kept.0
     told_promised lanes trace are has (inr (inl (bad, line))) = absurd (no_bad_lanes lanes k are bad)
     told_promised lanes trace are has (inr (inr (m, these, inl (f, refusal, line)))) = absurd (keys_stand text keys f has refusal)
     told_promised lanes trace are has (inr (inr (m, these, inr (own, holds, by)))) =

@@ -40,7 +40,8 @@ use Rattle.ob_run.specs.Threaded.{RunsBy}
 use Rattle.ob_outcomes.proofs.Whole.{RunsScripts}
 use Rattle.ob_conduct.specs.Records.{AreAnswered}
 use Rattle.ob_top.specs.Endings.{err_of}
-use Rattle.ob_top.specs.Runs.{manner, ServedOver}
+use Rattle.ob_top.specs.Runs.{ServedOver}
+use Rattle.ob_top.specs.Parts.{manner}
 use Rattle.ob_top.proofs.Opens.{may_open}
 use Rattle.ob_conduct.specs.Acts.{calls}
 use Rattle.ob_top.proofs.RingServing.{IsRingLender, ring_serves, told_by}

@@ -30,7 +30,8 @@ use Rattle.ob_outcomes.proofs.Whole.{RunsScripts}
 use Rattle.ob_desk.specs.Beats.{BeatKind}
 use Rattle.ob_top.specs.Endings.{err_of}
 use Rattle.ob_top.specs.Outside.{Given, words_given}
-use Rattle.ob_top.specs.Runs.{manner, ServedOver}
+use Rattle.ob_top.specs.Runs.{ServedOver}
+use Rattle.ob_top.specs.Parts.{manner}
 use Rattle.ob_conduct.specs.Acts.{calls}
 use Rattle.ob_top.proofs.Serving.{CallsBehind, IsLender, serves_on}
 

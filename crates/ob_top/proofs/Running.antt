@@ -25,7 +25,8 @@ use Rattle.ob_store.specs.declared.watch.Note.TheVariants as note
 use Rattle.ob_serial.specs.Serial.{EpochRecord}
 use Rattle.ob_script.specs.Script.{Scripts}
 use Rattle.ob_top.specs.Outside.{Given, Outside, outside}
-use Rattle.ob_top.specs.Runs.{Manner, EndsEarly, IsOpened, beginning_notes, IsReadAndOpened, ServedOver, Ran, Went, RunOn, ShownBehindHead, begin_phases}
+use Rattle.ob_top.specs.Runs.{EndsEarly, beginning_notes, IsReadAndOpened, ServedOver, Ran, Went, RunOn, ShownBehindHead}
+use Rattle.ob_top.specs.Parts.{Manner, IsOpened, begin_phases}
 use Rattle.ob_top.proofs.Lines.{Stand, stand_all, stand_unless}
 use Rattle.ob_top.proofs.Sounding.{early_sound, ran_sound}
 

@@ -63,7 +63,8 @@ use Rattle.ob_report.specs.Summaries.{summary_text}
 use Rattle.ob_report.specs.declared.summary.Summary.{Summary}
 use Rattle.ob_top.specs.Drilling.{WasRun, IsOpenedEmpty, IsWant, script_runners, no_output}
 use Rattle.ob_top.specs.Outside.{blind}
-use Rattle.ob_top.specs.Runs.{ScriptServed, manner}
+use Rattle.ob_top.specs.Runs.{ScriptServed}
+use Rattle.ob_top.specs.Parts.{manner}
 use Rattle.ob_top.specs.SelfTests.{AllCommitted}
 use Rattle.ob_top.specs.Drills.{counted_value, drill_digest, drill_numbers, drill_summary}
 use Rattle.ob_top.proofs.Lent.{runs_scripts}

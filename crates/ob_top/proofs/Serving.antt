@@ -60,7 +60,8 @@ use Rattle.ob_top.specs.Endings.{err_of, told_fault}
 use Rattle.ob_top.specs.Outside.{Given}
 use Rattle.ob_top.proofs.Listing.{are_listed}
 use Rattle.ob_top.proofs.Lines.{lines_stand, next_by_acts}
-use Rattle.ob_top.specs.Runs.{ListsActs, Manner, manner, EndsWith, EachShown, EndsFor, IsShownToWatch, IsTraced, refused_row, steps_rows, IsLeftOnDisk, StagedFrom, IsNextEpoch, ComesNext, ServedOver, LivesBehind}
+use Rattle.ob_top.specs.Runs.{ListsActs, EachShown, EndsFor, IsShownToWatch, refused_row, steps_rows, IsLeftOnDisk, ServedOver, LivesBehind}
+use Rattle.ob_top.specs.Parts.{Manner, manner, EndsWith, IsTraced, StagedFrom, IsNextEpoch, ComesNext}
 
 -- an end that was refused ended nothing
 none_ended : (writes : List (ℕ × Option (List ℕ))) (refused : EndErr) → ended_by (End writes, end_answer (Err refused)) ≡ []

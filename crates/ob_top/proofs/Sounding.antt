@@ -20,7 +20,8 @@ use Rattle.ob_vault.specs.KindLives.{LifeWords}
 use Rattle.ob_vault.specs.Kinds.{AllStand, StoreKind, Stands, StandsAsBefore}
 use Rattle.ob_top.specs.Formats.{IsFormatted}
 use Rattle.ob_top.specs.Outside.{Given, Outside}
-use Rattle.ob_top.specs.Runs.{EndsEarly, Manner, Ran}
+use Rattle.ob_top.specs.Runs.{EndsEarly, Ran}
+use Rattle.ob_top.specs.Parts.{Manner}
 use Rattle.ob_top.specs.Sound.{IsSound, StandsOn}
 
 -- a status is 0 where there is no fault

@@ -9,7 +9,7 @@ use Rattle.ob_store.specs.Lines.{AddsOnly, Trace, first_line}
 use Rattle.ob_store.specs.declared.line.Start.{Start}
 use Rattle.ob_words.specs.declared.work.Command.{Command}
 use Rattle.ob_top.specs.Outside.{Given, Outside, TellsTrace}
-use Rattle.ob_top.specs.Top.{TracedDoes, start_for}
+use Rattle.ob_top.specs.Over.{TracedDoes, start_for}
 
 -- nothing was done
 pub broke_first : {S W : Type 0} (disk : S → Disk) (flow : W → Flow) (beat : BeatKind) (tape : Given) (command : Command) (keys : Keys) (old : S) (before : Outside) (was : Option W) (w v : W) (start t : Trace) (begun : Start) → AddsOnly (first_line begun) start t → begun ≡ start_for command

@@ -16,7 +16,8 @@ use Rattle.ob_twin.specs.Opening.{GatesAre}
 use Rattle.ob_twin.specs.declared.gates.Gates.{Gates}
 use Rattle.ob_opening.specs.declared.opening.Opening.{Opening}
 use Rattle.ob_store.specs.Lines.{Trace}
-use Rattle.ob_top.specs.Runs.{IsOpened, ShownBehindHead, begin_phases}
+use Rattle.ob_top.specs.Runs.{ShownBehindHead}
+use Rattle.ob_top.specs.Parts.{IsOpened, begin_phases}
 
 -- as many lanes as a run may have
 abbrev pub AreFewLanes : ℕ → Type 0

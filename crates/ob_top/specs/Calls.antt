@@ -1,5 +1,5 @@
 -- What a call of `run` was handed and left, and how it came to its end.
-use Rattle.std.specs.Prelude.{ℕ, suc, ◌≡◌, ◌⊎◌, ◌+◌, List, Option, Some, None}
+use Rattle.std.specs.Prelude.{Bool, ℕ, suc, ◌≡◌, ◌⊎◌, ◌+◌, List, Option, Some, None}
 use Rattle.ob_base.specs.Causes.{Rose}
 use Rattle.ob_base.specs.declared.fault.Fault.{Fault}
 use Rattle.ob_base.specs.declared.fault.Fault.TheVariants.{Memory, StoreFault, SinkFault}
@@ -18,15 +18,16 @@ use Rattle.ob_vault.specs.Lives.{AreFirstActs, IsShownInLife}
 use Rattle.ob_vault.specs.RingKind.{RingCauses, RingFound, ring_kind}
 use Rattle.ob_vault.specs.Shapes.{refused}
 use Rattle.ob_top.specs.Outside.{Given, Outside}
-use Rattle.ob_top.specs.Runs.{IsTraced, Manner}
+use Rattle.ob_top.specs.Parts.{IsTraced, Manner}
 
--- The store, the input and the output as they were handed in and as they were left, and how often the trace's sink had failed (0 where there
--- is none); how the run goes; what the tape has given behind it; and the status.
+-- The store, the input and the output as they were handed in and as they were left; whether a trace was, and how often its sink had failed (0
+-- where none was); how the run goes; what the tape has given behind it; and the status.
 pub record RunCall (S : Type 0) : Type 0 where
   pub old : S
   pub new : S
   pub before : Outside
   pub after : Outside
+  pub has_trace : Bool
   pub traced_before : ℕ
   pub traced_after : ℕ
   pub by : Manner

@@ -14,7 +14,8 @@ use Rattle.ob_vault.specs.Kinds.{StoreKind}
 use Rattle.ob_words.specs.Reading.{asked_by, format_asked, run_asked, audit_asked, drill_asked}
 use Rattle.ob_words.specs.Work.{AreParams, AreLanes, IsCount, HasKeys}
 use Rattle.ob_top.specs.Outside.{Given, Outside, Left, OfStore, outside}
-use Rattle.ob_top.specs.Runs.{Manner, Ran, manner}
+use Rattle.ob_top.specs.Runs.{Ran}
+use Rattle.ob_top.specs.Parts.{Manner, manner}
 use Rattle.ob_store.specs.Lines.{Trace}
 use Rattle.ob_io.specs.Streams.{Flow}
 use Rattle.ob_conduct.specs.declared.run_err.RunErr.TheVariants as failed

@@ -38,7 +38,7 @@ use Rattle.ob_top.specs.Endings.{IsNextBy, told_fault}
 use Rattle.ob_top.specs.Listed.{AreListed}
 use Rattle.ob_top.specs.Outside.{Given}
 use Rattle.ob_top.specs.Pasts.{LeadsToAt, IsLifeFresh, IsPastLife, LeadsTo, PastLife, behind_run, life_of, opened_life, run_life}
-use Rattle.ob_top.specs.Runs.{EndsWith, IsNextEpoch, IsOpened, IsTraced, StagedFrom, begin_phases}
+use Rattle.ob_top.specs.Parts.{EndsWith, IsNextEpoch, IsOpened, IsTraced, StagedFrom, begin_phases}
 
 -- The premises. The store tells what a read gives and what a crash leaves; whatever crashed, it stands for something; what was done with it
 -- since its format is one life, and it stands, at an epoch and a map, where that leads; and the tape gives its generation's words.

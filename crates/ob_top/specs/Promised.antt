@@ -1,11 +1,18 @@
 -- What the top call promises by the headline: a run that was served, or what a refusal before that leaves.
-use Rattle.std.specs.Prelude.{ℕ, ◌≡◌, ◌⊎◌, Bool, not, List, ◌++◌, Option, Some, None}
+use Rattle.std.specs.Prelude.{ℕ, suc, ◌≡◌, ◌⊎◌, ◌^◌, Bool, false, not, List, ◌++◌, Option, Some, None, is_some}
 use Rattle.std.specs.Borrow.{Bor, MutBor}
+use Rattle.ob_base.specs.Causes.{Rose}
+use Rattle.ob_base.specs.declared.fault.Fault.{Fault}
+use Rattle.ob_base.specs.declared.fault.Fault.TheVariants.{Memory, BadScript, StoreFault, Worn, SourceFault, SinkFault}
 use Rattle.ob_base.specs.declared.params.Params.{Params}
 use Rattle.ob_desk.specs.Beats.{BeatKind}
+use Rattle.ob_io.specs.Flows.{IsInput}
 use Rattle.ob_io.specs.Streams.{Flow}
 use Rattle.ob_opening.specs.OpeningActs.{StandsInLife}
 use Rattle.ob_recover.specs.Life.{LifeAct}
+use Rattle.ob_report.specs.Faults.{fault_line, fault_status}
+use Rattle.ob_report.specs.Printed.{IsPrinted}
+use Rattle.ob_script.specs.Script.{IsFirstBad, limit}
 use Rattle.ob_seal.specs.declared.keys.Keys.{Keys}
 use Rattle.ob_serial.specs.Vaults.{Standing}
 use Rattle.ob_store.specs.Disk.{Disk, Image}
@@ -19,19 +26,34 @@ use Rattle.ob_top.specs.Calls.{RunCall}
 use Rattle.ob_top.specs.Headline.{Headline, RunTold, Stood}
 use Rattle.ob_top.specs.Outside.{Given, Left, OfStore, Outside}
 use Rattle.ob_top.specs.Pasts.{LeadsTo, PastLife, life_of, with_acts}
-use Rattle.ob_top.specs.Runs.{manner}
+use Rattle.ob_top.specs.Parts.{manner}
 
--- Nothing was run. Each image that a crash leaves stands as one did before; and where each one that it might have left was where the past
--- leads, the next run goes on from each, behind some of an opening's acts.
-pub record Unserved {S : Type 0} (disk : S → Disk) (keys : Keys) (p : Params) (past : PastLife) (old new : S) : Type 0 where
-  pub opening : LeavesOnly (disk old) (disk new) (StandsAsBefore ring_kind keys p (disk old))
-  pub sound : AllStand ring_kind keys p (disk new)
-  pub again : ((d : Image) → (disk old).may_leave d → StandsInLife keys p past.word_of (life_of p past) d) → (c : Image) → (disk new).may_leave c
+-- Why nothing was run over a store that stood: memory was wanting; the store failed; the input did, or has this first line that breaks the
+-- grammar; the trace's sink failed, or none was handed in; or no generation is left.
+abbrev pub IsEarlyCause : {S : Type 0} → (S → Disk) → Params → PastLife → RunCall S → Fault → Type 0
+IsEarlyCause disk p past call Memory = Unit {0}
+IsEarlyCause disk p past call (StoreFault unsure) = Rose (disk call.old).faults (disk call.new).faults
+IsEarlyCause disk p past call SourceFault = Rose call.before.input.faults call.after.input.faults
+IsEarlyCause disk p past call (BadScript line) = (input : List ℕ) × IsInput call.before.input.bytes limit input × IsFirstBad p.keys input line
+IsEarlyCause disk p past call SinkFault = (call.has_trace ≡ false) ⊎ Rose call.traced_before call.traced_after
+IsEarlyCause disk p past call (Worn number) = suc (life_of p past).generation ≡ 2 ^ 62
+IsEarlyCause disk p past call _ = ⊥
+
+-- Nothing was run, for a cause, and the output is that fault's line. Each image that a crash leaves stands as one did before; and where each one
+-- that it might have left was where the past leads, the next run goes on from each, behind some of an opening's acts.
+pub record Unserved {S : Type 0} (disk : S → Disk) (keys : Keys) (p : Params) (past : PastLife) (call : RunCall S) : Type 0 where
+  pub fault : Fault
+  pub status_is : call.status ≡ fault_status fault
+  pub output : IsPrinted call.before.output call.after.output (fault_line (Some fault))
+  pub cause : IsEarlyCause disk p past call fault
+  pub opening : LeavesOnly (disk call.old) (disk call.new) (StandsAsBefore ring_kind keys p (disk call.old))
+  pub sound : AllStand ring_kind keys p (disk call.new)
+  pub again : ((d : Image) → (disk call.old).may_leave d → StandsInLife keys p past.word_of (life_of p past) d) → (c : Image) → (disk call.new).may_leave c
       → (made : List LifeAct) × (rest : List LifeAct) × (opening_acts (life_of p past) ≡ made ++ rest) × LeadsTo keys p (with_acts past made) c
 
--- The run came to something, of which the headline holds; or it was refused, or cut off, before its first transaction, and says so.
+-- The run came to something, of which the headline holds; or it was refused, or cut off, before its first transaction.
 abbrev pub Promised : {S : Type 0} → (S → Disk) → Keys → Params → Standing → PastLife → RunCall S → Type 0
-Promised {S} disk keys p at past call = ((run : RunTold S) × Headline disk keys p at past call run) ⊎ ((call.status ≡ 0 → ⊥) × Unserved disk keys p past call.old call.new)
+Promised {S} disk keys p at past call = ((run : RunTold S) × Headline disk keys p at past call run) ⊎ Unserved disk keys p past call
 
 -- how often the sink of a trace had failed, where there is one
 abbrev pub faults_of : {W : Type 0} → (W → Flow) → Option W → ℕ
@@ -48,6 +70,7 @@ module _ {S W : Type 0} (disk : S → Disk) (flow : W → Flow) (beat : BeatKind
         new = new;
         before = before;
         after = after;
+        has_trace = is_some was;
         traced_before = faults_of flow was;
         traced_after = faults_of flow is;
         by = manner beat (not turns) k;

@@ -1,5 +1,5 @@
 -- What `run` does.
-use Rattle.std.specs.Prelude.{◌≤◌, ℕ, suc, true, false, Bool, ◌≡◌, ◌⊎◌, ◌+◌, All, List, [], ◌∷◌, ◌++◌, length, map, Option, Some, None, Err, decimal}
+use Rattle.std.specs.Prelude.{◌≤◌, ℕ, suc, true, false, ◌≡◌, ◌⊎◌, ◌+◌, List, [], ◌∷◌, ◌++◌, length, map, Option, Some, None, Err, decimal}
 use Rattle.std.specs.Ordering.{nat_cmp}
 use Rattle.ob_base.specs.declared.params.Params.{Params}
 use Rattle.ob_seal.specs.declared.keys.Keys.{Keys}
@@ -22,51 +22,28 @@ use Rattle.ob_store.specs.declared.event.Event.TheVariants as event
 use Rattle.ob_store.specs.Disk.{Disk, Image}
 use Rattle.ob_store.specs.Images.{IsImageOf, IsSynced, LeavesOnly, Passes, Same}
 use Rattle.ob_store.specs.Calls.{GoesOn, Keeps, Notes, IsStoreFault, NotesReads}
-use Rattle.ob_serial.specs.Serial.{EpochRecord, Map, OneByOne, AreInOrder, committed_of}
+use Rattle.ob_serial.specs.Serial.{EpochRecord, Map, OneByOne, committed_of}
 use Rattle.ob_serial.specs.Vaults.{VaultCall, VaultAnswer, VaultState, Standing, StandsIn}
-use Rattle.ob_schedule.specs.Phases.{Phase, Reads}
-use Rattle.ob_recover.specs.Telling.{AreDealt, ArePhasesMade}
+use Rattle.ob_recover.specs.Telling.{ArePhasesMade}
 use Rattle.ob_pads.specs.Lives.{Opens, LivesOn}
 use Rattle.ob_vault.specs.Shapes.{Shape, answered, shapes, refused}
 use Rattle.ob_vault.specs.KindLives.{LifeWords}
 use Rattle.ob_vault.specs.Openings.{OpensStanding}
 use Rattle.ob_vault.specs.Kinds.{StoreKind, Stands, AllStand, StandsAsBefore, IsOpenedAt, opened_with}
-use Rattle.ob_vault.specs.KindShown.{AreDrawn, IsCutShown, IsSeenCut, public_behind, steps_notes, steps_phases}
-use Rattle.ob_desk.specs.Desk.{DeskState, MayOpen, new_desk}
-use Rattle.ob_desk.specs.Beats.{BeatKind}
-use Rattle.ob_script.specs.Script.{Scripts, IsScript, IsFirstBad, limit}
+use Rattle.ob_vault.specs.KindShown.{IsCutShown, public_behind, steps_notes}
+use Rattle.ob_desk.specs.Desk.{MayOpen, new_desk}
+use Rattle.ob_script.specs.Script.{Scripts, IsFirstBad, limit}
 use Rattle.ob_conduct.specs.declared.run_err.RunErr.TheVariants as failed
-use Rattle.ob_conduct.specs.Acts.{Act, calls, fault_of, fault_told}
-use Rattle.ob_conduct.specs.Moves.{IsSaid, IsStoppedFor}
-use Rattle.ob_conduct.specs.Records.{IsOver, contents}
-use Rattle.ob_conduct.specs.Left.{IsLeftStanding, IsLeftNow, IsThisOrNext, next_at}
+use Rattle.ob_conduct.specs.Acts.{Act, calls}
+use Rattle.ob_conduct.specs.Records.{contents}
+use Rattle.ob_conduct.specs.Left.{IsLeftStanding, IsLeftNow}
 use Rattle.ob_run.specs.Threaded.{AreShaped}
-use Rattle.ob_outcomes.specs.Served.{IsServed, ClientsServed, ClientsServedAll}
+use Rattle.ob_outcomes.specs.Served.{IsServed, ClientsServedAll}
 use Rattle.ob_top.specs.Endings.{IsNextBy, LinesStand, told_fault}
 use Rattle.ob_top.specs.Listed.{AreListed}
 use Rattle.ob_top.specs.Outside.{Outside, ErrTold, Given, outside}
 use Rattle.ob_top.specs.Sound.{StandsOn}
-
--- The phases of the opening: the head's read, and the order that the kind of store gives.
-abbrev pub begin_phases : (store : StoreKind) → Params → store.Found → store.Start → List Phase
-begin_phases store p found start = Reads (0 ∷ []) ∷ store.opens p found start
-
--- What is seen of serving: the phases of the vault's calls, one behind the other, each one's reads dealt to so many lanes at most, and of a
--- call that was refused what its fault allows. The phases depend on the parameters, on what is public of the vault, on how the calls follow
--- one another, and on what they draw; on no key, no value and no write. What they draw is, call by call, what is to be drawn behind the
--- calls before it; and its words, with those of a call that was refused, are those that the tape has given.
-pub record IsTraced (store : StoreKind) (most : ℕ) (p : Params) (found : store.Found) (words : List ℕ) (asked : List (VaultCall × VaultAnswer)) (fault : Option Fault) (events : List Event) : Type 0 where
-  pub steps : List (Shape × store.Drawn)
-  pub shapes_are : map (λ s. s.0) steps ≡ shapes asked
-  pub behind : store.Hidden
-  pub drawn : AreDrawn store p (store.hidden p found) (answered asked) steps behind
-  pub of_tape : store.is_of_tape p behind (refused asked) words fault
-  -- what is seen of the calls that were answered
-  pub first : List Event
-  pub dealt : AreDealt most (steps_phases store p (store.public p found) steps) first
-  pub more : List Event
-  pub cut : IsSeenCut store most p (public_behind store p (store.public p found) steps) behind (refused asked) words fault more
-  pub events_are : events ≡ first ++ more
+use Rattle.ob_top.specs.Parts.{begin_phases, IsTraced, CameIn, IsOpened, EndsWith, Manner, IsNextEpoch, StagedFrom}
 
 -- What the watch is shown of the opening: the head's read, and the notes that the kind of store gives.
 abbrev pub beginning_notes : (store : StoreKind) → Params → store.Found → store.Start → List Note
@@ -103,27 +80,12 @@ pub record IsShownToWatch (store : StoreKind) (most : ℕ) (p : Params) (found :
   pub shows : Shows (steps_notes store p (store.public p found) traced.steps ++ last) before after
   pub each : EachShown (steps_rows store p (store.public p found) traced.steps ++ refused_row (refused asked) last) before after
 
--- a script came in
-pub record CameIn (keys : ℕ) (before : Flow) (script : Scripts) : Type 0 where
-  -- the bytes that came in, up to the first one past the limit
-  pub input : List ℕ
-  pub input_is : IsInput before.bytes limit input
-  pub is_script : IsScript keys input script
-
 -- The input failed, or is no script.
 abbrev pub IsInputRefused : ℕ → Flow → Flow → Fault → Type 0
 IsInputRefused keys before after Memory = Unit {0}
 IsInputRefused keys before after SourceFault = Rose before.faults after.faults
 IsInputRefused keys before after (BadScript line) = (input : List ℕ) × IsInput before.bytes limit input × IsFirstBad keys input line
 IsInputRefused keys before after _ = ⊥
-
--- A script came in for a store of these parameters, and this was found in it.
-pub record IsOpened (store : StoreKind) (keys : Keys) (old : Disk) (before : Flow) (p : Params) (script : Scripts) (found : store.Found) (start : store.Start) : Type 0 where
-  pub head : old.tells → store.is_head keys p (old.cells 0)
-  pub came : CameIn p.keys before script
-  pub finds : old.tells → store.finds keys p old.cells found
-  -- what else the order of the opening depends on
-  pub starts : old.tells → store.starts keys p old.cells found start
 
 -- what the watch told before an early end, and behind it
 module _ (store : StoreKind) (life : LifeWords store) (keys : Keys) (most : ℕ) (old new : Disk) (t u : Trace) where
@@ -216,23 +178,6 @@ EndsFor store keys p found opened h behind n call words old new before after t u
 EndsFor store keys p found opened h behind n call words old new before after t u (Some (failed.Fault (StoreFault unsure))) = Rose old.faults new.faults × ((unsure ≡ None) ⊎ (unsure ≡ Some (suc (store.epoch found + n))))
 EndsFor store keys p found opened h behind n call words old new before after t u (Some (failed.Fault fault)) = store.causes keys p found opened new h behind n call words fault
 
--- How serving ended. Without a fault each client has signed off, nothing waits, and the desk isn't stopped; else the driver's last act,
--- behind which there are clients' turns alone, tells of the fault, and the desk is stopped for that, or for want of memory that a client
--- had met just before; or nothing was done for want of memory.
-abbrev pub EndsWith : Option RunErr → List Act → DeskState → Type 0
-EndsWith None acts desk = IsOver desk
-EndsWith (Some err) acts desk = ((err ≡ failed.Fault Memory) × (acts ≡ [])) ⊎ ((front : List Act) × (act : Act) × (behind : List Act) × (acts ≡ front ++ act ∷ behind) × All IsSaid behind × (fault_told act ≡ Some err) × IsStoppedFor desk.stop (fault_of err) act front)
-
--- How a run goes: at which looks its driver may act, whether its clients have threads of their own, and how many lanes may share a
--- phase's reads.
-pub record Manner : Type 0 where
-  pub beat : BeatKind
-  pub threads : Bool
-  pub lanes : ℕ
-
-abbrev pub manner : BeatKind → Bool → ℕ → Manner
-manner beat threads lanes = record { beat = beat; threads = threads; lanes = lanes }
-
 -- A script was served over a store that was opened so, all of each client's part where there was no fault. The committed transactions
 -- ran one by one from the map that was found, in the order of their epochs and tickets.
 pub record ScriptServed (store : StoreKind) (by : Manner) (keys : Keys) (p : Params) (opened : Disk) (found : store.Found) (script : Scripts) (records : List (EpochRecord ℕ)) (err : Option RunErr) : Type 0 where
@@ -242,25 +187,6 @@ pub record ScriptServed (store : StoreKind) (by : Manner) (keys : Keys) (p : Par
   pub ends : EndsWith err served.evidence.acts served.evidence.desk
   pub opens : MayOpen (record { params = p }) (suc (store.epoch found)) (store.left p found) script.clients
   pub one_by_one : (m : Map nat_cmp) → store.is_map keys p opened found m → OneByOne nat_cmp m (committed_of records) (contents m records)
-
--- The record is that of the next epoch: with it too each client's transactions are a front of its script's, and those that its close
--- kept run one by one behind the committed ones, from each such map.
-pub record ComesNext (IsMap : Map nat_cmp → Type 0) (epoch : ℕ) (script : Scripts) (records : List (EpochRecord ℕ)) (r : EpochRecord ℕ) : Type 0 where
-  pub epoch_is : r.epoch ≡ epoch
-  pub served : ClientsServed script (records ++ r ∷ [])
-  pub in_order : AreInOrder (records ++ r ∷ [])
-  pub one_by_one : (m : Map nat_cmp) → IsMap m → OneByOne nat_cmp m (committed_of (records ++ r ∷ [])) (contents m (records ++ r ∷ []))
-
--- the epoch whose end was begun behind those of the records, where one was
-abbrev pub IsNextEpoch : (IsMap : Map nat_cmp → Type 0) → ℕ → Scripts → List (EpochRecord ℕ) → Option (EpochRecord ℕ) → Type 0
-IsNextEpoch IsMap epoch script records None = Unit {0}
-IsNextEpoch IsMap epoch script records (Some r) = ComesNext IsMap epoch script records r
-
--- Stages of serving, one behind each epoch's end. From one to the next a crash leaves what stands behind the epochs so far, or behind one
--- more; from the last one on, that or what stands behind the epoch whose end was begun.
-abbrev pub StagedFrom : {S : Type 0} → (S → Disk) → (Image → Standing → Type 0) → Standing → List (EpochRecord ℕ) → Option (EpochRecord ℕ) → Disk → Disk → Type 0
-StagedFrom disk stands now [] next from last = LeavesOnly from last (StandsIn stands (IsThisOrNext now next))
-StagedFrom {S} disk stands now (r ∷ told) next from last = (mid : S) × LeavesOnly from (disk mid) (StandsIn stands (IsThisOrNext now (Some r))) × StagedFrom disk stands (next_at now r) told next (disk mid) last
 
 module _ (store : StoreKind) (keys : Keys) (p : Params) (found : store.Found) (at : Standing) (script : Scripts) (records : List (EpochRecord ℕ)) (err : Option RunErr) where
   -- what the vault held once the store was opened

@@ -25,7 +25,8 @@ use Rattle.ob_top.specs.Drilling.{no_output}
 use Rattle.ob_top.specs.Drills.{drill_numbers}
 use Rattle.ob_top.specs.Formats.{IsFormatted}
 use Rattle.ob_top.specs.Outside.{Given, blind}
-use Rattle.ob_top.specs.Runs.{ServedOver, manner}
+use Rattle.ob_top.specs.Runs.{ServedOver}
+use Rattle.ob_top.specs.Parts.{manner}
 
 -- Each of so many transactions is committed, in an epoch of its own.
 pub record AllCommitted (n : ℕ) (records : List (EpochRecord ℕ)) : Type 0 where

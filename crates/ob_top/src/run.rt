@@ -23,7 +23,8 @@ ghost use Rattle.ob_runner.specs.Turns.{IsScriptTurn};
 ghost use Rattle.ob_conduct.specs.Scenes.{scene, run_state, runner_kind};
 ghost use Rattle.ob_run.specs.Threaded.{RunsBy};
 ghost use Rattle.ob_serial.specs.VaultKinds.{kind_of};
-ghost use Rattle.ob_top.specs.Runs.{manner, CameIn, IsInputRefused, EndsEarly, IsReadAndOpened, ServedOver, RunOn};
+ghost use Rattle.ob_top.specs.Runs.{IsInputRefused, EndsEarly, IsReadAndOpened, ServedOver, RunOn};
+ghost use Rattle.ob_top.specs.Parts.{manner, CameIn};
 ghost use Rattle.ob_top.specs.Endings.{err_of};
 ghost use Rattle.ob_top.specs.Outside.{words_given, outside};
 
