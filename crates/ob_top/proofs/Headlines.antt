@@ -1,5 +1,5 @@
 -- The headline, from what a run has done.
-use Rattle.std.proofs.Common.{◌≤◌, ◌≡◌, ◌∙◌, ◌+◌, ℕ, suc, Bool, not, List, [], ◌∷◌, ◌++◌, length, map, Option, Some, None, refl, sym, subst, inl, inr, arith, ap, is_some, true, false}
+use Rattle.std.proofs.Common.{◌≤◌, ◌≡◌, ◌∙◌, ◌+◌, ℕ, suc, Bool, not, List, [], ◌∷◌, ◌++◌, length, map, Option, Some, None, refl, sym, subst, inl, inr, arith, ap, true, false}
 use Rattle.std.proofs.lemmas.List.{append-nil}
 use Rattle.ob_base.specs.declared.fault.Fault.{Fault}
 use Rattle.ob_top.proofs.Early.{early_cause}
@@ -51,7 +51,7 @@ use Rattle.ob_top.specs.Headline.{Headline, RunTold, Stood}
 use Rattle.ob_top.specs.Listed.{AreListed}
 use Rattle.ob_top.specs.Outside.{ErrTold, Given, HasTrace, Outside, blind, outside, IsOnlyTold}
 use Rattle.ob_top.specs.Pasts.{LeadsTo, PastLife, life_of, with_acts}
-use Rattle.ob_top.specs.Promised.{Promised, Unserved, faults_of, IsEarlyCause}
+use Rattle.ob_top.specs.Promised.{is_lacking, Promised, Unserved, faults_of, IsEarlyCause}
 use Rattle.ob_top.specs.Runs.{EndsEarly, EndsFor, IsLeftOnDisk, Ran, RunDone, Went}
 use Rattle.ob_top.specs.Parts.{EndsWith, IsNextEpoch, manner}
 use Rattle.ob_top.specs.Sound.{StandsOn}
@@ -315,12 +315,12 @@ module _ {S : Type 0} (disk : S → Disk) (keys : Keys) (call : RunCall S) (t u 
 
 module _ {S W : Type 0} (disk : S → Disk) (flow : W → Flow) (beat : BeatKind) (tape : Given) (text : Option (Bor (List ℕ))) (old new : S) (was is : Option W) (before after : Outside) (status : ℕ)
     (only_now : (x : S) (c : Image) → (disk x).left_since (disk x).moment c → (disk x).may_leave c) (includes_reads : (x : S) → (disk x).tells → (disk x).leaves → (disk x).may_leave (disk x).cells) (goes : GoesOn (disk old) (disk new)) where
-  abbrev pub called : Bool → ℕ → RunCall S
-  called turns k = record { old = old; new = new; before = before; after = after; has_trace = is_some was; traced_before = faults_of flow was; traced_after = faults_of flow is; by = manner beat (not turns) k; tape = tape; status = status }
+  abbrev pub called : Bool → Option (List ℕ) → ℕ → RunCall S
+  called turns trace k = record { old = old; new = new; before = before; after = after; lacks_trace = is_lacking trace was; traced_before = faults_of flow was; traced_after = faults_of flow is; by = manner beat (not turns) k; tape = tape; status = status }
 
   module _ (turns : Bool) (k : ℕ) (keys : Keys) (p : Params) (at : Standing) (past : PastLife) (stood : Stood disk keys p at past tape old) where
-    abbrev Keeps : Type 0
-    Keeps = Promised disk keys p at past (called turns k)
+    abbrev Keeps : Option (List ℕ) → Type 0
+    Keeps trace = Promised disk keys p at past (called turns trace k)
 
     -- what rose for the watch rose for its sink
     sink_rose : (first : List ℕ) (t u : Trace) → HasTrace flow first was is t u → Rose t.faults u.faults → Rose (faults_of flow was) (faults_of flow is)
@@ -337,14 +337,14 @@ module _ {S W : Type 0} (disk : S → Disk) (flow : W → Flow) (beat : BeatKind
     abbrev Done : Trace → Trace → Type 0
     Done t u = RunDone ring_kind ring_lives disk (manner beat (not turns) k) tape keys old new before after t u status
 
-    by_trace : (trace : Option (List ℕ)) → ByTrace flow was is before after status trace open_line Done old new → Keeps
-    by_trace None (kept, done) = done_promised disk keys (called turns k) blind blind (λ rose. absurd (no_rise rose)) only_now includes_reads goes p at past stood refl done
-    by_trace (Some file) (inl (none, kept, same, line)) = none_promised disk keys (called turns k) blind blind (λ rose. absurd (no_rise rose)) only_now includes_reads goes p at past stood refl SinkFault line (inl (ap is_some none)) same
-    by_trace (Some file) (inr (t, u, has, inl (broken, still, same, line))) = none_promised disk keys (called turns k) blind blind (λ rose. absurd (no_rise rose)) only_now includes_reads goes p at past stood refl SinkFault line (inr (first_broke t u has broken still)) same
-    by_trace (Some file) (inr (t, u, has, inr (whole, done))) = done_promised disk keys (called turns k) t u (sink_rose open_line t u has) only_now includes_reads goes p at past stood whole done
+    by_trace : (trace : Option (List ℕ)) → ByTrace flow was is before after status trace open_line Done old new → Keeps trace
+    by_trace None (kept, done) = done_promised disk keys (called turns None k) blind blind (λ rose. absurd (no_rise rose)) only_now includes_reads goes p at past stood refl done
+    by_trace (Some file) (inl (none, kept, same, line)) = none_promised disk keys (called turns (Some file) k) blind blind (λ rose. absurd (no_rise rose)) only_now includes_reads goes p at past stood refl SinkFault line (inl (subst (λ (x : Option W). is_lacking (Some file) x ≡ true) (sym none) refl)) same
+    by_trace (Some file) (inr (t, u, has, inl (broken, still, same, line))) = none_promised disk keys (called turns (Some file) k) blind blind (λ rose. absurd (no_rise rose)) only_now includes_reads goes p at past stood refl SinkFault line (inr (first_broke t u has broken still)) same
+    by_trace (Some file) (inr (t, u, has, inr (whole, done))) = done_promised disk keys (called turns (Some file) k) t u (sink_rose open_line t u has) only_now includes_reads goes p at past stood whole done
 
-    pub told_promised : (lanes trace : Option (List ℕ)) → AreLanes lanes k → HasKeys text keys → RunTells disk flow beat tape [] text old new was is before after status lanes turns trace → Keeps
-    told_promised lanes trace are has (inl (kept, line)) = none_promised disk keys (called turns k) blind blind (λ rose. absurd (no_rise rose)) only_now includes_reads goes p at past stood refl Memory line tt kept.0
+    pub told_promised : (lanes trace : Option (List ℕ)) → AreLanes lanes k → HasKeys text keys → RunTells disk flow beat tape [] text old new was is before after status lanes turns trace → Keeps trace
+    told_promised lanes trace are has (inl (kept, line)) = none_promised disk keys (called turns trace k) blind blind (λ rose. absurd (no_rise rose)) only_now includes_reads goes p at past stood refl Memory line tt kept.0
     told_promised lanes trace are has (inr (inl (bad, line))) = absurd (no_bad_lanes lanes k are bad)
     told_promised lanes trace are has (inr (inr (m, these, inl (f, refusal, line)))) = absurd (keys_stand text keys f has refusal)
     told_promised lanes trace are has (inr (inr (m, these, inr (own, holds, by)))) =

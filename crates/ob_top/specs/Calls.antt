@@ -20,14 +20,14 @@ use Rattle.ob_vault.specs.Shapes.{refused}
 use Rattle.ob_top.specs.Outside.{Given, Outside}
 use Rattle.ob_top.specs.Parts.{IsTraced, Manner}
 
--- The store, the input and the output as they were handed in and as they were left; whether a trace was, and how often its sink had failed (0
--- where none was); how the run goes; what the tape has given behind it; and the status.
+-- The store, the input and the output as they were handed in and as they were left; whether a trace is asked for and was not handed in, and how
+-- often its sink had failed (0 where there is none); how the run goes; what the tape has given behind it; and the status.
 pub record RunCall (S : Type 0) : Type 0 where
   pub old : S
   pub new : S
   pub before : Outside
   pub after : Outside
-  pub has_trace : Bool
+  pub lacks_trace : Bool
   pub traced_before : ℕ
   pub traced_after : ℕ
   pub by : Manner

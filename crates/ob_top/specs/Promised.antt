@@ -1,5 +1,5 @@
 -- What the top call promises by the headline: a run that was served, or what a refusal before that leaves.
-use Rattle.std.specs.Prelude.{ℕ, suc, ◌≡◌, ◌⊎◌, ◌^◌, Bool, false, not, List, ◌++◌, Option, Some, None, is_some}
+use Rattle.std.specs.Prelude.{ℕ, suc, ◌≡◌, ◌⊎◌, ◌^◌, Bool, false, not, List, ◌++◌, Option, Some, None, true}
 use Rattle.std.specs.Borrow.{Bor, MutBor}
 use Rattle.ob_base.specs.Causes.{Rose}
 use Rattle.ob_base.specs.declared.fault.Fault.{Fault}
@@ -29,13 +29,13 @@ use Rattle.ob_top.specs.Pasts.{LeadsTo, PastLife, life_of, with_acts}
 use Rattle.ob_top.specs.Parts.{manner}
 
 -- Why nothing was run over a store that stood: memory was wanting; the store failed; the input did, or has this first line that breaks the
--- grammar; the trace's sink failed, or none was handed in; or no generation is left.
+-- grammar; the trace's sink failed, or none was handed in though it is asked for; or no generation is left.
 abbrev pub IsEarlyCause : {S : Type 0} → (S → Disk) → Params → PastLife → RunCall S → Fault → Type 0
 IsEarlyCause disk p past call Memory = Unit {0}
 IsEarlyCause disk p past call (StoreFault unsure) = Rose (disk call.old).faults (disk call.new).faults
 IsEarlyCause disk p past call SourceFault = Rose call.before.input.faults call.after.input.faults
 IsEarlyCause disk p past call (BadScript line) = (input : List ℕ) × IsInput call.before.input.bytes limit input × IsFirstBad p.keys input line
-IsEarlyCause disk p past call SinkFault = (call.has_trace ≡ false) ⊎ Rose call.traced_before call.traced_after
+IsEarlyCause disk p past call SinkFault = (call.lacks_trace ≡ true) ⊎ Rose call.traced_before call.traced_after
 IsEarlyCause disk p past call (Worn number) = suc (life_of p past).generation ≡ 2 ^ 62
 IsEarlyCause disk p past call _ = ⊥
 
@@ -60,6 +60,12 @@ abbrev pub faults_of : {W : Type 0} → (W → Flow) → Option W → ℕ
 faults_of flow None = 0
 faults_of flow (Some w) = (flow w).faults
 
+-- a trace is asked for, and none is there
+abbrev pub is_lacking : {W : Type 0} → Option (List ℕ) → Option W → Bool
+is_lacking (Some file) None = true
+is_lacking (Some file) (Some w) = false
+is_lacking None was = false
+
 -- The words ask for `run`, with lanes in range, the keys are keys, and a store was handed in that stood.
 module _ {S W : Type 0} (disk : S → Disk) (flow : W → Flow) (beat : BeatKind) (words : List (List ℕ)) (text : Option (Bor (List ℕ))) (entry : Option (MutBor S)) (exit : Left S) (was is : Option W) (before after : Outside) (status : ℕ) (tape : Given) where
   abbrev pub KeepsHeadline : Type 0
@@ -70,7 +76,7 @@ module _ {S W : Type 0} (disk : S → Disk) (flow : W → Flow) (beat : BeatKind
         new = new;
         before = before;
         after = after;
-        has_trace = is_some was;
+        lacks_trace = is_lacking trace was;
         traced_before = faults_of flow was;
         traced_after = faults_of flow is;
         by = manner beat (not turns) k;
