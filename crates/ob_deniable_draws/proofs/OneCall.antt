@@ -42,6 +42,7 @@ module _ (p : Params) (some : 0 < p.dummies) (room : p.keys ≤ p.room) (w w' : 
     pub fills : Fills
     pub along : Along p some w w' slots e (reached p w s (Append b ∷ ShowBatch ∷ [])) (reached p w' s' (Append (record_of others b) ∷ ShowBatch ∷ [])) (words_step p w' s' k (Append (record_of others b))) acts work
     pub draws : RingDraws p (hidden_in p w' s' n) (Fetch others) fills (hidden_in p w' (reached p w' s' (Append (record_of others b) ∷ ShowBatch ∷ [])) (n + record_cells p))
+    pub filled : AreFilledBy p w' s' (Append (record_of others b) ∷ ShowBatch ∷ []) (Fetch others) fills
     pub noted : ring_notes p q Fetches fills ≡ ring_notes p q Fetches f
     pub phased : ring_phases p q Fetches fills ≡ ring_phases p q Fetches f
     pub next : ring_next p q Fetches fills ≡ ring_next p q Fetches f
@@ -79,6 +80,7 @@ module _ (p : Params) (some : 0 < p.dummies) (room : p.keys ≤ p.room) (w w' : 
         fills = f;
         along = a2;
         draws = draw;
+        filled = other_filled;
         noted = batch_noted p some w w' q s s' b r asks others row_f f row_filled other_filled many knows at (a0.pair).stays lower room (a0.other_life).0 begun seen.0 seen.1;
         phased = batch_phased p some w w' q s s' b r asks others row_f f row_filled other_filled many knows at (a0.pair).stays lower room (a0.other_life).0 begun seen.0 seen.1;
         next = batch_next p some w w' q s s' b r asks others row_f f row_filled other_filled many knows at (a0.pair).stays lower room (a0.other_life).0 begun seen.0 seen.1;

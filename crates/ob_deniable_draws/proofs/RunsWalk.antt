@@ -348,6 +348,7 @@ module _ (p : Params) (some : 0 < p.dummies) (room : p.keys ≤ p.room) (w w' : 
       starts = inside;
       drawn = walked.drawn;
       ends = in_life p w' (reached p w' s1' walked.called) ((walked.along).pair).stays (let l = low_then in omega arith) room walked.seals walked.begun;
+      shown = walked.shown;
       given = tape_words p w' (reached p w' s1' walked.called).generation (reached p w' s1' walked.called).drawn;
       begun = (
         sym (ap (λ (x : Public). x.epoch) to_life),

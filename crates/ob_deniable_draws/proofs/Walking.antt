@@ -20,7 +20,7 @@ use Rattle.ob_vault.specs.KindShown.{AreDrawn, public_behind, steps_notes, steps
 use Rattle.ob_vault.specs.RingKind.{ring_kind}
 use Rattle.ob_vault.specs.Seen.{RingPublic, ring_next, ring_notes, ring_phases}
 use Rattle.ob_vault.specs.Shapes.{Ends as EndsShape, Fetches, Shape, shape_of}
-use Rattle.ob_vault.specs.Shown.{AreFilledBy, IsInLife}
+use Rattle.ob_vault.specs.Shown.{AreFilledBy, AreShownBy, IsInLife}
 use Rattle.ob_deniable_draws.proofs.Contents.{hidden_in}
 use Rattle.ob_deniable_draws.specs.Fit.{AreCallsFit, AreWritesLow}
 use Rattle.ob_deniable_draws.proofs.EndDraws.{drawn_is, end_draws}
@@ -93,6 +93,7 @@ module _ (p : Params) (some : 0 < p.dummies) (room : p.keys ≤ p.room) (w w' : 
     pub epoch_then : ℕ
     pub words_then : WordsKept
     pub called : List LifeAct
+    pub shown : AreShownBy p w' s' others other_steps called
     pub split : acts_of e slots (work ++ W) ≡ called ++ acts_of epoch_then slots W
     pub seals : ℕ
     pub along : Along p some w w' slots epoch_then (reached p w s acts) (reached p w' s' called) words_then R W
@@ -129,6 +130,7 @@ module _ (p : Params) (some : 0 < p.dummies) (room : p.keys ≤ p.room) (w w' : 
           epoch_then = e;
           words_then = k;
           called = [];
+          shown = refl;
           split = refl;
           seals = n;
           along = subst (λ (xs : List LifeAct). Along p some w w' slots e s s' k (xs ++ R) W) is (subst (λ (xs : List LifeWork). Along p some w w' slots e s s' k (acts ++ R) (xs ++ W)) are a);
@@ -187,6 +189,7 @@ module _ (p : Params) (some : 0 < p.dummies) (room : p.keys ≤ p.room) (w w' : 
           epoch_then = go.epoch_then;
           words_then = go.words_then;
           called = Append r ∷ ShowBatch ∷ go.called;
+          shown = (Append r ∷ ShowBatch ∷ [], go.called, refl, (r, refl, refl), one.filled, go.shown);
           split = ap (λ (xs : List LifeAct). Append r ∷ ShowBatch ∷ xs) go.split;
           seals = go.seals;
           along = go.along;
@@ -261,6 +264,7 @@ module _ (p : Params) (some : 0 < p.dummies) (room : p.keys ≤ p.room) (w w' : 
           epoch_then = go.epoch_then;
           words_then = go.words_then;
           called = ShowLifts ∷ EndAct kept drawn slot' ∷ go.called;
+          shown = (ShowLifts ∷ EndAct kept drawn slot' ∷ [], go.called, refl, (kept, drawn, slot', refl), other_filled, go.shown);
           split = ap (λ (xs : List LifeAct). ShowLifts ∷ EndAct kept drawn slot' ∷ xs) go.split;
           seals = go.seals;
           along = go.along;

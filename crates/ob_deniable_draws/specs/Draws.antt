@@ -20,7 +20,7 @@ use Rattle.ob_vault.specs.Lives.{AreShowing, opening_acts}
 use Rattle.ob_vault.specs.RingKind.{RingFound, ring_hidden, ring_kind, ring_public}
 use Rattle.ob_vault.specs.Seen.{RingPublic, ring_notes, ring_phases}
 use Rattle.ob_vault.specs.Shapes.{Shape, shape_of}
-use Rattle.ob_vault.specs.Shown.{IsInLife}
+use Rattle.ob_vault.specs.Shown.{AreShownBy, IsInLife}
 use Rattle.ob_deniable_draws.specs.Fit.{AreCallsFit, IsCallFit}
 
 -- ---- the row and the other calls
@@ -42,7 +42,7 @@ AreRunsFit p (run ∷ runs) = AreCallsFit p run.calls × IsRefusedFit p run.refu
 -- ---- one run
 
 -- Where the other life is behind the opening, and where these acts lead it, something is hidden, and from the one to the other the other
--- calls draw steps of their own. What is hidden before them is in the run's epoch and generation, with no word and no seal of that, behind
+-- calls draw steps of their own, filled by what their acts show. What is hidden before them is in the run's epoch and generation, with no word and no seal of that, behind
 -- as many records; what is public of it is what is public of the run; and the notes and the phases of the steps are the row's.
 pub record IsDrawnLikewise (p : Params) (tape : WordId → ℕ) (s : LifeState) (found : RingFound) (steps : List (Shape × Fills)) (others : List VaultCall) (acts : List LifeAct) : Type 0 where
   pub before : RingHidden
@@ -52,6 +52,7 @@ pub record IsDrawnLikewise (p : Params) (tape : WordId → ℕ) (s : LifeState) 
   pub starts : IsInLife p tape before s
   pub drawn : AreDrawn ring_kind p before others other_steps behind
   pub ends : IsInLife p tape behind (reached p tape s acts)
+  pub shown : AreShownBy p tape s others other_steps acts
   pub given : AreTapeWords tape behind.generation behind.words
   pub begun : (before.epoch ≡ (ring_hidden found).epoch) × (before.generation ≡ (ring_hidden found).generation) × (before.words ≡ []) × (before.seals ≡ 0)
   pub public : public_of_kept p before.content before.records before.epoch (found.run).gates ≡ (ring_public p found).known
