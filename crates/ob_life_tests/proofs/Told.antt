@@ -13,7 +13,8 @@ use Rattle.ob_seal.specs.declared.keys.Keys.{Keys}
 use Rattle.ob_store.specs.Disk.{Disk}
 use Rattle.ob_top.specs.Formats.{FormatDone}
 use Rattle.ob_top.specs.Outside.{Given, IsOnlyTold, Outside, blind}
-use Rattle.ob_top.specs.Runs.{RunDone, manner}
+use Rattle.ob_top.specs.Parts.{manner}
+use Rattle.ob_top.specs.Runs.{RunDone}
 use Rattle.ob_vault.specs.Lives.{ring_lives}
 use Rattle.ob_vault.specs.RingKind.{ring_kind}
 use Rattle.ob_word_forms.specs.Forms.{ArePlain, IsPlain}

@@ -4,12 +4,14 @@ use mathlib.Core.Path.{fun_ext}
 use Rattle.ob_base.specs.declared.params.Params.{Params}
 use Rattle.ob_conduct.specs.Acts.{calls}
 use Rattle.ob_pads.specs.Laws.{PadsAreFresh}
+use Rattle.ob_pads.specs.Lives.{LivesOn}
 use Rattle.ob_seal.specs.Sealing.{Sealing}
 use Rattle.ob_seal.specs.declared.keys.Keys.{Keys}
 use Rattle.ob_serial.specs.Vaults.{Standing}
 use Rattle.ob_stand.specs.Stands.{StandsRing}
 use Rattle.ob_store.specs.Disk.{Clock, Disk, Image, NotAfter}
 use Rattle.ob_store.specs.Images.{IsSynced}
+use Rattle.ob_top.proofs.Living.{whole_lives}
 use Rattle.ob_top.specs.Formats as format
 use Rattle.ob_top.specs.Outside.{Given, blind}
 use Rattle.ob_top.specs.Runs.{RunDone}
@@ -65,8 +67,8 @@ module _ {S : Type 0} (disk : S → Disk) (keys : Keys) (p : Params) where
         let (at, stands) = sound.cells tells in
         let found = (r.ran).stood at tells (subst (λ (q : Params). Stands ring_kind keys q (disk old).cells at) its_p stands) in (
           subst (λ (q : Params). RingBegins keys q (disk old).cells (r.ran).found) (sym its_p) ((r.ran).opens_life tells),
-          subst (λ (q : Params). RingGoesOn keys (r.by).lanes q (r.ran).found (disk (r.ran).between) (answered (calls (r.ran).is_served.served.acts)) (r.ran).traced.steps (r.ran).traced.behind (refused (calls (r.ran).is_served.served.acts)) tape.words (r.ran).traced.more (disk new)) (sym its_p)
-              (r.ran).goes_on,
+          subst (λ (q : Params). RingGoesOn keys (r.by).lanes q (r.ran).found (disk (r.ran).between) (answered (calls (r.ran).serving.is_served.served.evidence.acts)) (r.ran).serving.traced.steps (r.ran).serving.traced.behind (refused (calls (r.ran).serving.is_served.served.evidence.acts)) tape.words (r.ran).serving.traced.more (disk new)) (sym its_p)
+              (r.ran).serving.goes_on,
           (at.content, subst (λ (q : Params). IsRingMap keys q (disk (r.ran).between) (r.ran).found at.content) (sym its_p) found.content),
         )
 
@@ -74,10 +76,16 @@ module _ {S : Type 0} (disk : S → Disk) (keys : Keys) (p : Params) where
     left_at : (c : Image) → (disk new).may_leave c → (at : Standing) × StandsRing keys p (((r.ran).found.run).sealer).generation c at
     left_at c may =
         let (at, stands) = sound.cells tells in
-        let sound_here = subst (λ (q : Params). IsSound ring_kind keys q (disk old)) its_p sound in
-        let left = (r.ran).left at tells (subst (λ (q : Params). Stands ring_kind keys q (disk old).cells at) its_p stands) sound_here.images in
+        let (told, settled) = (r.ran).durable tells in
+        let left = (r.ran).serving.left at told settled ((r.ran).stood at tells (subst (λ (q : Params). Stands ring_kind keys q (disk old).cells at) its_p stands)) in
         let found = left.now c (inl may) in
         (found.0, subst (λ (q : Params). StandsRing keys q (((r.ran).found.run).sealer).generation c found.0) (sym its_p) found.1)
+
+  -- its seals are a part of the life of the store's pads
+  its_lives : (tape : Given) (old new : S) (r : IsWholeRun disk keys tape old new) → (disk old).tells → LivesOn disk keys old new (answers disk r)
+  its_lives tape old new r tells =
+      let s = (r.ran).serving in
+      whole_lives disk keys old (r.ran).between new (r.ran).sealing (answers disk r) s.goes (r.ran).begun s.seals_on (s.tells refl ((r.ran).durable tells).0)
 
   module _ (counts_now : (x : S) (t : Clock) (c : Image) → NotAfter t (disk x).moment → (disk x).may_leave c → (disk x).left_since t c) (includes_reads : (x : S) → (disk x).tells → (disk x).leaves → (disk x).may_leave (disk x).cells)
       (one_life : RunsAreOneLife disk) (pads : PadsAreFresh disk) (made_by first_by second_by : Given) (blank made ran left new : S) (dummies : 0 < p.dummies) (format_is : format.IsFormatted ring_kind ring_lives disk made_by keys p blank made)
@@ -117,7 +125,7 @@ module _ {S : Type 0} (disk : S → Disk) (keys : Keys) (p : Params) where
         let from : AreRunsFrom disk keys p (disk made).may_leave parts = (includes_reads made told_made leaves_made, told first_by made ran first told_made sound, (may, told second_by left new second told_left sound_left, tt)) in
         let drawn = made_given generation made_by.words first_by.words second_by.words (λ is. omega (arith, is, behind_first)) in
         let lives_on : IsOneLife disk keys p word_of made_by.words parts = one_life keys p made_by.words made parts (format_is.begins_life told_blank) from word_of given in
-        let lives = joined disk keys counts_now pads made ran left new (answers disk first) (answers disk second) ((first.ran).lives ((first.ran).tells refl told_made)) ((second.ran).lives ((second.ran).tells refl told_left))
+        let lives = joined disk keys counts_now pads made ran left new (answers disk first) (answers disk second) (its_lives first_by made ran first told_made) (its_lives second_by left new second told_left)
         (format_is.begins told_blank leaves_blank) may sure told_left leaves_left in
         record {
           p = p;

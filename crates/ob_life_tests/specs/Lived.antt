@@ -14,7 +14,8 @@ use Rattle.ob_serial.specs.Vaults.{VaultAnswer}
 use Rattle.ob_store.specs.Disk.{Disk}
 use Rattle.ob_top.specs.Formats.{FormatDone}
 use Rattle.ob_top.specs.Outside.{Given, Outside, blind}
-use Rattle.ob_top.specs.Runs.{Manner, Ran, RunDone}
+use Rattle.ob_top.specs.Parts.{Manner}
+use Rattle.ob_top.specs.Runs.{Ran, RunDone}
 use Rattle.ob_vault.specs.Acts.{AreTapeWords}
 use Rattle.ob_vault.specs.Joined.{AreGiven, IsOneLife, RunPart, Served}
 use Rattle.ob_vault.specs.Lives.{ring_lives}
@@ -52,11 +53,11 @@ module _ {S : Type 0} (disk : S → Disk) where
   module _ {keys : Keys} {tape : Given} {old new : S} (r : IsWholeRun keys tape old new) where
     -- it as a part of a life
     abbrev pub part_of : RunPart S
-    part_of = Served (r.by).lanes old (r.ran).found (r.ran).between (answered (calls (r.ran).is_served.served.acts)) (r.ran).traced.steps (r.ran).traced.behind (refused (calls (r.ran).is_served.served.acts)) tape.words (r.ran).traced.more new
+    part_of = Served (r.by).lanes old (r.ran).found (r.ran).between (answered (calls (r.ran).serving.is_served.served.evidence.acts)) (r.ran).serving.traced.steps (r.ran).serving.traced.behind (refused (calls (r.ran).serving.is_served.served.evidence.acts)) tape.words (r.ran).serving.traced.more new
 
     -- what its vault's calls answered
     abbrev pub answers : List VaultAnswer
-    answers = map (λ s. s.1) (calls (r.ran).is_served.served.acts)
+    answers = map (λ s. s.1) (calls (r.ran).serving.is_served.served.evidence.acts)
 
   -- A run behind a format, a crash behind that, and a run on what it left. All their acts are one life of the store, whose words are those that
   -- the three tapes gave, each in a generation of its own; so no word is shown in two holes, of labels and slots together. And no pad is used
