@@ -120,8 +120,8 @@ module _ {S : Type 0} (disk : S → Disk) (keys : Keys) (call : RunCall S) (t u 
       opened_in_life = r.opens_life stood.tells.0 past.word_of s stood.is_at.there stood.is_past.small
 
       abbrev in_life : IsRunInLife keys call.by.lanes p past.word_of s r.found (disk r.between) (answered asked) r.serving.traced.steps r.serving.traced.behind (refused asked) call.tape.words r.serving.traced.more (disk call.new)
-      in_life = whole_run keys call.by.lanes p (disk call.old).cells r.found (disk r.between) (disk call.new) (answered asked) r.serving.traced.steps r.serving.traced.behind (refused asked) call.tape.words r.serving.traced.more (r.opens_life stood.tells.0) r.serving.goes_on past.word_of s stood.is_at.there
-          stood.is_past.small tape_words
+      in_life = whole_run keys call.by.lanes p (disk call.old).cells r.found (disk r.between) (disk call.new) (answered asked) r.serving.traced.steps r.serving.traced.behind (refused asked) call.tape.words r.serving.traced.more
+          (r.opens_life stood.tells.0) r.serving.goes_on past.word_of s stood.is_at.there stood.is_past.small tape_words
 
       module _ (w : IsRunInLife keys call.by.lanes p past.word_of s r.found (disk r.between) (answered asked) r.serving.traced.steps r.serving.traced.behind (refused asked) call.tape.words r.serving.traced.more (disk call.new)) where
         abbrev l : IsLeftInLife keys call.by.lanes p past.word_of (reached p past.word_of (reached p past.word_of s (opening_acts s)) w.goes.acts) r.serving.traced.behind (refused asked) call.tape.words r.serving.traced.more (disk call.new)
@@ -258,7 +258,8 @@ module _ {S : Type 0} (disk : S → Disk) (keys : Keys) (call : RunCall S) (t u 
                   (o.left at stood.tells.0 (subst (λ (q : Params). Stands ring_kind keys q (disk call.old).cells at) (sym same) stood.is_at.stands) (subst (λ (q : Params). AllStand ring_kind keys q (disk call.old)) (sym same) stood.sound));
               sound = images;
               again = λ there c may.
-                  let (first, rest, is, life, turn, stands, small) = stopped_next keys p past.word_of here (disk call.new) stood.is_past.small (subst (λ (q : Params). ring_lives.stops keys q (disk call.old) (disk call.new)) same (o.stops_life stood.tells.0) past.word_of here stood.is_at.there there) c may in
+                  let stops = subst (λ (q : Params). ring_lives.stops keys q (disk call.old) (disk call.new)) same (o.stops_life stood.tells.0) in
+                  let (first, rest, is, life, turn, stands, small) = stopped_next keys p past.word_of here (disk call.new) stood.is_past.small (stops past.word_of here stood.is_at.there there) c may in
                   let (now, allowed) = images c may in
                   (first, rest, is, leads_on p past stood.is_past first life turn keys c now allowed stands small);
             }
@@ -287,7 +288,8 @@ module _ {S : Type 0} (disk : S → Disk) (keys : Keys) (call : RunCall S) (t u 
 
     -- ---- both
 
-    module _ (only_now : (x : S) (c : Image) → (disk x).left_since (disk x).moment c → (disk x).may_leave c) (records : List (EpochRecord ℕ)) (output : Output records) (sound : StandsOn ring_kind disk keys call.old call.new) (p : Params) (stood : Stood disk keys p at past call.tape call.old) where
+    module _ (only_now : (x : S) (c : Image) → (disk x).left_since (disk x).moment c → (disk x).may_leave c)
+        (records : List (EpochRecord ℕ)) (output : Output records) (sound : StandsOn ring_kind disk keys call.old call.new) (p : Params) (stood : Stood disk keys p at past call.tape call.old) where
       by_run : Ran ring_kind ring_lives disk call.by call.tape keys call.old call.new call.before (outside call.after.input written) t u records err → Promised disk keys p at past call
       by_run r =
           let same : r.p ≡ p = sym (one_p only_now p stood sound r.p r.opened.head) in
@@ -339,7 +341,8 @@ module _ {S W : Type 0} (disk : S → Disk) (flow : W → Flow) (beat : BeatKind
 
     by_trace : (trace : Option (List ℕ)) → ByTrace flow was is before after status trace open_line Done old new → Keeps trace
     by_trace None (kept, done) = done_promised disk keys (called turns None k) blind blind (λ rose. absurd (no_rise rose)) only_now includes_reads goes p at past stood refl done
-    by_trace (Some file) (inl (none, kept, same, line)) = none_promised disk keys (called turns (Some file) k) blind blind (λ rose. absurd (no_rise rose)) only_now includes_reads goes p at past stood refl SinkFault line (inl (subst (λ (x : Option W). is_lacking (Some file) x ≡ true) (sym none) refl)) same
+    by_trace (Some file) (inl (none, kept, same, line)) =
+        none_promised disk keys (called turns (Some file) k) blind blind (λ rose. absurd (no_rise rose)) only_now includes_reads goes p at past stood refl SinkFault line (inl (subst (λ (x : Option W). is_lacking (Some file) x ≡ true) (sym none) refl)) same
     by_trace (Some file) (inr (t, u, has, inl (broken, still, same, line))) = none_promised disk keys (called turns (Some file) k) blind blind (λ rose. absurd (no_rise rose)) only_now includes_reads goes p at past stood refl SinkFault line (inr (first_broke t u has broken still)) same
     by_trace (Some file) (inr (t, u, has, inr (whole, done))) = done_promised disk keys (called turns (Some file) k) t u (sink_rose open_line t u has) only_now includes_reads goes p at past stood whole done
 

@@ -80,12 +80,12 @@ module _ {S : Type 0} (disk : S → Disk) (keys : Keys) (p : Params) (at : Stand
     pub cause : IsRunCause disk keys p call run.found run.opened (end_point (length run.records) trace) run.err
     -- The output is the records' lines, and then the fault's; a front of these where it failed.
     pub output : (call.status ≡ status_of (told_fault run.err)) × IsPrinted call.before.output call.after.output (report decimal run.records ++ fault_line (told_fault run.err)) × (run.err ≡ None → call.after.output.bytes ≡ appended call.before.output.bytes (report decimal run.records))
-    -- A crash before the store was opened leaves what it held; from then on, at any write, a prefix of the epochs, and from each epoch's end on
-    -- with that epoch (next is the one whose end was begun last, as the history had closed it).
+    -- A crash leaves what the store held, until it was opened; then, at any write, a prefix of the epochs, with each that had ended by then,
     pub opening : LeavesOnly (disk call.old) (disk run.opened) (StandsAsBefore ring_kind keys p (disk call.old))
     pub prefix : StagedFrom disk (StandsNow keys p run.found) at run.records run.next (disk run.opened) (disk call.new)
+    -- and at most the next one, whose end was begun, as the history had closed it;
     pub next : IsNextBy (desk_behind p run.found run.script) served.evidence.acts run.next × IsNextEpoch (λ m. m ≡ at.content) (suc at.epoch + length run.records) run.script run.records run.next
-    -- So in the end it holds every epoch whose lines stand in the output: each image, and what reads give, where they are told.
+    -- so in the end every epoch whose lines stand in the output: each image, and what reads give, where they are told.
     pub kept : (c : Image) → IsImageOf (disk call.new) c → StandsIn (StandsNow keys p run.found) (IsLeftNow (opened_with p (ring_kind.left p run.found) at) run.records run.next (IsToldInDoubt (suc at.epoch + length run.records) run.err)) c
     -- What the store sees is the public schedule: an opening's, and (trace) that of batches and ends as they followed, filled by what these draw.
     pub seen : ArePhasesMade call.by.lanes (begin_phases ring_kind p run.found run.start) (disk call.old).seen (disk run.opened).seen × Notes run.events (disk run.opened).seen (disk call.new).seen
@@ -94,8 +94,7 @@ module _ {S : Type 0} (disk : S → Disk) (keys : Keys) (p : Params) (at : Stand
         × IsCutOff call.by.lanes p past.word_of (run_life p past run.shown) (end_point (length run.records) trace) run.cut run.flying
     -- So the life goes on, and in the whole of it no word is shown in two holes, nor a slot, and a hole that is shown again is filled as before.
     pub fresh : IsPastLife p (behind_run p past run.shown run.cut) × IsLifeFresh p (behind_run p past run.shown run.cut)
-    -- Its seals go on in the life of the store's pads, none of which is used twice.
+    -- Its seals go on in the life of the store's pads, in which no pad is used twice (pads_are_fresh).
     pub pads : (disk call.new).tells → LivesOn disk keys call.old call.new (map (λ s. s.1) (calls served.evidence.acts))
-    -- And the next run may say all of this again, from each image that a crash leaves at the return (of moments before it prefix tells the epoch
-    -- and the map alone): the life is behind these acts, and perhaps behind the one that was in flight.
+    -- And the next run may say all of this again, from each image that a crash leaves at the return; of moments before it prefix alone speaks.
     pub again : ((c : Image) → IsImageOf (disk call.new) c → (found : List LifeAct) × Finds run.flying found × LeadsTo keys p (behind_run p past run.shown (run.cut ++ found)) c) × (run.err ≡ None → (disk call.new).tells × (disk call.new).leaves)
