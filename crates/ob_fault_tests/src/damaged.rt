@@ -7,7 +7,6 @@ use crate::harms::{Harm, Told, expect_told, harm_store};
 use crate::playing::{
     CELLS, END, ONE_EPOCH, PUT, READS, RUN, STEPS, formatted, left_after, made_before,
 };
-use ob_base::Check;
 use ob_mem::{Fail, MemStore};
 use std::process::Abort;
 use std::sync::Wait;
@@ -26,7 +25,7 @@ fn told_of(cell: u64) -> (Told, usize) {
     }
     for place in 0..READS.len() {
         if READS[place] == cell && !FREE.contains(&cell) {
-            return (Told::Damaged(cell, Check::Tag), made_before(place).1);
+            return (Told::Damaged(cell), made_before(place).1);
         }
     }
     (Told::Done, STEPS)
@@ -43,7 +42,7 @@ fn is_told<R: AllocGlobal + Threads + Wait + Sync + Abort>(
     let (told, steps) = told_of(cell);
     expect_told(rt, &mut store, (RUN, PUT), told, ONE_EPOCH);
     assert!(rt; store.moments() == steps.saturating_add(1), "{cell}");
-    matches!(told, Told::Damaged(_, _))
+    matches!(told, Told::Damaged(_))
 }
 
 #[test]
@@ -64,15 +63,15 @@ fn each_damaged_cell_that_is_read_is_told(rt: HostRuntime) {
 type Both = (u64, u64, bool, Told);
 
 static BOTH: [Both; 10] = [
-    (42, 56, false, Told::Damaged(56, Check::Tag)),
-    (57, 41, false, Told::Damaged(41, Check::Tag)),
-    (50, 64, false, Told::Damaged(50, Check::Tag)),
-    (46, 47, true, Told::Damaged(46, Check::Tag)),
-    (56, 42, true, Told::Damaged(56, Check::Tag)),
+    (42, 56, false, Told::Damaged(56)),
+    (57, 41, false, Told::Damaged(41)),
+    (50, 64, false, Told::Damaged(50)),
+    (46, 47, true, Told::Damaged(46)),
+    (56, 42, true, Told::Damaged(56)),
     (42, 56, true, Told::Store),
     (57, 41, true, Told::Store),
-    (41, 57, true, Told::Damaged(41, Check::Tag)),
-    (49, 65, true, Told::Damaged(49, Check::Tag)),
+    (41, 57, true, Told::Damaged(41)),
+    (49, 65, true, Told::Damaged(49)),
     (65, 64, true, Told::Store),
 ];
 

@@ -5,7 +5,6 @@ ghost use Rattle.std.specs.Prelude.{◌≡◌};
 ghost use Rattle.ob_mem.specs.Memory.{disk_of_store};
 
 use crate::playing::expect;
-use ob_base::Check;
 use ob_mem::MemStore;
 use ob_seal::{Keys, Sealer};
 use ob_store::Store;
@@ -26,15 +25,17 @@ pub enum Harm {
     Seal(u64, usize, u64, usize),
     /// The same of a stamped cell.
     Stamp(u64, usize, u64, usize),
+    /// A sealed cell's plain bytes are sealed anew under the number behind its own.
+    Renumber(u64),
     /// A second cell has the plain bytes of a sealed one, and its identity.
     Move(u64, u64),
 }
 
-/// What a run is told: it ends its epoch, or a fault.
+/// What a run is told: it ends its epoch, or a fault; of a damaged cell its tag is told.
 #[derive(Clone, Copy)]
 pub enum Told {
     Done,
-    Damaged(u64, Check),
+    Damaged(u64),
     NotStore,
     Store,
 }
@@ -67,20 +68,34 @@ fn cell_of<R: Abort>(rt: &R, store: &mut MemStore, cell: u64) -> [u8; 128]
     bytes
 }
 
-// A sealed cell with these of its plain bytes set, sealed anew for a cell.
-fn sealed<R: Abort>(
+// Writes a cell.
+fn write<R: Abort>(rt: &R, store: &mut MemStore, cell: u64, bytes: &[u8; 128])
+    requires { (disk_of_store store.old).out ≡ 0 }
+    ensures { (disk_of_store store.new).out ≡ 0 }
+{
+    assert!(rt; store.write(cell, bytes).is_ok());
+}
+
+// Seals a sealed cell anew with these of its plain bytes set, for a cell and under a number that is
+// so many behind its own.
+fn reseal<R: Abort>(
     rt: &R,
-    bytes: &[u8; 128],
+    store: &mut MemStore,
     cell: u64,
-    to: u64,
+    to: (u64, u64),
     change: (usize, u64, usize),
-) -> [u8; 128] {
-    let opened = sealer_of(0).unseal(cell, None, bytes);
+)
+    requires { (disk_of_store store.old).out ≡ 0 }
+    ensures { (disk_of_store store.new).out ≡ 0 }
+{
+    let opened = sealer_of(0).unseal(cell, None, &cell_of(rt, store, cell));
     let opened = opened.ok().expect(rt, "a sealed cell");
     let mut plain = opened.plain;
     put(rt, &mut plain, change.0, change.1, change.2);
-    assert!(rt; opened.number < 1 << 62);
-    sealer_of(opened.generation).seal_at(to, opened.number, &plain)
+    let number = opened.number.saturating_add(to.1);
+    assert!(rt; number < 1 << 62);
+    let bytes = sealer_of(opened.generation).seal_at(to.0, number, &plain);
+    write(rt, store, to.0, &bytes);
 }
 
 // A stamped cell with these of its plain bytes set.
@@ -94,14 +109,6 @@ fn stamped<R: Abort>(
     plain.copy_from_slice(&bytes[..112]);
     put(rt, &mut plain, change.0, change.1, change.2);
     sealer_of(0).stamp(cell, &plain)
-}
-
-// Writes a cell.
-fn write<R: Abort>(rt: &R, store: &mut MemStore, cell: u64, bytes: &[u8; 128])
-    requires { (disk_of_store store.old).out ≡ 0 }
-    ensures { (disk_of_store store.new).out ≡ 0 }
-{
-    assert!(rt; store.write(cell, bytes).is_ok());
 }
 
 /// Does it to a store.
@@ -118,30 +125,45 @@ pub fn harm_store<R: Abort>(rt: &R, store: &mut MemStore, harm: Harm)
         }
         Harm::Open(cell) => write(rt, store, cell, &[0xA5; 128]),
         Harm::Seal(cell, place, number, many) => {
-            let bytes = cell_of(rt, store, cell);
-            let bytes = sealed(rt, &bytes, cell, cell, (place, number, many));
-            write(rt, store, cell, &bytes);
+            reseal(rt, store, cell, (cell, 0), (place, number, many))
         }
         Harm::Stamp(cell, place, number, many) => {
             let bytes = cell_of(rt, store, cell);
             let bytes = stamped(rt, &bytes, cell, (place, number, many));
             write(rt, store, cell, &bytes);
         }
-        Harm::Move(cell, to) => {
-            let bytes = cell_of(rt, store, cell);
-            let bytes = sealed(rt, &bytes, cell, to, (0, 0, 0));
-            write(rt, store, to, &bytes);
-        }
+        Harm::Renumber(cell) => reseal(rt, store, cell, (cell, 1), (0, 0, 0)),
+        Harm::Move(cell, to) => reseal(rt, store, cell, (to, 0), (0, 0, 0)),
     }
 }
 
-// The name of a check.
-fn name_of(check: Check) -> &'static str {
-    match check {
-        Check::Tag => "tag",
-        Check::Seal => "seal",
-        Check::Epoch => "epoch",
-        Check::Form => "form",
+/// A number in digits.
+pub fn number_of<R: Abort>(rt: &R, text: &str) -> u64 {
+    text.parse::<u64>().ok().expect(rt, "a number")
+}
+
+/// What stands in a line before the first place of a mark, and behind it.
+pub fn parted<'a, R: Abort>(rt: &R, line: &'a str, mark: &str) -> (&'a str, &'a str) {
+    line.split_once(mark).expect(rt, mark)
+}
+
+/// A harm by its kind and its numbers; any other text is none.
+pub fn harm_of<R: Abort>(rt: &R, text: &str) -> Harm {
+    let mut n = [0; 4];
+    let mut many: usize = 0;
+    let (kind, numbers) = text.split_once(' ').unwrap_or((text, ""));
+    for word in numbers.split_whitespace() {
+        assert!(rt; many < 4, "{text}");
+        n[many] = number_of(rt, word);
+        many = many.saturating_add(1);
+    }
+    match kind {
+        "flip" => Harm::Flip(n[0]),
+        "open" => Harm::Open(n[0]),
+        "renumber" => Harm::Renumber(n[0]),
+        "seal" => Harm::Seal(n[0], n[1] as usize, n[2], n[3] as usize),
+        "stamp" => Harm::Stamp(n[0], n[1] as usize, n[2], n[3] as usize),
+        _ => Harm::None,
     }
 }
 
@@ -159,17 +181,10 @@ pub fn expect_told<R: AllocGlobal + Threads + Wait + Sync + Abort>(
     let (words, script) = ask;
     match told {
         Told::Done => expect(rt, store, words, script, 0, done),
-        Told::Damaged(cell, check) => {
-            let check = name_of(check);
-            let text = format!(in rt.alloc(); "fault: damaged cell {cell} {check}/");
-            expect(
-                rt,
-                store,
-                words,
-                script,
-                4,
-                text.expect(rt, "memory").as_str(),
-            )
+        Told::Damaged(cell) => {
+            let text = format!(in rt.alloc(); "fault: damaged cell {cell} tag/");
+            let text = text.expect(rt, "memory");
+            expect(rt, store, words, script, 4, text.as_str())
         }
         Told::NotStore => expect(rt, store, words, script, 3, "fault: not a store/"),
         Told::Store => expect(rt, store, words, script, 5, "fault: store/"),

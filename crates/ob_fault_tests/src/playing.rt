@@ -13,8 +13,8 @@ use std::process::Abort;
 use std::sync::Wait;
 use std::thread::Threads;
 
-// The keys of the bytes 0 to 95.
-const KEYS: &str = "\
+/// The keys of the bytes 0 to 95.
+pub const KEYS: &str = "\
     000102030405060708090a0b0c0d0e0f101112131415161718191a1b1c1d1e1f\
     202122232425262728292a2b2c2d2e2f303132333435363738393a3b3c3d3e3f\
     404142434445464748494a4b4c4d4e4f505152535455565758595a5b5c5d5e5f";
@@ -86,11 +86,11 @@ fn words_of<'a, R: AllocGlobal + Abort>(rt: &R, line: &'a str) -> Vec<&'a str> {
     words
 }
 
-/// Makes a call over a store with a tape of zeros, and answers its status.
+/// Makes a call, of these words and keys, over a store with a tape of zeros, and answers its status.
 pub fn call_on<R: AllocGlobal + Threads + Wait + Sync + Abort, S: Lanes, W: Sink>(
     rt: &R,
     store: &mut S,
-    words: &str,
+    ask: (&str, Option<&str>),
     input: &mut MemSource,
     output: &mut MemSink,
     trace: &mut Option<W>,
@@ -98,12 +98,12 @@ pub fn call_on<R: AllocGlobal + Threads + Wait + Sync + Abort, S: Lanes, W: Sink
     requires { (S.disk store.old).out ≡ 0 }
     ensures { (S.disk store.new).out ≡ 0 }
 {
-    let words = words_of(rt, words);
+    let words = words_of(rt, ask.0);
     let mut tape = ListTape::new(rt.alloc(), &[]).expect(rt, "memory");
     obladi(
         rt,
         &words,
-        Some(KEYS.as_bytes()),
+        ask.1.map(str::as_bytes),
         Some(store),
         &mut tape,
         input,
@@ -128,7 +128,8 @@ pub fn expect<R: AllocGlobal + Threads + Wait + Sync + Abort>(
     let mut input = source_of(rt, lines_of(rt, script).as_bytes(), &[]);
     let mut output = sink_of(rt, WIDE, &[]);
     let mut trace: Option<MemSink> = None;
-    let answer = call_on(rt, store, words, &mut input, &mut output, &mut trace);
+    let ask = (words, Some(KEYS));
+    let answer = call_on(rt, store, ask, &mut input, &mut output, &mut trace);
     let wanted = lines_of(rt, told);
     assert!(rt;
         answer == status && output.written() == wanted.as_bytes(),

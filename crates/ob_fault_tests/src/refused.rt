@@ -2,8 +2,8 @@
 
 use crate::crashes::expect_next;
 use crate::playing::{
-    END, ONE_EPOCH, PUT, READS, RUN, STEPS, WIDE, call_on, expect, formatted, left_after, lines_of,
-    made_before, sink_of, source_of,
+    END, KEYS, ONE_EPOCH, PUT, READS, RUN, STEPS, WIDE, call_on, expect, formatted, left_after,
+    lines_of, made_before, sink_of, source_of,
 };
 use ob_mem::{Fail, MemSink, MemStore};
 use std::process::Abort;
@@ -34,7 +34,14 @@ fn is_told<R: AllocGlobal + Threads + Wait + Sync + Abort>(
     let mut input = source_of(rt, lines_of(rt, PUT).as_bytes(), &[]);
     let mut output = sink_of(rt, WIDE, &[]);
     let mut trace: Option<MemSink> = None;
-    let status = call_on(rt, &mut store, words, &mut input, &mut output, &mut trace);
+    let status = call_on(
+        rt,
+        &mut store,
+        (words, Some(KEYS)),
+        &mut input,
+        &mut output,
+        &mut trace,
+    );
     if store.faults() == 0 {
         assert!(rt; status == 0 && output.written() == lines_of(rt, ONE_EPOCH).as_bytes());
         assert!(rt; store.moments() == 72 + STEPS);
@@ -104,7 +111,14 @@ fn expect_end<R: AllocGlobal + Threads + Wait + Sync + Abort>(rt: &R, row: &Ends
     let mut input = source_of(rt, lines_of(rt, PUT).as_bytes(), &[read]);
     let mut output = sink_of(rt, room, &[write]);
     let mut trace: Option<MemSink> = None;
-    let status = call_on(rt, &mut store, RUN, &mut input, &mut output, &mut trace);
+    let status = call_on(
+        rt,
+        &mut store,
+        (RUN, Some(KEYS)),
+        &mut input,
+        &mut output,
+        &mut trace,
+    );
     assert!(rt; status == wanted && output.written() == lines_of(rt, told).as_bytes());
     assert!(rt; store.moments() == steps.saturating_add(72), "{told}");
     expect_next(rt, &mut store, 1 + ended as u64, ended);

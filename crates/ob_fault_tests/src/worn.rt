@@ -5,7 +5,7 @@ ghost use Rattle.ob_mem.specs.Memory.{disk_of_store};
 
 use crate::harms::{Harm, harm_store};
 use crate::playing::{
-    END, PUT, WIDE, call_on, formatted, left_after, lines_of, sink_of, source_of,
+    END, KEYS, PUT, WIDE, call_on, formatted, left_after, lines_of, sink_of, source_of,
 };
 use ob_mem::MemStore;
 use std::process::Abort;
@@ -27,7 +27,14 @@ fn expect_worn<R: AllocGlobal + Threads + Wait + Sync + Abort>(
     let mut output = sink_of(rt, WIDE, &[]);
     let mut trace = Some(sink_of(rt, WIDE, &[]));
     let words = "run S K --trace T";
-    let status = call_on(rt, store, words, &mut input, &mut output, &mut trace);
+    let status = call_on(
+        rt,
+        store,
+        (words, Some(KEYS)),
+        &mut input,
+        &mut output,
+        &mut trace,
+    );
     let told = b"fault: worn at 4611686018427387904\n";
     assert!(rt; status == 8 && output.written() == told.as_slice());
     let trace = trace.expect(rt, "a trace");

@@ -40,18 +40,6 @@ const SHARED: &str = "\
     get 5 = x/txn 3 client 3 committed/del 5/put 1 7/txn 4 client 64 committed/get 1 = 7/\
     put 1 -2/";
 
-const ADDED: &str = "\
-    format S K 8 2 2 3 2 2 2 2 8 <  -> 0 store of 109 cells/\n\
-    crash\n\
-    run S K < client 1/begin/put 5 hi/add 5 1/commit -> \
-    0 epoch 1/txn 1 client 1 aborted asked/put 5 hi/get 5 = hi/\n\
-    crash\n\
-    run S K < client 1/begin/add 5 3/commit -> \
-    0 epoch 2/txn 1 client 1 committed/get 5 absent/put 5 3/\n\
-    crash\n\
-    run S K < client 1/begin/add 5 9223372036854775807/commit -> \
-    0 epoch 3/txn 1 client 1 aborted asked/get 5 = 3/";
-
 // No crash comes between these calls: what each promises is what the next one asks for.
 const WITHOUT_CRASH: &str = "\
     format S K 8 2 2 3 2 2 2 2 8 <  -> 0 store of 109 cells/\n\
@@ -60,12 +48,9 @@ const WITHOUT_CRASH: &str = "\
     run S K < client 1/begin/get 5/commit/ -> \
     0 epoch 3/txn 1 client 1 committed/get 5 = hi/";
 
-// A store that is blank.
-const BLANK: &str = "run S K < begin -> 3 fault: not a store/";
-
 #[test]
 fn calls_find_what_those_before_left(rt: HostRuntime) {
-    play_all(&rt, &[ONE_BY_ONE, SHARED, ADDED, WITHOUT_CRASH, BLANK]);
+    play_all(&rt, &[ONE_BY_ONE, SHARED, WITHOUT_CRASH]);
 }
 
 // Lines that break the grammar, and values that are as long as may be or a byte longer.

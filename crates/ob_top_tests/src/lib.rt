@@ -1,4 +1,5 @@
-//! Lives of ring stores, call by call of the top: outputs, statuses and events.
+//! Lives of ring stores, call by call of the top: outputs, statuses and events; and many clients,
+//! whose reports are replayed.
 #![tactic(auto)]
 
 #[cfg(test)]
@@ -10,13 +11,15 @@ mod events;
 #[cfg(test)]
 mod lanes;
 #[cfg(test)]
+mod many;
+#[cfg(test)]
 mod noting;
 #[cfg(test)]
 mod playing;
 #[cfg(test)]
-mod shown;
+mod replay;
 #[cfg(test)]
-mod stash;
+mod shown;
 #[cfg(test)]
 mod two_epochs;
 #[cfg(test)]

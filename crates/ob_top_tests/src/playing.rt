@@ -31,13 +31,19 @@ const END: usize = 1000;
 /// The cells of a store of 8 keys.
 pub const CELLS: usize = 109;
 
-// A text with its line ends, for each of which a `/` stands.
-fn lines_of<R: AllocGlobal + Abort>(rt: &R, text: &str) -> String {
+/// A text with its line ends, for each of which a `/` stands.
+pub fn lines_of<R: AllocGlobal + Abort>(rt: &R, text: &str) -> String {
     text.replace(rt.alloc(), "/", "\n").expect(rt, "memory")
 }
 
-fn number_of<R: Abort>(rt: &R, text: &str) -> u64 {
+/// A number in digits.
+pub fn number_of<R: Abort>(rt: &R, text: &str) -> u64 {
     text.parse::<u64>().ok().expect(rt, "a number")
+}
+
+/// What stands in a line before the first place of a mark, and behind it.
+pub fn parted<'a, R: Abort>(rt: &R, line: &'a str, mark: &str) -> (&'a str, &'a str) {
+    line.split_once(mark).expect(rt, mark)
 }
 
 fn words_of<'a, R: AllocGlobal + Abort>(rt: &R, line: &'a str) -> Vec<&'a str> {
@@ -48,8 +54,8 @@ fn words_of<'a, R: AllocGlobal + Abort>(rt: &R, line: &'a str) -> Vec<&'a str> {
     words
 }
 
-// Makes a call: its status, and its output.
-fn call_on<R: AllocGlobal + Threads + Wait + Sync + Abort, S: Lanes>(
+/// Makes a call: its status, and its output.
+pub fn call_on<R: AllocGlobal + Threads + Wait + Sync + Abort, S: Lanes>(
     rt: &R,
     store: &mut S,
     tape: &[u64],
@@ -94,8 +100,8 @@ pub fn expect<R: AllocGlobal + Threads + Wait + Sync + Abort, S: Lanes>(
     requires { (S.disk store.old).out ≡ 0 }
     ensures { (S.disk store.new).out ≡ 0 }
 {
-    let (words, script) = call.split_once(" < ").expect(rt, "a script");
-    let (status, output) = wanted.split_once(' ').expect(rt, "an output");
+    let (words, script) = parted(rt, call, " < ");
+    let (status, output) = parted(rt, wanted, " ");
     let (answered, told) = call_on(rt, store, tape, room, words, script);
     assert!(rt; answered as u64 == number_of(rt, status), "{call}");
     assert!(rt; told.written() == lines_of(rt, output).as_bytes(), "{call}");
@@ -145,7 +151,7 @@ pub fn expect_asked<R: AllocGlobal + Abort>(rt: &R, store: &Noting, names: &str)
     let told = told.replace(rt.alloc(), "\n", "/").expect(rt, "memory");
     let mut rest = told.as_str();
     for line in EVENTS.lines() {
-        let (name, events) = line.split_once(": ").expect(rt, "a name");
+        let (name, events) = parted(rt, line, ": ");
         if names.contains(name) {
             rest = rest.strip_prefix(events).expect(rt, "these events");
         }

@@ -1,8 +1,13 @@
 //! What calls do to their store, event by event: on new stores, behind crashes, and where they are
 //! refused.
 
-use crate::playing::{CELLS, WIDE, expect, expect_asked, go_on, go_on_behind, play, play_all};
+use crate::playing::{
+    CELLS, WIDE, expect, expect_asked, go_on_behind, number_of, parted, play, play_all,
+};
 use ob_mem::Fail;
+use std::process::Abort;
+use std::sync::Wait;
+use std::thread::Threads;
 
 const FORMATTED: &str = "\
     format S K 8 2 2 3 2 2 2 2 8 <  -> 0 store of 109 cells/\n\
@@ -78,53 +83,45 @@ fn a_run_goes_on_behind_a_crash_as_another_implementation_does(rt: HostRuntime) 
 
 // Calls that fail, behind a format of 62 writes and 10 syncs: the gate of the first batch's record,
 // and its first slot; the first slot of the refill; the register's body and its sync, its gate and
-// the sync behind that. And what the run of an empty transaction shows then.
-static REFUSED: [(Fail, &str); 7] = [
-    (
-        Fail::Write(65),
-        "run S K < client 1/begin/commit -> 5 fault: store/\n\
-        asked format opening half",
-    ),
-    (
-        Fail::Read {
-            cell: 41,
+// the sync behind that. What the run of an empty transaction answers then, and what it shows.
+const REFUSED: &str = "\
+    write 65: 5 fault: store/ -> format opening half\n\
+    read 41: 5 fault: store/ -> format opening record batch\n\
+    write 68: 5 fault: store/ -> format opening record batch second lifts slot\n\
+    write 106: 5 fault: store/ -> format opening record batch second lifts refill body\n\
+    sync 18: 5 fault: store/ -> format opening record batch second lifts refill sure\n\
+    write 107: 5 fault: store, epoch 1 unsure/ -> \
+    format opening record batch second lifts refill gate\n\
+    sync 19: 5 fault: store, epoch 1 unsure/ -> \
+    format opening record batch second lifts refill register";
+
+// A call that fails; of a cell the reads behind 66 writes.
+fn fail_of<R: Abort>(rt: &R, call: &str) -> Fail {
+    let (kind, number) = parted(rt, call, " ");
+    let number = number_of(rt, number);
+    match kind {
+        "write" => Fail::Write(number),
+        "sync" => Fail::Sync(number),
+        _ => Fail::Read {
+            cell: number,
             writes: 66,
         },
-        "run S K < client 1/begin/commit -> 5 fault: store/\n\
-        asked format opening record batch",
-    ),
-    (
-        Fail::Write(68),
-        "run S K < client 1/begin/commit -> 5 fault: store/\n\
-        asked format opening record batch second lifts slot",
-    ),
-    (
-        Fail::Write(106),
-        "run S K < client 1/begin/commit -> 5 fault: store/\n\
-        asked format opening record batch second lifts refill body",
-    ),
-    (
-        Fail::Sync(18),
-        "run S K < client 1/begin/commit -> 5 fault: store/\n\
-        asked format opening record batch second lifts refill sure",
-    ),
-    (
-        Fail::Write(107),
-        "run S K < client 1/begin/commit -> 5 fault: store, epoch 1 unsure/\n\
-        asked format opening record batch second lifts refill gate",
-    ),
-    (
-        Fail::Sync(19),
-        "run S K < client 1/begin/commit -> 5 fault: store, epoch 1 unsure/\n\
-        asked format opening record batch second lifts refill register",
-    ),
-];
+    }
+}
+
+fn expect_refused<R: AllocGlobal + Threads + Wait + Sync + Abort>(rt: &R, row: &str) {
+    let (call, row) = parted(rt, row, ": ");
+    let (wanted, names) = parted(rt, row, " -> ");
+    let mut store = play(rt, CELLS, &[fail_of(rt, call)], FORMATTED);
+    let run = "run S K < client 1/begin/commit";
+    expect(rt, &mut store, &[], WIDE, run, wanted);
+    expect_asked(rt, &store, names);
+}
 
 #[test]
 fn a_refused_run_shows_what_its_fault_allows(rt: HostRuntime) {
-    for &(fail, steps) in &REFUSED {
-        let mut store = play(&rt, CELLS, &[fail], FORMATTED);
-        go_on(&rt, &mut store, steps);
+    for row in REFUSED.lines() {
+        expect_refused(&rt, row);
     }
 }
 

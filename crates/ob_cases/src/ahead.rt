@@ -9,7 +9,7 @@ ghost use Rattle.ob_mem.specs.Heard.{told};
 ghost use Rattle.ob_mem.specs.Memory.{disk_of_store};
 ghost use Rattle.ob_mem.specs.Laws.{counts_now, only_now, includes_reads};
 
-use crate::playing::{Ask, EMPTY, FORMAT, RUNS, WIDE, blank, call_on, sink_of};
+use crate::calling::{CELLS, EMPTY, FORMAT, RUNS, WIDE, ask_for, blank, call_on, sink_of};
 use ob_base::Failed;
 use ob_io::Sink;
 use ob_lanes::{Hand, Lanes, read_hands};
@@ -132,11 +132,7 @@ fn make<R: AllocGlobal + Threads + Wait + Sync + Abort>(
     ensures { (disk_of_store store.new.store).out ≡ 0 }
 {
     let mut trace = Some(LastLine { last });
-    let ask = Ask {
-        words,
-        script: EMPTY,
-        tape: &[],
-    };
+    let ask = ask_for(words, EMPTY);
     let status = call_on(rt, store, ask, &mut sink_of(rt, WIDE), &mut trace);
     assert!(rt; status == 0, "{words}");
 }
@@ -145,7 +141,7 @@ fn make<R: AllocGlobal + Threads + Wait + Sync + Abort>(
 fn expect_none_late<R: AllocGlobal + Threads + Wait + Sync + Abort>(rt: &R, words: &str) {
     let last = AtomicU64::new(0);
     let mut store = Asking {
-        store: blank(rt, &[]),
+        store: blank(rt, CELLS, &[]),
         last: &last,
         writes: Writes { all: 0, late: 0 },
     };

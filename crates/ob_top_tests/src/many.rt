@@ -2,10 +2,12 @@
 
 ghost use Rattle.std.specs.Prelude.{◌≤◌};
 
-use crate::calling::{SIXTEEN, lines_of, told_by};
+use crate::playing::{call_on, lines_of, parted, play};
 use crate::replay::replayed;
-use ob_desk::Eager;
+use ob_mem::MemSink;
 use std::process::Abort;
+use std::sync::Wait;
+use std::thread::Threads;
 
 // A client's transactions over 16 keys.
 fn push_txns<R: AllocGlobal + Abort>(rt: &R, script: &mut String, client: u64)
@@ -32,6 +34,19 @@ fn many_clients<R: AllocGlobal + Abort>(rt: &R) -> String {
     script
 }
 
+// What is written of a run that goes well, over a new store.
+fn told_by<R: AllocGlobal + Threads + Wait + Sync + Abort>(
+    rt: &R,
+    words: &str,
+    script: &str,
+) -> MemSink {
+    let format = "format S K 16 2 4 3 4 4 16 2 16 <  -> 0 store of 161 cells/";
+    let mut store = play(rt, 161, &[], format);
+    let (status, told) = call_on(rt, &mut store, &[], 1_000_000, words, script);
+    assert!(rt; status == 0, "{words}");
+    told
+}
+
 static WAYS: [&str; 4] = ["run S K", "run S K", "run S K", "run S K --turns"];
 
 // Each report tells all transactions, of which the committed ones replay one by one.
@@ -39,7 +54,7 @@ static WAYS: [&str; 4] = ["run S K", "run S K", "run S K", "run S K --turns"];
 fn many_clients_are_served_one_by_one(rt: HostRuntime) {
     let script = many_clients(&rt);
     for words in &WAYS {
-        let told = told_by(&rt, SIXTEEN, &mut Eager, *words, script.as_str());
+        let told = told_by(&rt, *words, script.as_str());
         let report = str::from_utf8(told.written()).ok().expect(&rt, "a text");
         assert!(&rt; replayed(&rt, report) == 3200);
     }
@@ -56,23 +71,23 @@ const ALL_AT_REST: &str = "\
     client 50/client 51/client 52/client 53/client 54/client 55/client 56/client 57/\
     client 58/client 59/client 60/client 61/client 62/client 63/client 64/";
 
-static FEW: [(&str, &str); 4] = [
-    ("", ""),
-    ("# nobody/# calls/", ""),
-    (ALL_AT_REST, ""),
-    (
-        "client 9/begin/put 5 hi/commit/begin/get 5/commit/",
-        "epoch 1/txn 1 client 9 committed/put 5 hi/epoch 2/txn 1 client 9 committed/get 5 = hi/",
-    ),
-];
+// Scripts, and what is told.
+const FEW: &str = "\
+    # nobody/# calls/ -> \n\
+    client 9/begin/put 5 hi/commit/begin/get 5/commit/ -> \
+    epoch 1/txn 1 client 9 committed/put 5 hi/epoch 2/txn 1 client 9 committed/get 5 = hi/";
 
 #[test]
 fn one_client_is_served_and_none(rt: HostRuntime) {
-    for &(script, wanted) in &FEW {
-        let told = told_by(&rt, SIXTEEN, &mut Eager, "run S K", script);
+    for line in FEW.lines() {
+        let (script, wanted) = parted(&rt, line, " -> ");
+        let told = told_by(&rt, "run S K", script);
         assert!(&rt;
             told.written() == lines_of(&rt, wanted).as_bytes(),
             "{script}"
         );
+    }
+    for script in ["", ALL_AT_REST] {
+        assert!(&rt; told_by(&rt, "run S K", script).written().is_empty());
     }
 }

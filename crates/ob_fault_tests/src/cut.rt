@@ -1,13 +1,51 @@
-//! Traces that have too little room, or none: what is still done, and what is told.
+//! Traces that have too little room: what is still done, and what is told.
 
-use crate::lines::ONE_EPOCH;
+ghost use Rattle.std.specs.Prelude.{◌≡◌};
+ghost use Rattle.ob_mem.specs.Memory.{disk_of_store};
+
 use crate::playing::{
-    Ask, EMPTY, END, FORMAT, RUNS, WIDE, blank, call_on, formatted, lines_of, sink_of,
+    END, KEYS, WIDE, call_on, expect, formatted, left_after, lines_of, sink_of, source_of,
 };
 use ob_mem::{MemSink, MemStore};
 use std::process::Abort;
 use std::sync::Wait;
 use std::thread::Threads;
+
+// The trace of a run of one epoch over a store that was just formatted, as another implementation
+// wrote it.
+const TRACE: &str = "\
+    O/R 0/R 1/R 2/R 3/R 4/R 5/R 6/R 7/R 8/R 17/R 18/R 19/R 20/R 21/R 22/R 23/R 24/R 25/R 26/\
+    R 27/R 13/R 14/R 15/R 16/S/W 1/S/W 2/S/W 13/S/W 14/S/L 0/R 41/R 46/R 56/L 0/R 42/R 47/\
+    R 57/W 15/S/W 16/S/L 0/R 43/R 39/R 40/R 48/R 44/R 45/R 58/R 54/R 55/L 0/R 49/R 50/R 64/\
+    R 65/W 89/W 90/W 91/W 92/W 93/W 99/W 100/W 101/W 102/W 103/W 79/W 80/W 81/W 82/W 83/W 84/\
+    W 85/W 86/W 87/W 88/W 74/W 75/W 76/W 77/W 78/W 28/W 29/W 30/W 31/W 32/W 33/W 34/W 35/W 36/\
+    W 37/W 38/W 10/W 12/S/W 7/S/W 8/S/";
+
+// How a run under a trace goes: by threads and by hand, with four lanes and with one.
+static RUNS: [&str; 4] = [
+    "run S K --trace T",
+    "run S K --trace T --turns",
+    "run S K --lanes 1 --trace T",
+    "run S K --turns --trace T --lanes 1",
+];
+
+// A script of an empty transaction.
+const EMPTY: &str = "client 1/begin/commit";
+
+// Makes a call, `(WORDS, SCRIPT)`, and answers its status.
+fn call_with<R: AllocGlobal + Threads + Wait + Sync + Abort>(
+    rt: &R,
+    store: &mut MemStore,
+    ask: (&str, &str),
+    output: &mut MemSink,
+    trace: &mut Option<MemSink>,
+) -> u8
+    requires { (disk_of_store store.old).out ≡ 0 }
+    ensures { (disk_of_store store.new).out ≡ 0 }
+{
+    let mut input = source_of(rt, lines_of(rt, ask.1).as_bytes(), &[]);
+    call_on(rt, store, (ask.0, Some(KEYS)), &mut input, output, trace)
+}
 
 // From how many bytes of room on a run of one epoch makes how many writes and syncs.
 static STEPS: [(usize, usize); 5] = [(0, 0), (6, 5), (127, 9), (179, 13), (246, 56)];
@@ -46,42 +84,34 @@ fn expect_next<R: AllocGlobal + Threads + Wait + Sync + Abort>(
     store: &MemStore,
     ended: bool,
 ) {
-    let mut left = store.crash(END, &[]).expect(rt, "memory");
-    let ask = Ask {
-        words: RUNS[1],
-        script: EMPTY,
-        tape: &[],
-    };
-    let mut output = sink_of(rt, WIDE);
-    let mut trace = Some(sink_of(rt, WIDE));
-    let status = call_on(rt, &mut left, ask, &mut output, &mut trace);
+    let mut left = left_after(rt, store, END, None);
     let told = if ended {
-        b"epoch 2\ntxn 1 client 1 committed\n"
+        "epoch 2/txn 1 client 1 committed/"
     } else {
-        b"epoch 1\ntxn 1 client 1 committed\n"
+        "epoch 1/txn 1 client 1 committed/"
     };
-    assert!(rt; status == 0 && output.written() == told.as_slice());
+    expect(rt, &mut left, "run S K --turns", EMPTY, 0, told);
 }
 
 // A run of one epoch whose trace has so much room, where all would be told this.
 fn expect_cut<R: AllocGlobal + Threads + Wait + Sync + Abort>(
     rt: &R,
     made: &MemStore,
-    ask: Ask<'_>,
+    ask: (&str, &str),
     told: &str,
     room: usize,
 ) {
-    let mut store = made.crash(END, &[]).expect(rt, "memory");
-    let mut output = sink_of(rt, WIDE);
-    let mut trace = Some(sink_of(rt, room));
-    let status = call_on(rt, &mut store, ask, &mut output, &mut trace);
+    let mut store = left_after(rt, made, END, None);
+    let mut output = sink_of(rt, WIDE, &[]);
+    let mut trace = Some(sink_of(rt, room, &[]));
+    let status = call_with(rt, &mut store, ask, &mut output, &mut trace);
     assert!(rt; status == if room < WHOLE { 7 } else { 0 }, "{room}");
     assert!(rt;
         output.written() == told_of(rt, room, told).as_bytes(),
         "{room}"
     );
     let trace = trace.expect(rt, "a trace");
-    let whole = lines_of(rt, ONE_EPOCH);
+    let whole = lines_of(rt, TRACE);
     let whole = whole.as_bytes();
     assert!(rt;
         trace.written() == &whole[..room.min(whole.len())],
@@ -101,19 +131,12 @@ fn expect_all_cut<R: AllocGlobal + Threads + Wait + Sync + Abort>(
     told: &str,
 ) {
     let made = formatted(rt, &[]);
-    let mut ask = Ask {
-        words: RUNS[0],
-        script,
-        tape: &[],
-    };
     for room in 0..WHOLE + 2 {
-        ask.words = RUNS[room % 4];
-        expect_cut(rt, &made, ask, told, room);
+        expect_cut(rt, &made, (RUNS[room % 4], script), told, room);
     }
     for &room in &EDGES {
         for &words in &RUNS {
-            ask.words = words;
-            expect_cut(rt, &made, ask, told, room);
+            expect_cut(rt, &made, (words, script), told, room);
         }
     }
 }
@@ -136,15 +159,10 @@ fn expect_short<R: AllocGlobal + Threads + Wait + Sync + Abort>(
     fails: &[u64],
 ) {
     let mut store = formatted(rt, &[]);
-    let ask = Ask {
-        words: RUNS[1],
-        script: EMPTY,
-        tape: &[],
-    };
-    let bad = fails.to_vec(rt.alloc()).expect(rt, "memory");
-    let mut output = MemSink::new(rt.alloc(), room, bad).expect(rt, "memory");
-    let mut trace = Some(sink_of(rt, 300));
-    let status = call_on(rt, &mut store, ask, &mut output, &mut trace);
+    let ask = (RUNS[1], EMPTY);
+    let mut output = sink_of(rt, room, fails);
+    let mut trace = Some(sink_of(rt, 300, &[]));
+    let status = call_with(rt, &mut store, ask, &mut output, &mut trace);
     let told = output.written();
     let report = b"epoch 1\ntxn 1 client 1 committed\n";
     assert!(rt; status == 7 && report.starts_with(told), "{room}");
@@ -165,31 +183,10 @@ fn no_fault_is_told_where_the_output_fails_too(rt: HostRuntime) {
 #[test]
 fn a_trace_without_the_option_is_left_as_it_is(rt: HostRuntime) {
     let mut store = formatted(&rt, &[]);
-    let mut output = sink_of(&rt, WIDE);
-    let mut trace = Some(sink_of(&rt, WIDE));
-    let ask = Ask {
-        words: "run S K",
-        script: EMPTY,
-        tape: &[],
-    };
-    let status = call_on(&rt, &mut store, ask, &mut output, &mut trace);
+    let mut output = sink_of(&rt, WIDE, &[]);
+    let mut trace = Some(sink_of(&rt, WIDE, &[]));
+    let ask = ("run S K", EMPTY);
+    let status = call_with(&rt, &mut store, ask, &mut output, &mut trace);
     let trace = trace.expect(&rt, "a trace");
     assert!(&rt; status == 0 && trace.written().is_empty() && trace.faults() == 0);
-}
-
-#[test]
-fn the_option_without_a_trace_is_refused(rt: HostRuntime) {
-    for &words in &[RUNS[0], RUNS[1], FORMAT] {
-        let mut store = blank(&rt, &[]);
-        let mut output = sink_of(&rt, WIDE);
-        let mut trace: Option<MemSink> = None;
-        let ask = Ask {
-            words,
-            script: EMPTY,
-            tape: &[],
-        };
-        let status = call_on(&rt, &mut store, ask, &mut output, &mut trace);
-        assert!(&rt; status == 7 && output.written() == b"fault: sink\n".as_slice());
-        assert!(&rt; trace.is_none() && store.moments() == 0);
-    }
 }

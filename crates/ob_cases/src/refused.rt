@@ -1,0 +1,92 @@
+//! Calls without a store: what is refused, in its order, and the files that words call for.
+
+use crate::calling::{KEYS, NEVER, ask_for, expect_alone, parted, words_of};
+use ob_words::store_wanted;
+use std::process::Abort;
+
+// The keys of a call, its words, and what is told: none, those of the tests, the first 190 of their
+// digits, or too short ones.
+const REFUSED: &str = "\
+    keys  -> 2 fault: usage/\n\
+    none run -> 2 fault: usage/\n\
+    keys run S K X -> 2 fault: usage/\n\
+    keys run S -k -> 2 fault: usage/\n\
+    keys run S K --turns --turns -> 2 fault: usage/\n\
+    keys run S K --trace -> 2 fault: usage/\n\
+    keys run S K --trace T --trace T -> 2 fault: usage/\n\
+    keys run S K --trace T -> 5 fault: store/\n\
+    keys audit x -> 2 fault: usage/\n\
+    keys --help -> 2 fault: usage/\n\
+    keys format S K 8 2 2 3 2 2 2 2 -> 2 fault: usage/\n\
+    none format S K 9 2 2 3 2 2 2 2 8 -> 2 fault: parameter N/\n\
+    none format S K 8 2 2 3 2 2 2 2 08 -> 2 fault: parameter T/\n\
+    keys run S K --lanes 0 -> 2 fault: parameter LANES/\n\
+    none run S K --lanes 17 -> 2 fault: parameter LANES/\n\
+    none run S K --lanes 08 -> 2 fault: parameter LANES/\n\
+    none run --lanes x S K -> 2 fault: parameter LANES/\n\
+    none run S K --lanes 4294967296 -> 2 fault: parameter LANES/\n\
+    none format S K 8 2 2 3 2 2 2 2 8 -> 7 fault: source/\n\
+    none run S K -> 7 fault: source/\n\
+    short run S K -> 2 fault: parameter KEYS/\n\
+    190 run S K -> 2 fault: parameter KEYS/\n\
+    190 format S K 8 2 2 3 2 2 2 2 8 -> 2 fault: parameter KEYS/\n\
+    keys format S K 8 2 2 3 2 2 2 2 8 -> 5 fault: store/\n\
+    keys run S K -> 5 fault: store/";
+
+fn keys_of(keys: &str) -> Option<&'static str> {
+    match keys {
+        "none" => None,
+        "keys" => Some(KEYS),
+        "190" => Some(&KEYS[..190]),
+        _ => Some("00010203"),
+    }
+}
+
+#[test]
+fn refusals_come_in_their_order(rt: HostRuntime) {
+    for line in REFUSED.lines() {
+        let (call, wanted) = parted(&rt, line, " -> ");
+        let (keys, words) = parted(&rt, call, " ");
+        let mut ask = ask_for(words, "begin");
+        ask.keys = keys_of(keys);
+        expect_alone(&rt, ask, NEVER, wanted);
+    }
+}
+
+// Words, whether they call for the keys `K` and for the store `S`, which may be made or not, and
+// whether for the trace `T`.
+static WANTED: [(&str, Option<bool>, bool); 12] = [
+    ("audit", None, false),
+    ("run S K", Some(false), false),
+    ("run --lanes 2 S K --turns", Some(false), false),
+    ("run S --lanes 17 K", None, false),
+    ("run S", None, false),
+    ("run S K --trace T", Some(false), true),
+    ("run --trace T S K --turns", Some(false), true),
+    ("run S K --trace T --lanes 17", None, false),
+    ("format S K 8 2 2 3 2 2 2 2 8", Some(true), false),
+    ("format S K 8 2 2 3 2 2 2 2 8 --trace T", Some(true), true),
+    ("format S K 9 2 2 3 2 2 2 2 8 --trace T", None, false),
+    ("format S K 8 2 2 3 2 2 2 2", None, false),
+];
+
+fn expect_wanted<R: AllocGlobal + Abort>(rt: &R, line: &str, may_make: Option<bool>, traced: bool) {
+    let words = words_of(rt, line);
+    let paths = store_wanted(rt.alloc(), &words).expect(rt, "memory");
+    let (store, keys) = match may_make {
+        Some(may_make) => (Some(("S", may_make)), Some("K")),
+        None => (None, None),
+    };
+    let trace = if traced { Some("T") } else { None };
+    assert!(rt;
+        paths.store == store && paths.keys == keys && paths.trace == trace,
+        "{line}"
+    );
+}
+
+#[test]
+fn what_words_do_not_call_for_is_not_wanted(rt: HostRuntime) {
+    for &(line, may_make, traced) in &WANTED {
+        expect_wanted(&rt, line, may_make, traced);
+    }
+}
