@@ -42,3 +42,4 @@ pub mod Whole
 pub mod Joining
 pub mod Formatted
 pub mod SealCounts
+pub mod Given

@@ -97,3 +97,9 @@ module _ {S : Type 0} (disk : S → Disk) (keys : Keys) (p : Params) where
 abbrev pub RunsAreOneLife : {S : Type 0} → (S → Disk) → Type 0
 RunsAreOneLife {S} disk = (keys : Keys) (p : Params) (drawn : List ℕ) (made : S) (parts : List (RunPart S)) → RingFormatted keys p drawn (disk made) → AreRunsFrom disk keys p (disk made).may_leave parts
     → (word_of : WordId → ℕ) → AreGiven word_of parts → IsOneLife disk keys p word_of drawn parts
+
+-- The law isn't empty: for each row there are words such that each run's tape gave those of its generation, and the format's those of the
+-- first.
+abbrev pub TapesExist : {S : Type 0} → (S → Disk) → Type 0
+TapesExist {S} disk = (keys : Keys) (p : Params) (drawn : List ℕ) (made : S) (parts : List (RunPart S)) → RingFormatted keys p drawn (disk made) → AreRunsFrom disk keys p (disk made).may_leave parts
+    → (word_of : WordId → ℕ) × AreTapeWords word_of 1 drawn × AreGiven word_of parts

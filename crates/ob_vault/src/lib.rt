@@ -21,6 +21,6 @@ pub use ring::{
 };
 pub use runs::{
     drawn_is_shown, formats_begin, openings_go_on, openings_stop, runs_are_lives,
-    runs_are_one_life, runs_go_on,
+    runs_are_one_life, runs_go_on, tapes_exist,
 };
 pub use vault::RingVault;

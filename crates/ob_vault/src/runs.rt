@@ -3,7 +3,7 @@
 
 ghost use Rattle.ob_serial.specs.VaultKinds.{kind_of};
 ghost use Rattle.ob_vault.specs.Shown.{DrawnIsShown};
-ghost use Rattle.ob_vault.specs.Joined.{RunsAreOneLife};
+ghost use Rattle.ob_vault.specs.Joined.{RunsAreOneLife, TapesExist};
 ghost use Rattle.ob_vault.specs.Lives.{FormatsBegin, OpeningsGoOn, OpeningsStop, RunsAreLives, RunsGoOn};
 
 use ob_serial::Vault;
@@ -47,4 +47,10 @@ pub fn runs_are_lives<S: Store>()
 /// hole that is shown again is filled as before.
 pub fn runs_are_one_life<S: Store>()
     ensures { RunsAreOneLife (λ store. S.disk store) }
+{}
+
+/// For any such row there are words such that the tape of each run gave those of its generation: the
+/// generations of its runs rise. So the law on rows of runs isn't empty.
+pub fn tapes_exist<S: Store>()
+    ensures { TapesExist (λ store. S.disk store) }
 {}
