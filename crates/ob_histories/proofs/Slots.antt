@@ -16,16 +16,16 @@ abbrev pub Slots : Type 0
 Slots = (bucket version number : ℕ) → ℕ
 
 -- in the place of each of two slots the other
-abbrev swapped : ℕ → ℕ → ℕ → ℕ
+abbrev pub swapped : ℕ → ℕ → ℕ → ℕ
 swapped x y z = cond (z == y) x (cond (z == x) y z)
 
-swap_first : (x y : ℕ) → swapped x y y ≡ x
+pub swap_first : (x y : ℕ) → swapped x y y ≡ x
 swap_first x y = ap (λ (c : Bool). cond c x (cond (y == x) y y)) (eq-eqb y y refl)
 
-swap_other : (x y z : ℕ) → (z ≡ y → ⊥) → (z ≡ x → ⊥) → swapped x y z ≡ z
+pub swap_other : (x y z : ℕ) → (z ≡ y → ⊥) → (z ≡ x → ⊥) → swapped x y z ≡ z
 swap_other x y z not_y not_x = (λ i. cond (ne_eqb z y not_y i) x (cond (ne_eqb z x not_x i) y z))
 
-swap_range : (x y z n : ℕ) → x < n → y < n → z < n → swapped x y z < n
+pub swap_range : (x y z n : ℕ) → x < n → y < n → z < n → swapped x y z < n
 swap_range x y z n a b c = go (z == y) (z == x)
   where
     go : (s t : Bool) → cond s x (cond t y z) < n
@@ -54,7 +54,7 @@ swap_twice x y z = go (z == y) (z == x) refl refl
         ap (swapped x y) inner ∙ swap_first x y ∙ sym (eqb-true z x other))
     go false false is other = (let inner : swapped x y z ≡ z = (λ i. cond (is i) x (cond (other i) y z)) in ap (swapped x y) inner ∙ inner)
 
-swap_apart : (x y a b : ℕ) → swapped x y a ≡ swapped x y b → a ≡ b
+pub swap_apart : (x y a b : ℕ) → swapped x y a ≡ swapped x y b → a ≡ b
 swap_apart x y a b same = sym (swap_twice x y a) ∙ ap (swapped x y) same ∙ swap_twice x y b
 
 module _ (p : Params) (leaf : Leaves) (within : InRange p leaf) where

@@ -1,0 +1,6 @@
+//! Lives of a ring store and public histories. Laws of definitions; nothing here runs.
+#![tactic(auto)]
+
+mod fills;
+
+pub use fills::lives_have_fills;
