@@ -1,3 +1,4 @@
 pub mod Completing
 pub mod Ranges
 pub mod Living
+pub mod Publics

@@ -1,10 +1,17 @@
 //! What fills the holes of all epochs of a life.
 
 ghost use Rattle.ob_admitted.specs.Fills.{LivesHaveFills};
+ghost use Rattle.ob_admitted.specs.Publics.{LivesGoByFills};
 
 /// Each life from a format on, of any number of runs, crashes and repeats, has fills of all epochs
 /// as a public history has: in range, with no slot of a version twice, and all that an attempt
 /// shows is theirs.
 pub fn lives_have_fills()
     ensures { LivesHaveFills }
+{}
+
+/// What is public of such a life at the beginning of the epoch that runs, and each bucket's version,
+/// is what it is by these fills; so are the leaves that the epoch's batches show.
+pub fn lives_go_by_fills()
+    ensures { LivesGoByFills }
 {}
