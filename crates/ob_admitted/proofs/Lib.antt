@@ -2,3 +2,4 @@ pub mod Completing
 pub mod Ranges
 pub mod Living
 pub mod Publics
+pub mod Notes

@@ -26,7 +26,7 @@ use Rattle.ob_histories.proofs.Finding.{epoch_at}
 use Rattle.ob_admitted.specs.Fills.{AreFilled}
 use Rattle.ob_admitted.specs.Publics.{AreRecordsWhole, IsPublicOfFills, LivesGoByFills}
 
-words_many : (w : WordId) (asks : List (Option ℕ)) → length (with_words w asks) ≡ length asks
+pub words_many : (w : WordId) (asks : List (Option ℕ)) → length (with_words w asks) ≡ length asks
 words_many w [] = refl
 words_many w (a ∷ rest) = ap suc (words_many (next_word w) rest)
 
@@ -39,7 +39,7 @@ module _ (p : Params) (word_of : WordId → ℕ) (f : AllFills) where
 
   -- ---- the leaves of a batch
 
-  labels_filled : (e b i : ℕ) (book : ℕ → Option WordId) (places : List (Option ℕ × WordId)) → ((l : LabelFill) → Has (labels_of e b i book places) l → IsFilled l) → map leaf (labels_of e b i book places) ≡ map (f.leaf e b) (range_with_len i (length places))
+  pub labels_filled : (e b i : ℕ) (book : ℕ → Option WordId) (places : List (Option ℕ × WordId)) → ((l : LabelFill) → Has (labels_of e b i book places) l → IsFilled l) → map leaf (labels_of e b i book places) ≡ map (f.leaf e b) (range_with_len i (length places))
   labels_filled e b i book [] filled = refl
   labels_filled e b i book (a ∷ rest) filled = λ j. sym (filled _ (inl refl)) j ∷ labels_filled e b (i + 1) (after_label book a.0 a.1) rest (λ l h. filled l (inr h)) j
 
@@ -85,7 +85,7 @@ module _ (p : Params) (word_of : WordId → ℕ) (f : AllFills) where
     versions : (u : ℕ) → version_filled p f s.epoch u ≡ s.content.version u
     whole : AreWhole s.log
 
-  counter_log : (t : FlatTable) (log : List LifeBatch) → (table_after p word_of t log).counter ≡ t.counter
+  pub counter_log : (t : FlatTable) (log : List LifeBatch) → (table_after p word_of t log).counter ≡ t.counter
   counter_log t [] = refl
   counter_log t (r ∷ log) = counter_log (after_batch p t (leaves p word_of (batch_places r))) log ∙ batch_counter p t (leaves p word_of (batch_places r))
 

@@ -9,7 +9,7 @@ use Rattle.ob_ring.specs.FlatTable.{FlatTable, Shown, after_batch, batch_shown}
 use Rattle.ob_recover.specs.Life.{WordId, LifeAct, LifeBatch, LifeContent, LifeState, SlotFill, Open, Append, ShowBatch, ShowLifts, End, IsLife, batch_places, leaves, life_step, lift_slots, log_slots, planned_slots, reached, slots_of, table_now}
 use Rattle.ob_recover.proofs.LifeSlots.{AreSlotsSound, slots_keep}
 
-version_of : (e : ℕ) (c : LifeContent) (ss : List Shown) (f : SlotFill) → Has (slots_of e c ss) f → f.version ≡ c.version f.bucket
+pub version_of : (e : ℕ) (c : LifeContent) (ss : List Shown) (f : SlotFill) → Has (slots_of e c ss) f → f.version ≡ c.version f.bucket
 version_of e c [] f h = absurd h
 version_of e c (s ∷ ss) f (inl same) = (λ i. (sym same i).version) ∙ ap (λ (x : SlotFill). c.version x.bucket) same
 version_of e c (s ∷ ss) f (inr h) = version_of e c ss f h

@@ -6,7 +6,7 @@ use Rattle.ob_base.specs.Tree.{below, width}
 use Rattle.ob_base.specs.declared.params.Params.{Params}
 use Rattle.ob_tables.specs.Rank.{IsRanking}
 use Rattle.ob_ring.specs.FlatTable.{reads}
-use Rattle.ob_recover.specs.Life.{WordId, LifeAct, LifeState, Open, Append, ShowBatch, ShowLifts, End, IsLife, formatted_life, planned_labels, planned_slots, reached}
+use Rattle.ob_recover.specs.Life.{WordId, LifeAct, LifeState, Open, Append, ShowBatch, ShowLifts, End, IsLife, formatted_life, planned_labels, reached}
 use Rattle.ob_recover.specs.LifePublic.{leaves_in}
 use Rattle.ob_fresh.specs.PublicLives.{AreEndsShown}
 use Rattle.ob_histories.specs.Fills.{AllFills, leaves_of_batches, public_at, version_filled}
@@ -33,5 +33,5 @@ pub record IsPublicOfFills (p : Params) (word_of : WordId → ℕ) (f : AllFills
 -- of a life from a format on, of which each epoch was ended by an attempt that had shown all its batches
 abbrev pub LivesGoByFills : Type 0
 LivesGoByFills = (p : Params) (word_of : WordId → ℕ) (slot : ℕ → ℕ → ℕ) (acts : List LifeAct) (f : AllFills) → ((u : ℕ) → IsRanking (width p) (slot u)) → IsLife p word_of (formatted_life slot) acts
-    → AreEndsShown p word_of (formatted_life slot) acts → AreRecordsWhole p acts → AreFilled p word_of f (planned_labels p word_of (reached p word_of (formatted_life slot) acts)) (planned_slots p word_of (reached p word_of (formatted_life slot) acts))
+    → AreEndsShown p word_of (formatted_life slot) acts → AreRecordsWhole p acts → AreFilled p word_of f (planned_labels p word_of (reached p word_of (formatted_life slot) acts)) []
     → IsPublicOfFills p word_of f (reached p word_of (formatted_life slot) acts)

@@ -1,6 +1,7 @@
 //! What fills the holes of all epochs of a life.
 
 ghost use Rattle.ob_admitted.specs.Fills.{LivesHaveFills};
+ghost use Rattle.ob_admitted.specs.Notes.{CallsGoByFills};
 ghost use Rattle.ob_admitted.specs.Publics.{LivesGoByFills};
 
 /// Each life from a format on, of any number of runs, crashes and repeats, has fills of all epochs
@@ -14,4 +15,10 @@ pub fn lives_have_fills()
 /// is what it is by these fills; so are the leaves that the epoch's batches show.
 pub fn lives_go_by_fills()
     ensures { LivesGoByFills }
+{}
+
+/// A batch that a call fetched, and an epoch's end, of such a life show the notes that a public
+/// history with these fills has, if the call's fills and these are what its acts show.
+pub fn calls_go_by_fills()
+    ensures { CallsGoByFills }
 {}
