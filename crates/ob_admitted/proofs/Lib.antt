@@ -3,3 +3,4 @@ pub mod Ranges
 pub mod Living
 pub mod Publics
 pub mod Notes
+pub mod Repeating

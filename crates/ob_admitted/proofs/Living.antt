@@ -1,17 +1,15 @@
 -- The fills of a life.
-use Rattle.std.specs.Prelude.{◌≡◌, ◌<◌, ℕ, List}
+use Rattle.std.specs.Prelude.{◌<◌}
 use Rattle.std.proofs.Common.{arith}
 use Rattle.ob_base.specs.Repeats.{Has}
 use Rattle.ob_base.specs.Tree.{width}
-use Rattle.ob_base.specs.declared.params.Params.{Params}
-use Rattle.ob_tables.specs.Rank.{IsRanking}
-use Rattle.ob_recover.specs.Life.{WordId, LifeAct, LifeState, LabelFill, SlotFill, IsLife, formatted_life, planned_labels, planned_slots, reached}
+use Rattle.ob_recover.specs.Life.{LifeState, SlotFill, formatted_life, planned_labels, planned_slots, reached}
 use Rattle.ob_recover.proofs.FreshLaws.{labels_formatted, slots_formatted}
 use Rattle.ob_recover.proofs.LifeLabels.{AreLabelsApart, labels_life, life_planned as label_planned}
 use Rattle.ob_recover.proofs.LifeSlots.{AreSlotsSound, slots_life, life_planned as slot_planned}
 use Rattle.ob_histories.proofs.Labels.{Leaves, InRange}
 use Rattle.ob_histories.proofs.Slots.{filling, fills_by}
-use Rattle.ob_admitted.specs.Fills.{AreFilled, HasFills, LivesHaveFills}
+use Rattle.ob_admitted.specs.Fills.{LivesHaveFills}
 use Rattle.ob_admitted.proofs.Completing.{leaves_of, leaves_within, leaves_are, Apart, complete}
 use Rattle.ob_admitted.proofs.Ranges.{planned_low, life_low}
 

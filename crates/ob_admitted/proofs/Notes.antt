@@ -1,12 +1,12 @@
 -- A call shows a history's notes.
-use Rattle.std.specs.Prelude.{◌≡◌, ◌⊎◌, ℕ, ◌+◌, ◌-◌, ◌%◌, ◌<◌, ◌≤◌, Bool, List, [], ◌∷◌, ◌++◌, map, length, slice_index, Option}
+use Rattle.std.specs.Prelude.{◌≡◌, ℕ, ◌+◌, ◌%◌, ◌<◌, Bool, List, [], ◌∷◌, ◌++◌, map, length, slice_index, Option}
 use Rattle.std.specs.List.{count_by, flat_map, range_with_len}
-use Rattle.std.proofs.Common.{zero, suc, arith, refl, sym, ap, ◌∙◌, subst, inl, inr, add-one}
+use Rattle.std.proofs.Common.{suc, arith, refl, sym, ap, ◌∙◌, subst, inl, inr, add-one}
 use Rattle.std.proofs.lemmas.List.{append-nil}
 use Rattle.ob_base.specs.Repeats.{Has}
 use Rattle.ob_base.proofs.Repeats.{has_left, has_right}
 use Rattle.ob_base.specs.Layout.{slot_cell}
-use Rattle.ob_base.specs.Tree.{below, passes, width}
+use Rattle.ob_base.specs.Tree.{below, passes}
 use Rattle.ob_base.specs.declared.params.Params.{Params}
 use Rattle.ob_schedule.specs.Holes.{Hole, batch_holes, final_holes, passes_before, place_holes}
 use Rattle.ob_schedule.specs.Paths.{eviction_path}
@@ -16,17 +16,16 @@ use Rattle.ob_store.specs.declared.watch.Note.TheVariants.{Label, Read}
 use Rattle.ob_ring.specs.FlatTable.{FlatTable, Shown, after_batch, batch_shown, final_shown, leaves_shown, reads}
 use Rattle.ob_ring.specs.Sound.{IsCounted, hole_of}
 use Rattle.ob_ring.proofs.Batches.{BatchLaw, batch_law, final_holes_law}
-use Rattle.ob_recover.specs.Life.{WordId, LabelFill, SlotFill, LifeBatch, LifeContent, LifeState, Append, ShowBatch, ShowLifts, End, batch_places, book_after, book_after_log, book_now, formatted_life, labels_of, leaf_of_word, leaves, life_labels, life_slots, lift_slots, phase_labels, phase_slots, reached, slot_fill, slots_of, table_after, table_now}
+use Rattle.ob_recover.specs.Life.{WordId, LabelFill, SlotFill, LifeBatch, LifeContent, LifeState, batch_places, book_after, book_after_log, book_now, formatted_life, labels_of, leaf_of_word, leaves, life_labels, life_slots, lift_slots, phase_labels, phase_slots, reached, slot_fill, slots_of, table_after, table_now}
 use Rattle.ob_recover.specs.LifePublic.{leaves_in, public_in}
 use Rattle.ob_recover.proofs.BookLaws.{label_leaves}
 use Rattle.ob_fresh.proofs.Leaves.{LogLaw, log_law}
 use Rattle.ob_fresh.proofs.Publics.{IsOpen, open_formatted, open_life}
 use Rattle.ob_serial.specs.Vaults as vault
-use Rattle.ob_histories.specs.Fills.{AllFills, fills_at, leaves_of_batches, public_at, public_in_epoch, version_filled}
+use Rattle.ob_histories.specs.Fills.{AllFills, fills_at, public_in_epoch}
 use Rattle.ob_histories.proofs.Finding.{epoch_at}
-use Rattle.ob_admitted.specs.Fills.{AreFilled}
 use Rattle.ob_admitted.specs.Publics.{IsPublicOfFills}
-use Rattle.ob_admitted.specs.Notes.{AreBothFilled, CallsGoByFills, CallsShowHistories, batch_acts, end_acts}
+use Rattle.ob_admitted.specs.Notes.{AreBothFilled, CallsGoByFills, batch_acts, end_acts}
 use Rattle.ob_admitted.proofs.Publics.{counter_log, labels_filled, lives_go, words_many}
 
 -- ---- notes go by the slots of their holes
@@ -42,16 +41,16 @@ module _ (p : Params) (q : Public) (c d : Fills) where
   phases_same label holes (n ∷ is) same = λ i. (Label (label n) ∷ reads_same (holes n) (λ h has. same h (has_left (holes n) (flat_map holes is) h has)) i)
       ++ phases_same label holes is (λ h has. same h (has_right (holes n) (flat_map holes is) h has)) i
 
-  notes_same : (ls : List ℕ) → ((h : Hole) → Has (batch_holes p (counts_now p q) ls) h → c.slot h ≡ d.slot h) → phase_notes p q c ls ≡ phase_notes p q d ls
+  pub notes_same : (ls : List ℕ) → ((h : Hole) → Has (batch_holes p (counts_now p q) ls) h → c.slot h ≡ d.slot h) → phase_notes p q c ls ≡ phase_notes p q d ls
   notes_same ls same = phases_same (slice_index ls) (λ i. place_holes p (λ u. counts_now p q u + passes_before p ls i u) (slice_index ls i)) (below (length ls)) same
 
 -- a hole of shown indexes is one's
-of_shown : (P : Hole → Type 0) (ss : List Shown) → ((s : Shown) → Has ss s → P (hole_of s)) → (h : Hole) → Has (map hole_of ss) h → P h
+pub of_shown : (P : Hole → Type 0) (ss : List Shown) → ((s : Shown) → Has ss s → P (hole_of s)) → (h : Hole) → Has (map hole_of ss) h → P h
 of_shown P [] each h has = absurd has
 of_shown P (s ∷ ss) each h (inl same) = subst P same (each s (inl refl))
 of_shown P (s ∷ ss) each h (inr has) = of_shown P ss (λ x k. each x (inr k)) h has
 
-has_fill : (e : ℕ) (c : LifeContent) (ss : List Shown) (s : Shown) → Has ss s → Has (slots_of e c ss) (slot_fill e c s)
+pub has_fill : (e : ℕ) (c : LifeContent) (ss : List Shown) (s : Shown) → Has ss s → Has (slots_of e c ss) (slot_fill e c s)
 has_fill e c [] s has = has
 has_fill e c (x ∷ ss) s (inl same) = inl (ap (slot_fill e c) same)
 has_fill e c (x ∷ ss) s (inr has) = inr (has_fill e c ss s has)
@@ -59,15 +58,15 @@ has_fill e c (x ∷ ss) s (inr has) = inr (has_fill e c ss s has)
 -- ---- the last phase of a log
 
 module _ (p : Params) (word_of : WordId → ℕ) where
-  last_labels : (e b : ℕ) (book : ℕ → Option WordId) (log : List LifeBatch) (r : LifeBatch) → phase_labels p word_of e b book (log ++ r ∷ []) (length log) ≡ labels_of e (b + length log) 0 (book_after_log p word_of book log) (batch_places r)
-  last_labels e b book [] r = (let same : b ≡ b + 0 = omega arith in ap (λ (n : ℕ). labels_of e n 0 book (batch_places r)) same)
-  last_labels e b book (x ∷ log) r =
+  pub last_labels : (e b : ℕ) (book : ℕ → Option WordId) (log : List LifeBatch) (r : LifeBatch) (more : List LifeBatch) → phase_labels p word_of e b book (log ++ r ∷ more) (length log) ≡ labels_of e (b + length log) 0 (book_after_log p word_of book log) (batch_places r)
+  last_labels e b book [] r more = (let same : b ≡ b + 0 = omega arith in ap (λ (n : ℕ). labels_of e n 0 book (batch_places r)) same)
+  last_labels e b book (x ∷ log) r more =
       let same : (b + 1) + length log ≡ b + suc (length log) = omega arith in
-      last_labels e (b + 1) (book_after book (batch_places x)) log r ∙ ap (λ (n : ℕ). labels_of e n 0 (book_after_log p word_of book (x ∷ log)) (batch_places r)) same
+      last_labels e (b + 1) (book_after book (batch_places x)) log r more ∙ ap (λ (n : ℕ). labels_of e n 0 (book_after_log p word_of book (x ∷ log)) (batch_places r)) same
 
-  last_slots : (e : ℕ) (c : LifeContent) (t : FlatTable) (log : List LifeBatch) (r : LifeBatch) → phase_slots p word_of e c t (log ++ r ∷ []) (length log) ≡ slots_of e c (batch_shown p (table_after p word_of t log) (leaves p word_of (batch_places r)))
-  last_slots e c t [] r = refl
-  last_slots e c t (x ∷ log) r = last_slots e c (after_batch p t (leaves p word_of (batch_places x))) log r
+  pub last_slots : (e : ℕ) (c : LifeContent) (t : FlatTable) (log : List LifeBatch) (r : LifeBatch) (more : List LifeBatch) → phase_slots p word_of e c t (log ++ r ∷ more) (length log) ≡ slots_of e c (batch_shown p (table_after p word_of t log) (leaves p word_of (batch_places r)))
+  last_slots e c t [] r more = refl
+  last_slots e c t (x ∷ log) r more = last_slots e c (after_batch p t (leaves p word_of (batch_places x))) log r more
 
 module _ (p : Params) (word_of : WordId → ℕ) (f : AllFills) (s : LifeState) (inv : IsOpen p word_of s) (is : IsPublicOfFills p word_of f s) (gates : ℕ → Bool) (c : Fills) (begun : s.begun ≡ length s.log) where
   abbrev t : FlatTable
@@ -114,12 +113,12 @@ module _ (p : Params) (word_of : WordId → ℕ) (f : AllFills) (s : LifeState) 
     labels_are : life_labels p word_of s (batch_acts r) ≡ shown_labels
     labels_are =
         append-nil (phase_labels p word_of (s.epoch + 1) 0 s.content.book (s.log ++ r ∷ []) s.begun) ∙ ap (λ (n : ℕ). phase_labels p word_of (s.epoch + 1) 0 s.content.book (s.log ++ r ∷ []) n) begun
-        ∙ last_labels p word_of (s.epoch + 1) 0 s.content.book s.log r
+        ∙ last_labels p word_of (s.epoch + 1) 0 s.content.book s.log r []
 
     slots_are : life_slots p word_of s (batch_acts r) ≡ slots_of (s.epoch + 1) s.content shown
     slots_are =
         append-nil (phase_slots p word_of (s.epoch + 1) s.content s.content.table (s.log ++ r ∷ []) s.begun) ∙ ap (λ (n : ℕ). phase_slots p word_of (s.epoch + 1) s.content s.content.table (s.log ++ r ∷ []) n) begun
-        ∙ last_slots p word_of (s.epoch + 1) s.content s.content.table s.log r
+        ∙ last_slots p word_of (s.epoch + 1) s.content s.content.table s.log r []
 
     leaves_c : leaves_shown p t asked ≡ batch_leaves p c (length s.log)
     leaves_c = label_leaves p word_of t (book_now p word_of s) (s.epoch + 1) (0 + length s.log) 0 (batch_places r) law.booked

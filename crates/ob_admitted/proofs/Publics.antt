@@ -1,30 +1,28 @@
 -- A life's public state goes by its fills.
 use Rattle.std.specs.Prelude.{◌≡◌, ℕ, ◌+◌, ◌-◌, ◌<◌, ◌≤◌, ◌==◌, ◌⊎◌, nat_le, Bool, false, cond, ◌||◌, List, [], ◌∷◌, ◌++◌, map, length, Option}
 use Rattle.std.specs.List.{count_by, flat_map, range_with_len}
-use Rattle.std.proofs.Common.{zero, suc, arith, refl, sym, ap, ◌∙◌, subst, inl, inr, add-one, length-append}
+use Rattle.std.proofs.Common.{zero, suc, arith, refl, sym, ap, ◌∙◌, subst, inl, inr, add-one}
 use Rattle.ob_base.specs.Repeats.{Has}
 use Rattle.ob_base.proofs.Repeats.{has_left, has_right, has_push}
 use Rattle.ob_base.specs.Layout.{EpochTwin}
 use Rattle.ob_base.specs.Tree.{below, passes, width}
 use Rattle.ob_base.specs.declared.params.Params.{Params}
-use Rattle.ob_tables.specs.Rank.{IsRanking}
 use Rattle.ob_schedule.specs.Paths.{is_one_of, eviction_path}
 use Rattle.ob_schedule.specs.Schedule.{Public, after_end, counts_now, gate_cell, is_lifted_by_end}
 use Rattle.ob_ring.specs.FlatTable.{FlatTable, after_batch, after_label, reads}
 use Rattle.ob_ring.specs.Sound.{IsCounted}
 use Rattle.ob_ring.proofs.Batches.{FinalLaw, final_law}
 use Rattle.ob_ring.proofs.TableLaws.{none_counted}
-use Rattle.ob_recover.specs.Life.{WordId, LabelFill, LifeBatch, LifeState, LifeAct, Open, Append, ShowBatch, ShowLifts, End, IsActAllowed, IsLife, batch_places, book_after, formatted_life, is_table_lifted, labels_of, leaf_of_word, leaves, life_step, log_labels, next_word, phase_labels, planned_labels, planned_slots, reached, table_after, table_now, with_words}
+use Rattle.ob_recover.specs.Life.{WordId, LabelFill, LifeBatch, LifeState, LifeAct, Open, Append, ShowBatch, ShowLifts, End, IsActAllowed, IsLife, batch_places, book_after, formatted_life, is_table_lifted, labels_of, leaf_of_word, leaves, life_step, log_labels, next_word, phase_labels, planned_labels, reached, table_after, table_now, with_words}
 use Rattle.ob_recover.specs.LifePublic.{leaves_in, public_in}
 use Rattle.ob_recover.proofs.Ending.{batch_counter}
 use Rattle.ob_recover.proofs.LifeLabels.{planned_lasts}
 use Rattle.ob_fresh.specs.PublicLives.{AreEndsShown}
-use Rattle.ob_fresh.proofs.Leaves.{LogLaw, flat_behind, flat_more, log_law, none_behind}
+use Rattle.ob_fresh.proofs.Leaves.{flat_behind, flat_more, log_law, none_behind}
 use Rattle.ob_fresh.proofs.Publics.{IsOpen, open_formatted, public_ended, stays_open}
-use Rattle.ob_histories.specs.Fills.{AllFills, behind, leaves_of_batches, public_at, public_in_epoch, version_filled}
+use Rattle.ob_histories.specs.Fills.{AllFills, leaves_of_batches, public_at, public_in_epoch, version_filled}
 use Rattle.ob_histories.proofs.Finding.{epoch_at}
-use Rattle.ob_admitted.specs.Fills.{AreFilled}
-use Rattle.ob_admitted.specs.Publics.{AreRecordsWhole, IsPublicOfFills, LivesGoByFills}
+use Rattle.ob_admitted.specs.Publics.{AreRecordsWhole, LivesGoByFills}
 
 pub words_many : (w : WordId) (asks : List (Option ℕ)) → length (with_words w asks) ≡ length asks
 words_many w [] = refl
@@ -43,7 +41,7 @@ module _ (p : Params) (word_of : WordId → ℕ) (f : AllFills) where
   labels_filled e b i book [] filled = refl
   labels_filled e b i book (a ∷ rest) filled = λ j. sym (filled _ (inl refl)) j ∷ labels_filled e b (i + 1) (after_label book a.0 a.1) rest (λ l h. filled l (inr h)) j
 
-  abbrev AreWhole : List LifeBatch → Type 0
+  abbrev pub AreWhole : List LifeBatch → Type 0
   AreWhole log = (r : LifeBatch) → Has log r → length r.asks ≡ p.places
 
   phase_filled : (e b : ℕ) (book : ℕ → Option WordId) (log : List LifeBatch) (n : ℕ) → n < length log → AreWhole log → ((l : LabelFill) → Has (log_labels p word_of e b book log) l → IsFilled l)
@@ -78,12 +76,12 @@ module _ (p : Params) (word_of : WordId → ℕ) (f : AllFills) where
 
   -- ---- along a life
 
-  record GoesBy (s : LifeState) : Type 0 where
-    homes : (u : ℕ) → (public_at p f s.epoch).homes u ≡ s.content.home u
-    counts : (u : ℕ) → (public_at p f s.epoch).counts u ≡ reads p s.content.table u
-    counter : (public_at p f s.epoch).counter ≡ s.content.table.counter
-    versions : (u : ℕ) → version_filled p f s.epoch u ≡ s.content.version u
-    whole : AreWhole s.log
+  pub record GoesBy (s : LifeState) : Type 0 where
+    pub homes : (u : ℕ) → (public_at p f s.epoch).homes u ≡ s.content.home u
+    pub counts : (u : ℕ) → (public_at p f s.epoch).counts u ≡ reads p s.content.table u
+    pub counter : (public_at p f s.epoch).counter ≡ s.content.table.counter
+    pub versions : (u : ℕ) → version_filled p f s.epoch u ≡ s.content.version u
+    pub whole : AreWhole s.log
 
   pub counter_log : (t : FlatTable) (log : List LifeBatch) → (table_after p word_of t log).counter ≡ t.counter
   counter_log t [] = refl
@@ -151,7 +149,7 @@ module _ (p : Params) (word_of : WordId → ℕ) (f : AllFills) where
         epoch_then : (P : ℕ → Type 0) → P (suc s.epoch) → P (s.epoch + 1)
         epoch_then P is = subst P (sym (add-one s.epoch)) is
 
-  goes_along : (some : 0 < p.dummies) (s : LifeState) (acts : List LifeAct) → IsLife p word_of s acts → AreEndsShown p word_of s acts → AreRecordsWhole p acts → IsOpen p word_of s → GoesBy s → ArePlanned (reached p word_of s acts) → GoesBy (reached p word_of s acts)
+  pub goes_along : (some : 0 < p.dummies) (s : LifeState) (acts : List LifeAct) → IsLife p word_of s acts → AreEndsShown p word_of s acts → AreRecordsWhole p acts → IsOpen p word_of s → GoesBy s → ArePlanned (reached p word_of s acts) → GoesBy (reached p word_of s acts)
   goes_along some s [] life ends whole inv is planned = is
   goes_along some s (Open g ∷ rest) life ends whole inv is planned =
       goes_along some (life_step p word_of s (Open g)) rest life.1 ends whole (stays_open p word_of some s (Open g) life.0 inv)
@@ -173,7 +171,7 @@ module _ (p : Params) (word_of : WordId → ℕ) (f : AllFills) where
       goes_along some (life_step p word_of s (End ws drawn slot)) rest life.1 ends.1 whole (stays_open p word_of some s (End ws drawn slot) life.0 inv)
       (end_goes some s inv is (λ l h. planned l (planned_lasts p word_of s (End ws drawn slot ∷ rest) l h)) ws drawn slot life.0 ends.0) planned
 
-  formatted_goes : (slot : ℕ → ℕ → ℕ) → GoesBy (formatted_life slot)
+  pub formatted_goes : (slot : ℕ → ℕ → ℕ) → GoesBy (formatted_life slot)
   formatted_goes slot = record { homes = λ u. refl; counts = λ u. sym (none_counted (width p)); counter = refl; versions = λ u. refl; whole = λ r h. absurd h }
 
 pub lives_go : LivesGoByFills

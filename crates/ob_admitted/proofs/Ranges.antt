@@ -2,7 +2,7 @@
 use Rattle.std.specs.Prelude.{◌≡◌, ◌<◌, ◌⊎◌, ℕ, ◌+◌, Bool, true, false, cond, List, [], ◌∷◌, ◌++◌}
 use Rattle.std.proofs.Common.{sym, ap, ◌∙◌, subst, inl, inr}
 use Rattle.ob_base.specs.Repeats.{Has}
-use Rattle.ob_base.proofs.Repeats.{has_cases, has_right}
+use Rattle.ob_base.proofs.Repeats.{has_cases}
 use Rattle.ob_base.specs.Tree.{width}
 use Rattle.ob_base.specs.declared.params.Params.{Params}
 use Rattle.ob_ring.specs.FlatTable.{FlatTable, Shown, after_batch, batch_shown}

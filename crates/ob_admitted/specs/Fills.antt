@@ -8,7 +8,7 @@ use Rattle.ob_recover.specs.Life.{WordId, LifeAct, LifeState, LabelFill, SlotFil
 use Rattle.ob_histories.specs.Fills.{AllFills, AreAllFills}
 
 -- each label shows its place's leaf, and each read its version's slot
-pub record AreFilled (p : Params) (word_of : WordId → ℕ) (f : AllFills) (labels : List LabelFill) (slots : List SlotFill) : Type 0 where
+pub record FillsAll (p : Params) (word_of : WordId → ℕ) (f : AllFills) (labels : List LabelFill) (slots : List SlotFill) : Type 0 where
   pub leaves : (l : LabelFill) → Has labels l → f.leaf l.epoch l.batch l.place ≡ leaf_of_word p word_of l.word
   pub slots_are : (x : SlotFill) → Has slots x → f.slot x.bucket x.version x.number ≡ x.slot
 
@@ -16,8 +16,8 @@ pub record AreFilled (p : Params) (word_of : WordId → ℕ) (f : AllFills) (lab
 pub record HasFills (p : Params) (word_of : WordId → ℕ) (s : LifeState) (acts : List LifeAct) : Type 0 where
   pub fills : AllFills
   pub are : AreAllFills p fills
-  pub shown : AreFilled p word_of fills (life_labels p word_of s acts) (life_slots p word_of s acts)
-  pub planned : AreFilled p word_of fills (planned_labels p word_of (reached p word_of s acts)) (planned_slots p word_of (reached p word_of s acts))
+  pub shown : FillsAll p word_of fills (life_labels p word_of s acts) (life_slots p word_of s acts)
+  pub planned : FillsAll p word_of fills (planned_labels p word_of (reached p word_of s acts)) (planned_slots p word_of (reached p word_of s acts))
 
 abbrev pub LivesHaveFills : Type 0
 LivesHaveFills = (p : Params) (word_of : WordId → ℕ) (slot : ℕ → ℕ → ℕ) (acts : List LifeAct) → ((u : ℕ) → IsRanking (width p) (slot u)) → IsLife p word_of (formatted_life slot) acts → HasFills p word_of (formatted_life slot) acts

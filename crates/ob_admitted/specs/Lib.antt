@@ -1,3 +1,4 @@
 pub mod Fills
 pub mod Publics
 pub mod Notes
+pub mod Repeats

@@ -11,7 +11,7 @@ use Rattle.ob_serial.specs.Vaults as vault
 use Rattle.ob_serial.specs.Vaults.{VaultCall}
 use Rattle.ob_vault.specs.Shown.{AreFilledBy}
 use Rattle.ob_histories.specs.Fills.{AllFills, fills_at, public_in_epoch}
-use Rattle.ob_admitted.specs.Fills.{AreFilled}
+use Rattle.ob_admitted.specs.Fills.{FillsAll}
 use Rattle.ob_admitted.specs.Publics.{AreRecordsWhole}
 
 abbrev pub batch_acts : LifeBatch → List LifeAct
@@ -22,7 +22,7 @@ end_acts ws drawn slot = ShowLifts ∷ End ws drawn slot ∷ []
 
 -- the call's fills, and these of all epochs, are what the acts show
 abbrev pub AreBothFilled : Params → (WordId → ℕ) → AllFills → LifeState → List LifeAct → VaultCall → Fills → Type 0
-AreBothFilled p word_of f s acts call c = AreFilledBy p word_of s acts call c × AreFilled p word_of f (life_labels p word_of s acts) (life_slots p word_of s acts)
+AreBothFilled p word_of f s acts call c = AreFilledBy p word_of s acts call c × FillsAll p word_of f (life_labels p word_of s acts) (life_slots p word_of s acts)
 
 -- where this attempt has shown all batches of the log, whichever gates are open
 pub record CallsShowHistories (p : Params) (word_of : WordId → ℕ) (f : AllFills) (s : LifeState) : Type 0 where
@@ -35,5 +35,5 @@ pub record CallsShowHistories (p : Params) (word_of : WordId → ℕ) (f : AllFi
 -- behind these acts of a life from a format on
 abbrev pub CallsGoByFills : Type 0
 CallsGoByFills = (p : Params) (word_of : WordId → ℕ) (slot : ℕ → ℕ → ℕ) (acts : List LifeAct) (f : AllFills) → ((u : ℕ) → IsRanking (width p) (slot u)) → IsLife p word_of (formatted_life slot) acts
-    → AreEndsShown p word_of (formatted_life slot) acts → AreRecordsWhole p acts → AreFilled p word_of f (planned_labels p word_of (reached p word_of (formatted_life slot) acts)) []
+    → AreEndsShown p word_of (formatted_life slot) acts → AreRecordsWhole p acts → FillsAll p word_of f (planned_labels p word_of (reached p word_of (formatted_life slot) acts)) []
     → CallsShowHistories p word_of f (reached p word_of (formatted_life slot) acts)

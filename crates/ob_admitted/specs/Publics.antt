@@ -10,7 +10,7 @@ use Rattle.ob_recover.specs.Life.{WordId, LifeAct, LifeState, Open, Append, Show
 use Rattle.ob_recover.specs.LifePublic.{leaves_in}
 use Rattle.ob_fresh.specs.PublicLives.{AreEndsShown}
 use Rattle.ob_histories.specs.Fills.{AllFills, leaves_of_batches, public_at, version_filled}
-use Rattle.ob_admitted.specs.Fills.{AreFilled}
+use Rattle.ob_admitted.specs.Fills.{FillsAll}
 
 -- each record asks for as many places as a batch has
 abbrev pub AreRecordsWhole : Params → List LifeAct → Type 0
@@ -33,5 +33,5 @@ pub record IsPublicOfFills (p : Params) (word_of : WordId → ℕ) (f : AllFills
 -- of a life from a format on, of which each epoch was ended by an attempt that had shown all its batches
 abbrev pub LivesGoByFills : Type 0
 LivesGoByFills = (p : Params) (word_of : WordId → ℕ) (slot : ℕ → ℕ → ℕ) (acts : List LifeAct) (f : AllFills) → ((u : ℕ) → IsRanking (width p) (slot u)) → IsLife p word_of (formatted_life slot) acts
-    → AreEndsShown p word_of (formatted_life slot) acts → AreRecordsWhole p acts → AreFilled p word_of f (planned_labels p word_of (reached p word_of (formatted_life slot) acts)) []
+    → AreEndsShown p word_of (formatted_life slot) acts → AreRecordsWhole p acts → FillsAll p word_of f (planned_labels p word_of (reached p word_of (formatted_life slot) acts)) []
     → IsPublicOfFills p word_of f (reached p word_of (formatted_life slot) acts)

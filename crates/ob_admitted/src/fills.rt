@@ -3,6 +3,7 @@
 ghost use Rattle.ob_admitted.specs.Fills.{LivesHaveFills};
 ghost use Rattle.ob_admitted.specs.Notes.{CallsGoByFills};
 ghost use Rattle.ob_admitted.specs.Publics.{LivesGoByFills};
+ghost use Rattle.ob_admitted.specs.Repeats.{OpeningsGoByFills};
 
 /// Each life from a format on, of any number of runs, crashes and repeats, has fills of all epochs
 /// as a public history has: in range, with no slot of a version twice, and all that an attempt
@@ -21,4 +22,10 @@ pub fn lives_go_by_fills()
 /// history with these fills has, if the call's fills and these are what its acts show.
 pub fn calls_go_by_fills()
     ensures { CallsGoByFills }
+{}
+
+/// What an opening of such a life repeats is what a public history with these fills shows again,
+/// batch by batch.
+pub fn openings_go_by_fills()
+    ensures { OpeningsGoByFills }
 {}

@@ -3,4 +3,4 @@
 
 mod fills;
 
-pub use fills::{calls_go_by_fills, lives_go_by_fills, lives_have_fills};
+pub use fills::{calls_go_by_fills, lives_go_by_fills, lives_have_fills, openings_go_by_fills};
