@@ -4,3 +4,5 @@ pub mod Living
 pub mod Publics
 pub mod Notes
 pub mod Repeating
+pub mod Calling
+pub mod Wholes

@@ -16,7 +16,8 @@ use Rattle.ob_store.specs.declared.watch.Note.TheVariants.{Label, Read}
 use Rattle.ob_ring.specs.FlatTable.{FlatTable, Shown, after_batch, batch_shown, final_shown, leaves_shown, reads}
 use Rattle.ob_ring.specs.Sound.{IsCounted, hole_of}
 use Rattle.ob_ring.proofs.Batches.{BatchLaw, batch_law, final_holes_law}
-use Rattle.ob_recover.specs.Life.{WordId, LabelFill, SlotFill, LifeBatch, LifeContent, LifeState, batch_places, book_after, book_after_log, book_now, formatted_life, labels_of, leaf_of_word, leaves, life_labels, life_slots, lift_slots, phase_labels, phase_slots, reached, slot_fill, slots_of, table_after, table_now}
+use Rattle.ob_recover.specs.Life.{WordId, LabelFill, SlotFill, LifeBatch, LifeContent, LifeState, batch_places, book_after, book_after_log, book_now, formatted_life, labels_of}
+use Rattle.ob_recover.specs.Life.{leaf_of_word, leaves, life_labels, life_slots, lift_slots, phase_labels, phase_slots, reached, slot_fill, slots_of, table_after, table_now}
 use Rattle.ob_recover.specs.LifePublic.{leaves_in, public_in}
 use Rattle.ob_recover.proofs.BookLaws.{label_leaves}
 use Rattle.ob_fresh.proofs.Leaves.{LogLaw, log_law}
@@ -145,7 +146,7 @@ module _ (p : Params) (word_of : WordId → ℕ) (f : AllFills) (s : LifeState) 
     each_hole h has = of_shown (λ (g : Hole). c.slot g ≡ d.slot g) shown each_shown h
         (subst (λ (hs : List Hole). Has hs h) (sym (one.holes ∙ ap (batch_holes p (counts_now p q)) leaves_c)) has)
 
-    batch_is : batch_notes p q c (length s.log) ≡ batch_notes p (public_in_epoch p f s.epoch (length s.log)) d (length s.log)
+    pub batch_is : batch_notes p q c (length s.log) ≡ batch_notes p (public_in_epoch p f s.epoch (length s.log)) d (length s.log)
     batch_is =
         ap (λ (ns : List Note). record_notes p ((q.epoch + 1) % 2) (length s.log) ++ ns) (notes_same p q c d (batch_leaves p c (length s.log)) each_hole ∙ ap (phase_notes p q d) (sym leaves_c ∙ leaves_d))
         ∙ ap (λ (r : Public). batch_notes p r d (length s.log)) same_public
@@ -167,7 +168,7 @@ module _ (p : Params) (word_of : WordId → ℕ) (f : AllFills) (s : LifeState) 
     final : map hole_of lifts ≡ final_holes p (counts_now p q) q.counter
     final = final_holes_law p t (counts_now p q) law.sound counted ∙ ap (final_holes p (counts_now p q)) (counter_log p word_of f s.content.table s.log)
 
-    end_is : end_notes p q c ≡ end_notes p (record (public_in_epoch p f s.epoch p.batches) { gates = gates }) d
+    pub end_is : end_notes p q c ≡ end_notes p (record (public_in_epoch p f s.epoch p.batches) { gates = gates }) d
     end_is =
         ap (λ (ns : List Note). ns ++ written_by_end p q) (reads_same p q c d (final_holes p (counts_now p q) q.counter)
         (λ h has. of_shown (λ (g : Hole). c.slot g ≡ d.slot g) lifts each_lift h (subst (λ (hs : List Hole). Has hs h) (sym final) has)))

@@ -1,7 +1,7 @@
 -- A life's public state goes by its fills.
 use Rattle.std.specs.Prelude.{◌≡◌, ℕ, ◌+◌, ◌-◌, ◌<◌, ◌≤◌, ◌==◌, ◌⊎◌, nat_le, Bool, false, cond, ◌||◌, List, [], ◌∷◌, ◌++◌, map, length, Option}
 use Rattle.std.specs.List.{count_by, flat_map, range_with_len}
-use Rattle.std.proofs.Common.{zero, suc, arith, refl, sym, ap, ◌∙◌, subst, inl, inr, add-one}
+use Rattle.std.proofs.Common.{zero, suc, arith, refl, sym, ap, ◌∙◌, subst, inl, inr, add-one, length-append}
 use Rattle.ob_base.specs.Repeats.{Has}
 use Rattle.ob_base.proofs.Repeats.{has_left, has_right, has_push}
 use Rattle.ob_base.specs.Layout.{EpochTwin}
@@ -13,7 +13,8 @@ use Rattle.ob_ring.specs.FlatTable.{FlatTable, after_batch, after_label, reads}
 use Rattle.ob_ring.specs.Sound.{IsCounted}
 use Rattle.ob_ring.proofs.Batches.{FinalLaw, final_law}
 use Rattle.ob_ring.proofs.TableLaws.{none_counted}
-use Rattle.ob_recover.specs.Life.{WordId, LabelFill, LifeBatch, LifeState, LifeAct, Open, Append, ShowBatch, ShowLifts, End, IsActAllowed, IsLife, batch_places, book_after, formatted_life, is_table_lifted, labels_of, leaf_of_word, leaves, life_step, log_labels, next_word, phase_labels, planned_labels, reached, table_after, table_now, with_words}
+use Rattle.ob_recover.specs.Life.{WordId, LabelFill, LifeBatch, LifeState, LifeAct, Open, Append, ShowBatch, ShowLifts, End, IsActAllowed, IsLife, batch_places, book_after}
+use Rattle.ob_recover.specs.Life.{formatted_life, is_table_lifted, labels_of, leaf_of_word, leaves, life_step, log_labels, next_word, phase_labels, planned_labels, reached, table_after, table_now, with_words}
 use Rattle.ob_recover.specs.LifePublic.{leaves_in, public_in}
 use Rattle.ob_recover.proofs.Ending.{batch_counter}
 use Rattle.ob_recover.proofs.LifeLabels.{planned_lasts}
@@ -58,7 +59,7 @@ module _ (p : Params) (word_of : WordId → ℕ) (f : AllFills) where
       (λ l h. filled l (has_right (labels_of e b 0 book (batch_places r)) (log_labels p word_of e (b + 1) (book_after book (batch_places r)) rs) l h))
       ∙ ap (λ (c : ℕ). map (f.leaf e c) (below p.places)) same
 
-  abbrev ArePlanned : LifeState → Type 0
+  abbrev pub ArePlanned : LifeState → Type 0
   ArePlanned s = (l : LabelFill) → Has (planned_labels p word_of s) l → IsFilled l
 
   batch_filled : (s : LifeState) (b : ℕ) → b < length s.log → AreWhole s.log → ArePlanned s → leaves_in p word_of s b ≡ map (f.leaf (suc s.epoch) b) (below p.places)
@@ -68,7 +69,7 @@ module _ (p : Params) (word_of : WordId → ℕ) (f : AllFills) where
       phase_filled (s.epoch + 1) 0 s.content.book s.log b few whole (λ l h. planned l (has_right s.past_labels (log_labels p word_of (s.epoch + 1) 0 s.content.book s.log) l h))
       ∙ (λ j. map (f.leaf (epoch j) (same j)) (below p.places))
 
-  batches_filled : (s : LifeState) (b : ℕ) → b ≤ length s.log → AreWhole s.log → ArePlanned s → leaves_of_batches p f (suc s.epoch) b ≡ flat_map (leaves_in p word_of s) (below b)
+  pub batches_filled : (s : LifeState) (b : ℕ) → b ≤ length s.log → AreWhole s.log → ArePlanned s → leaves_of_batches p f (suc s.epoch) b ≡ flat_map (leaves_in p word_of s) (below b)
   batches_filled s zero few whole planned = refl
   batches_filled s (suc b) few whole planned =
       (λ j. batches_filled s b (omega (arith, few)) whole planned j ++ sym (batch_filled s b (omega (arith, few)) whole planned) j)
@@ -82,6 +83,7 @@ module _ (p : Params) (word_of : WordId → ℕ) (f : AllFills) where
     pub counter : (public_at p f s.epoch).counter ≡ s.content.table.counter
     pub versions : (u : ℕ) → version_filled p f s.epoch u ≡ s.content.version u
     pub whole : AreWhole s.log
+    pub room : length s.log ≤ p.batches
 
   pub counter_log : (t : FlatTable) (log : List LifeBatch) → (table_after p word_of t log).counter ≡ t.counter
   counter_log t [] = refl
@@ -144,6 +146,7 @@ module _ (p : Params) (word_of : WordId → ℕ) (f : AllFills) where
       counter = epoch_then (λ (n : ℕ). (public_at p f n).counter ≡ then.content.table.counter) (ap (λ (r : Public). r.counter) (sym ended));
       versions = λ u. epoch_then (λ (n : ℕ). version_filled p f n u ≡ then.content.version u) (λ j. cond (sym (lifted_same u) j) (sym (add-one s.epoch) j) (is.versions u j));
       whole = λ r h. absurd h;
+      room = omega arith;
     }
       where
         epoch_then : (P : ℕ → Type 0) → P (suc s.epoch) → P (s.epoch + 1)
@@ -153,26 +156,29 @@ module _ (p : Params) (word_of : WordId → ℕ) (f : AllFills) where
   goes_along some s [] life ends whole inv is planned = is
   goes_along some s (Open g ∷ rest) life ends whole inv is planned =
       goes_along some (life_step p word_of s (Open g)) rest life.1 ends whole (stays_open p word_of some s (Open g) life.0 inv)
-      (record { homes = is.homes; counts = is.counts; counter = is.counter; versions = is.versions; whole = is.whole }) planned
+      (record { homes = is.homes; counts = is.counts; counter = is.counter; versions = is.versions; whole = is.whole; room = is.room }) planned
   goes_along some s (Append r ∷ rest) life ends whole inv is planned =
       goes_along some (life_step p word_of s (Append r)) rest life.1 ends whole.1 (stays_open p word_of some s (Append r) life.0 inv)
-      (record { homes = is.homes; counts = is.counts; counter = is.counter; versions = is.versions; whole = λ b h. appended b (has_push s.log r b h) }) planned
+      (record { homes = is.homes; counts = is.counts; counter = is.counter; versions = is.versions; whole = λ b h. appended b (has_push s.log r b h); room = longer (length-append s.log (r ∷ [])) life.0.0 }) planned
     where
+      longer : length (s.log ++ r ∷ []) ≡ length s.log + 1 → length s.log < p.batches → length (s.log ++ r ∷ []) ≤ p.batches
+      longer more low = omega (arith, more, low)
+
       appended : (b : LifeBatch) → (Has s.log b ⊎ (r ≡ b)) → length b.asks ≡ p.places
       appended b (inl before) = is.whole b before
       appended b (inr same) = subst (λ (c : LifeBatch). length c.asks ≡ p.places) same whole.0
   goes_along some s (ShowBatch ∷ rest) life ends whole inv is planned =
       goes_along some (life_step p word_of s ShowBatch) rest life.1 ends whole (stays_open p word_of some s ShowBatch life.0 inv)
-      (record { homes = is.homes; counts = is.counts; counter = is.counter; versions = is.versions; whole = is.whole }) planned
+      (record { homes = is.homes; counts = is.counts; counter = is.counter; versions = is.versions; whole = is.whole; room = is.room }) planned
   goes_along some s (ShowLifts ∷ rest) life ends whole inv is planned =
       goes_along some (life_step p word_of s ShowLifts) rest life.1 ends whole (stays_open p word_of some s ShowLifts life.0 inv)
-      (record { homes = is.homes; counts = is.counts; counter = is.counter; versions = is.versions; whole = is.whole }) planned
+      (record { homes = is.homes; counts = is.counts; counter = is.counter; versions = is.versions; whole = is.whole; room = is.room }) planned
   goes_along some s (End ws drawn slot ∷ rest) life ends whole inv is planned =
       goes_along some (life_step p word_of s (End ws drawn slot)) rest life.1 ends.1 whole (stays_open p word_of some s (End ws drawn slot) life.0 inv)
       (end_goes some s inv is (λ l h. planned l (planned_lasts p word_of s (End ws drawn slot ∷ rest) l h)) ws drawn slot life.0 ends.0) planned
 
   pub formatted_goes : (slot : ℕ → ℕ → ℕ) → GoesBy (formatted_life slot)
-  formatted_goes slot = record { homes = λ u. refl; counts = λ u. sym (none_counted (width p)); counter = refl; versions = λ u. refl; whole = λ r h. absurd h }
+  formatted_goes slot = record { homes = λ u. refl; counts = λ u. sym (none_counted (width p)); counter = refl; versions = λ u. refl; whole = λ r h. absurd h; room = omega arith }
 
 pub lives_go : LivesGoByFills
 lives_go p word_of slot acts f ranked life ends whole filled =

@@ -1,34 +1,31 @@
 -- An opening's repeats show a history's notes.
 use Rattle.std.specs.Prelude.{◌≡◌, ◌<◌, ℕ, ◌+◌, Bool, List, [], ◌∷◌, ◌++◌, map, length, Option}
 use Rattle.std.specs.List.{flat_map, range_with_len}
-use Rattle.std.proofs.Common.{zero, suc, arith, refl, sym, ap, ◌∙◌, subst, inl, inr, add-one, append_assoc, length-append}
-use Rattle.std.proofs.lemmas.List.{append-nil, map-append}
+use Rattle.std.proofs.Common.{suc, arith, refl, sym, ap, ◌∙◌, subst, inl, inr, add-one, append_assoc, length-append}
+use Rattle.std.proofs.lemmas.List.{map-append}
 use Rattle.std.proofs.lemmas.List.FromFn.{length-map-range_with_len}
 use Rattle.ob_base.specs.Repeats.{Has}
 use Rattle.ob_base.proofs.Repeats.{has_left, has_right}
-use Rattle.ob_base.specs.Tree.{below}
 use Rattle.ob_base.specs.declared.params.Params.{Params}
 use Rattle.ob_schedule.specs.Holes.{Hole, batch_holes}
-use Rattle.ob_schedule.specs.Schedule.{Fills, Public, after_phase, batch_leaves, begun_public, counts_now, phase_notes, repeats}
-use Rattle.ob_store.specs.declared.watch.Note.{Note}
+use Rattle.ob_schedule.specs.Schedule.{Fills, Public, batch_leaves, counts_now, phase_notes, repeats}
 use Rattle.ob_ring.specs.FlatTable.{FlatTable, Shown, after_batch, batch_shown, leaves_shown, reads}
 use Rattle.ob_ring.specs.Sound.{IsCounted, IsSound, hole_of}
 use Rattle.ob_ring.proofs.Batches.{BatchLaw, batch_law}
 use Rattle.ob_recover.specs.Calls.{repeated}
-use Rattle.ob_recover.specs.Life.{WordId, LabelFill, SlotFill, LifeBatch, LifeState, ShowBatch, batch_places, book_after, book_after_log, formatted_life, labels_of, leaf_of_word, leaves, life_labels, life_slots, life_step, log_labels, log_slots, phase_labels, phase_slots, reached, slot_fill, slots_of, table_after}
-use Rattle.ob_recover.specs.LifePublic.{public_in}
+use Rattle.ob_recover.specs.Life.{WordId, LabelFill, SlotFill, LifeBatch, LifeState, ShowBatch, batch_places, book_after, book_after_log, formatted_life, labels_of, leaf_of_word}
+use Rattle.ob_recover.specs.Life.{leaves, life_labels, life_slots, life_step, log_labels, log_slots, phase_labels, phase_slots, reached, slot_fill, slots_of, table_after}
 use Rattle.ob_recover.proofs.BookLaws.{IsBookOf, book_batch, label_leaves}
 use Rattle.ob_recover.proofs.LifeLabels.{book_more}
 use Rattle.ob_recover.proofs.LifeSlots.{table_more}
 use Rattle.ob_recover.proofs.NotesLaws.{counts_follow}
 use Rattle.ob_fresh.proofs.Publics.{IsOpen, open_formatted, open_life}
-use Rattle.ob_histories.specs.Fills.{AllFills, fills_at, leaves_of_batches, public_at, public_in_epoch}
+use Rattle.ob_histories.specs.Fills.{AllFills, fills_at, leaves_of_batches, public_in_epoch}
 use Rattle.ob_histories.proofs.Finding.{epoch_at}
-use Rattle.ob_admitted.specs.Fills.{FillsAll}
 use Rattle.ob_admitted.specs.Publics.{IsPublicOfFills}
-use Rattle.ob_admitted.specs.Repeats.{AreRepeatsFilled, OpeningsGoByFills, phase_of_fills}
+use Rattle.ob_admitted.specs.Repeats.{OpeningsGoByFills, phase_of_fills}
 use Rattle.ob_admitted.proofs.Notes.{notes_same, of_shown, has_fill, last_labels, last_slots}
-use Rattle.ob_admitted.proofs.Publics.{AreWhole, GoesBy, goes_along, formatted_goes, labels_filled, lives_go, words_many}
+use Rattle.ob_admitted.proofs.Publics.{GoesBy, goes_along, formatted_goes, labels_filled, lives_go, words_many}
 
 -- two joined lists whose first parts are equally long
 first_same : (xs ys us vs : List ℕ) → length xs ≡ length ys → xs ++ us ≡ ys ++ vs → (xs ≡ ys) × (us ≡ vs)

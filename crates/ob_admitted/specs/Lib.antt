@@ -2,3 +2,5 @@ pub mod Fills
 pub mod Publics
 pub mod Notes
 pub mod Repeats
+pub mod Calls
+pub mod Wholes

@@ -1,9 +1,11 @@
 //! What fills the holes of all epochs of a life.
 
+ghost use Rattle.ob_admitted.specs.Calls.{CallsAreTurns};
 ghost use Rattle.ob_admitted.specs.Fills.{LivesHaveFills};
 ghost use Rattle.ob_admitted.specs.Notes.{CallsGoByFills};
 ghost use Rattle.ob_admitted.specs.Publics.{LivesGoByFills};
 ghost use Rattle.ob_admitted.specs.Repeats.{OpeningsGoByFills};
+ghost use Rattle.ob_admitted.specs.Wholes.{RunsShowHistories};
 
 /// Each life from a format on, of any number of runs, crashes and repeats, has fills of all epochs
 /// as a public history has: in range, with no slot of a version twice, and all that an attempt
@@ -28,4 +30,16 @@ pub fn calls_go_by_fills()
 /// batch by batch.
 pub fn openings_go_by_fills()
     ensures { OpeningsGoByFills }
+{}
+
+/// The calls of a run over such a life, one behind the other, show turns of a public history with
+/// these fills: batches of the epoch that runs, its end, batches of the next one, and so on.
+pub fn calls_are_turns()
+    ensures { CallsAreTurns }
+{}
+
+/// A whole run over such a life, with its opening, the batches that it repeats and the calls that
+/// were answered, shows a run of a public history with these fills, by what it found.
+pub fn runs_show_histories()
+    ensures { RunsShowHistories }
 {}

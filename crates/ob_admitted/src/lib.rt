@@ -3,4 +3,7 @@
 
 mod fills;
 
-pub use fills::{calls_go_by_fills, lives_go_by_fills, lives_have_fills, openings_go_by_fills};
+pub use fills::{
+    calls_are_turns, calls_go_by_fills, lives_go_by_fills, lives_have_fills, openings_go_by_fills,
+    runs_show_histories,
+};
