@@ -6,3 +6,4 @@ pub mod Notes
 pub mod Repeating
 pub mod Calling
 pub mod Wholes
+pub mod Fronts

@@ -4,3 +4,4 @@ pub mod Notes
 pub mod Repeats
 pub mod Calls
 pub mod Wholes
+pub mod Fronts

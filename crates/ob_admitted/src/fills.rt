@@ -2,6 +2,7 @@
 
 ghost use Rattle.ob_admitted.specs.Calls.{CallsAreTurns};
 ghost use Rattle.ob_admitted.specs.Fills.{LivesHaveFills};
+ghost use Rattle.ob_admitted.specs.Fronts.{FrontsAreRuns};
 ghost use Rattle.ob_admitted.specs.Notes.{CallsGoByFills};
 ghost use Rattle.ob_admitted.specs.Publics.{LivesGoByFills};
 ghost use Rattle.ob_admitted.specs.Repeats.{OpeningsGoByFills};
@@ -42,4 +43,10 @@ pub fn calls_are_turns()
 /// were answered, shows a run of a public history with these fills, by what it found.
 pub fn runs_show_histories()
     ensures { RunsShowHistories }
+{}
+
+/// What a run of a public history has shown, cut off anywhere, is a run of one by the same that was
+/// found.
+pub fn fronts_are_runs()
+    ensures { FrontsAreRuns }
 {}
