@@ -79,7 +79,7 @@ fn expect_room<R: AllocGlobal + Threads + Wait + Sync + Abort>(rt: &R, room: usi
 
 #[test]
 fn an_output_without_room_has_a_front_of_the_summary(rt: HostRuntime) {
-    for room in [0, 1, 8, 50, 104, 105] {
+    for room in 0..106 {
         expect_room(&rt, room);
     }
 }
