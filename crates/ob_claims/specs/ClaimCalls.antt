@@ -43,7 +43,7 @@ pub record OpensRound (claims : Claims) (seat : ClaimSeat) (count : ℕ) (round 
   pub long : round.count ≡ count
   pub small : seat.me.0.reached + count + parts_made claims ≤ 2 ^ 62
 
--- The number at this place of the round is now the seat's, behind those that it had claimed, and greater than what it had seen.
+-- The number at this place of the round is now the seat's, behind those that it had claimed. It isn't below what the seat had seen the counter reach, and the counter has now passed it.
 pub record ClaimsNumber (before after : ClaimSeat) (round : Round) (place : ℕ) : Type 0 where
   pub within : place < round.count
   pub claimed : after.me.0.claimed ≡ before.me.0.claimed ++ (round.start + place) ∷ []
