@@ -12,7 +12,7 @@ use Rattle.ob_vault.proofs.Opening.{opened_notes, opens_or_not, ring_leaves_stan
 use Rattle.ob_vault.proofs.Refusing.{ring_refuses}
 use Rattle.ob_vault.specs.RingLaws.{ReadsHead, found_ring}
 use Rattle.ob_vault.specs.RingKind.{ring_kind}
-use Rattle.ob_recover.specs.Life.{LifeState, WordId}
+use Rattle.ob_recover.specs.Life.{LifeAct, LifeState, WordId}
 use Rattle.ob_vault.proofs.Stopping.{stops_in_life}
 use Rattle.ob_vault.specs.Lives.{RingFormatted, ring_lives}
 use Rattle.ob_script.specs.Script.{Scripts}
@@ -111,7 +111,7 @@ module _ {S : Type 0} (disk : S → Disk) (keys : Keys) (most : ℕ) (some : 1 �
       → (disk old).faults ≤ (disk mid).faults → IsOpenFault refused → (IsStoreFault refused → Rose (disk mid).faults (disk new).faults) → RefusedDoes keys most p (disk mid) (disk new) shown later refused
       → ((disk mid).tells → IsOpenRefusal keys p (disk mid).cells refused) → ((s : RingStanding) → (disk mid).tells → stand.Stands keys p s (disk mid).cells → IsStandingRefusal s refused)
       → RefusedWrites disk keys p mid new tape_old tape_new present drawn refused → OpeningLeaves {L = L} disk keys p mid new (Err refused)
-      → ((word_of : WordId → ℕ) (s : LifeState) → (disk mid).tells → IsLeftAt keys p word_of s None (disk mid).cells → OpensInLife keys most p word_of s None (disk mid) (disk new) shown later false) → EndsEarly ring_kind ring_lives keys most (disk old)
+      → ((word_of : WordId → ℕ) (s : LifeState) (pending : Option LifeAct) → (disk mid).tells → IsLeftAt keys p word_of s pending (disk mid).cells → OpensInLife keys most p word_of s pending (disk mid) (disk new) shown later false) → EndsEarly ring_kind ring_lives keys most (disk old)
       (disk new) first later disk before after (failed.Fault refused)
   unopened {T} {L} o tape_old tape_new present drawn first shown later refused after head_shown whole only further kind cause does refusal stood writes leaves acts =
       let so = ring_refuses T disk keys most p old mid new tape_old tape_new present drawn shown later refused some read kind does refusal stood writes in
@@ -130,7 +130,7 @@ module _ {S : Type 0} (disk : S → Disk) (keys : Keys) (most : ℕ) (some : 1 �
         unwritten = so.unwritten;
         left = λ at tells stands all. ring_leaves_standing disk keys p old new only tells all either at stands;
         opens = either;
-        stops_life = λ tells word_of s here each. stops_in_life keys most p (disk old) (disk mid) (disk new) shown later false read word_of s (λ at. acts word_of s (read.keeps.tells tells) at) tells here each;
+        stops_life = λ tells word_of s pending here each. stops_in_life keys most p (disk old) (disk mid) (disk new) shown later false read word_of s pending (λ at. acts word_of s pending (read.keeps.tells tells) at) tells here each;
       }))
 
 -- a vault may be made of an opening

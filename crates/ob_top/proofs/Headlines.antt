@@ -59,7 +59,7 @@ use Rattle.ob_top.specs.Top.{ByTrace}
 use Rattle.ob_top.proofs.Completing.{RunTells, rose_added}
 use Rattle.ob_top.proofs.Counted.{one_lanes}
 use Rattle.ob_top.proofs.Living.{whole_lives}
-use Rattle.ob_top.proofs.Lasting.{fresh_on, leads_on, past_on, opened_there, opened_turn, stopped_next}
+use Rattle.ob_top.proofs.Lasting.{fresh_on, idle_at, leads_on, past_on, opened_there, opened_turn, stopped_next}
 
 no_rise : Rose 0 0 → ⊥
 no_rise rose = omega (arith, rose)
@@ -259,7 +259,8 @@ module _ {S : Type 0} (disk : S → Disk) (keys : Keys) (call : RunCall S) (t u 
               sound = images;
               again = λ there c may.
                   let stops = subst (λ (q : Params). ring_lives.stops keys q (disk call.old) (disk call.new)) same (o.stops_life stood.tells.0) in
-                  let (first, rest, is, life, turn, stands, small) = stopped_next keys p past.word_of here (disk call.new) stood.is_past.small (stops past.word_of here stood.is_at.there there) c may in
+                  let stopped = stops past.word_of here None (idle_at keys p past.word_of here (disk call.old).cells stood.is_at.there) (λ d left. idle_at keys p past.word_of here d (there d left)) in
+                  let (first, rest, is, life, turn, stands, small) = stopped_next keys p past.word_of here (disk call.new) stood.is_past.small stopped c may in
                   let (now, allowed) = images c may in
                   (first, rest, is, leads_on p past stood.is_past first life turn keys c now allowed stands small);
             }

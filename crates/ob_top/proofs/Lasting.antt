@@ -8,8 +8,8 @@ use Rattle.ob_log.specs.Logs.{BatchRecord}
 use Rattle.ob_opening.specs.OpeningActs.{IsLeftAt, StandsInLife}
 use Rattle.ob_recover.proofs.FreshLaws.{lives_are_fresh}
 use Rattle.ob_recover.proofs.Pads.{life_goes_on}
-use Rattle.ob_recover.specs.Calls.{repeated}
-use Rattle.ob_recover.specs.Life.{IsLife, LifeAct, LifeState, Open, ShowBatch, WordId, formatted_life, life_step, reached}
+use Rattle.ob_recover.specs.Calls.{Finds, repeated}
+use Rattle.ob_recover.specs.Life.{IsActAllowed, IsLife, LifeAct, LifeState, Open, ShowBatch, WordId, formatted_life, life_step, reached}
 use Rattle.ob_recover.specs.Lives.{IsLifeAt}
 use Rattle.ob_seal.specs.declared.keys.Keys.{Keys}
 use Rattle.ob_serial.specs.Serial.{Map}
@@ -17,7 +17,7 @@ use Rattle.std.specs.Ordering.{nat_cmp}
 use Rattle.ob_serial.specs.Vaults.{Standing}
 use Rattle.ob_store.specs.Disk.{Disk, Image}
 use Rattle.ob_tables.specs.Content.{Content}
-use Rattle.ob_vault.proofs.Fetching.{at_standing, settled_stands}
+use Rattle.ob_vault.proofs.Fetching.{at_standing, none_pending, settled_stands}
 use Rattle.ob_vault.proofs.Whole.{reached_join, repeats_next}
 use Rattle.ob_vault.specs.Acts.{AreBatchesSmall}
 use Rattle.ob_vault.specs.Kinds.{Stands}
@@ -104,19 +104,39 @@ module _ (p : Params) (past : PastLife) (is_past : IsPastLife p past) (more : Li
 
 -- ---- behind an opening that was refused
 
-module _ (keys : Keys) (p : Params) (word_of : WordId → ℕ) (s : LifeState) (new : Disk) (small : AreBatchesSmall s.log) (o : IsStoppedInLife keys p word_of s new) where
+-- where nothing is in flight
+pub idle_at : (keys : Keys) (p : Params) (word_of : WordId → ℕ) (s : LifeState) (c : Image) → StandsInLife keys p word_of s c → IsLeftAt keys p word_of s None c
+idle_at keys p word_of s c stands = record { allowed = λ a e. none_pending (IsActAllowed p word_of s a) a e; stands = λ i same. inl (subst (StandsInLife keys p word_of s) same stands) }
+
+module _ (keys : Keys) (p : Params) (word_of : WordId → ℕ) (s : LifeState) (new : Disk) (small : AreBatchesSmall s.log) (o : IsStoppedInLife keys p word_of s None new) where
   none_some : (x : LifeAct) → ◌≡◌ {A = Option LifeAct} None (Some x) → ⊥
   none_some x n = cc n
 
   same_some : (x y : LifeAct) → ◌≡◌ {A = Option LifeAct} (Some x) (Some y) → x ≡ y
   same_some x y n = cc n
 
+  -- nothing was in flight before, so nothing was found
+  none_found : (found : List LifeAct) → Finds None found → found ≡ []
+  none_found found (inl none) = none
+  none_found found (inr (a, flies, is)) = absurd (none_some a flies)
+
+  abbrev Going : List LifeAct → Option LifeAct → Type 0
+  Going made in_flight = (rest : List LifeAct) × (opening_acts s ≡ made ++ rest) × ((in_flight ≡ None) ⊎ ((b : LifeAct) × (more : List LifeAct) × (in_flight ≡ Some b) × (rest ≡ b ∷ more)))
+
+  going_on : (made : List LifeAct) (in_flight : Option LifeAct) → ((made ≡ []) × (in_flight ≡ None))
+      ⊎ ((rest : List LifeAct) × (o.found ++ opening_acts (reached p word_of s o.found) ≡ made ++ rest) × ((in_flight ≡ None) ⊎ ((a : LifeAct) × (more : List LifeAct) × (in_flight ≡ Some a) × (rest ≡ a ∷ more)))) → Going made in_flight
+  going_on made in_flight (inl (none, idle)) = (opening_acts s, subst (λ (l : List LifeAct). opening_acts s ≡ l ++ opening_acts s) (sym none) refl, inl idle)
+  going_on made in_flight (inr (rest, are, next)) = (rest, subst (λ (l : List LifeAct). l ++ opening_acts (reached p word_of s l) ≡ made ++ rest) (none_found o.found o.finds) are, next)
+
+  going : Going o.made o.in_flight
+  going = going_on o.made o.in_flight o.part
+
   -- the act in flight is the opening's next one
-  flying : (a : LifeAct) → o.in_flight ≡ Some a → (o.in_flight ≡ None) ⊎ ((b : LifeAct) × (more : List LifeAct) × (o.in_flight ≡ Some b) × (o.rest ≡ b ∷ more)) → (rest : List LifeAct) × (opening_acts s ≡ (o.made ++ a ∷ []) ++ rest)
+  flying : (a : LifeAct) → o.in_flight ≡ Some a → (o.in_flight ≡ None) ⊎ ((b : LifeAct) × (more : List LifeAct) × (o.in_flight ≡ Some b) × (going.0 ≡ b ∷ more)) → (rest : List LifeAct) × (opening_acts s ≡ (o.made ++ a ∷ []) ++ rest)
   flying a e (inl idle) = absurd (none_some a (sym idle ∙ e))
   flying a e (inr (b, more, flies, is)) =
       let same : b ≡ a = same_some b a (sym flies ∙ e) in
-      (more, o.acts ∙ ap (λ (l : List LifeAct). o.made ++ l) (is ∙ ap (λ (x : LifeAct). x ∷ more) same) ∙ sym (append_assoc o.made (a ∷ []) more))
+      (more, going.1 ∙ ap (λ (l : List LifeAct). o.made ++ l) (is ∙ ap (λ (x : LifeAct). x ∷ more) same) ∙ sym (append_assoc o.made (a ∷ []) more))
 
   abbrev pub StopsAt : Image → Type 0
   StopsAt c = (first : List LifeAct) × (rest : List LifeAct) × (opening_acts s ≡ first ++ rest) × IsLife p word_of s first × ((k : WordsKept) → AllDrawNext p word_of s k first)
@@ -129,9 +149,9 @@ module _ (keys : Keys) (p : Params) (word_of : WordId → ℕ) (s : LifeState) (
   stopped_next c left =
       let at : IsLeftAt keys p word_of (reached p word_of s o.made) o.in_flight c = o.images c left in
       ⊎_elim
-      (λ (stands : StandsInLife keys p word_of (reached p word_of s o.made) c). stops_at o.made o.rest o.acts c o.is_life stands)
+      (λ (stands : StandsInLife keys p word_of (reached p word_of s o.made) c). stops_at o.made going.0 going.1 c o.is_life stands)
       (λ (one : (a : LifeAct) × (o.in_flight ≡ Some a) × StandsInLife keys p word_of (life_step p word_of (reached p word_of s o.made) a) c).
-      let whole = flying one.0 one.1 o.next in
+      let whole = flying one.0 one.1 going.2 in
       stops_at (o.made ++ one.0 ∷ []) whole.0 whole.1 c (life_goes_on p word_of s o.made (one.0 ∷ []) o.is_life (at.allowed one.0 one.1, tt))
       (subst (λ (u : LifeState). StandsInLife keys p word_of u c) (sym (reached_join p word_of s o.made (one.0 ∷ []))) one.2))
       (at.stands c refl)

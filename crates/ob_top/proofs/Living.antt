@@ -2,7 +2,7 @@
 use Rattle.std.proofs.Common.{◌⊎◌, ℕ, suc, List, [], ◌∷◌, inl, inr, refl, subst, sym}
 use Rattle.ob_store.specs.Disk.{Disk, Image}
 use Rattle.ob_store.specs.Images.{LeavesOnly, Same, Passes}
-use Rattle.ob_store.specs.Calls.{GoesOn}
+use Rattle.ob_store.specs.Calls.{GoesOn, Keeps}
 use Rattle.ob_store.proofs.Moments.{leaves_of}
 use Rattle.ob_seal.specs.declared.keys.Keys.{Keys}
 use Rattle.ob_seal.specs.Sealing.{Sealing}
@@ -11,7 +11,8 @@ use Rattle.ob_pads.specs.Lives.{IsAtGeneration, LeavesUnopened, LivesOn, Opened,
 use Rattle.ob_pads.proofs.Chains.{unopened_lives, runs_join}
 use Rattle.ob_top.specs.Runs.{IsReadAndOpened, LivesBehind}
 
-module _ {S : Type 0} (disk : S → Disk) (only : (store : S) (c : Image) → (disk store).left_since (disk store).moment c → (disk store).may_leave c) (keys : Keys) (old mid : S) (goes : GoesOn (disk old) (disk mid)) (passes : Passes Same (disk old) (disk mid)) where
+module _ {S : Type 0} (disk : S → Disk) (only : (store : S) (c : Image) → (disk store).left_since (disk store).moment c → (disk store).may_leave c) (keys : Keys) (old mid : S) (goes : GoesOn (disk old) (disk mid)) (keeps : Keeps (disk old) (disk mid))
+    (passes : Passes Same (disk old) (disk mid)) where
   -- what a read leaves, from a generation on
   abbrev Left : ℕ → Image → Type 0
   Left g c = (disk old).may_leave c ⊎ (IsAtGeneration keys g c ⊎ IsAtGeneration keys (suc g) c)
@@ -22,7 +23,7 @@ module _ {S : Type 0} (disk : S → Disk) (only : (store : S) (c : Image) → (d
       (λ c was. was)
 
   reads_unopened : (disk mid).tells → LeavesUnopened keys (disk old) (disk mid)
-  reads_unopened tells = record { goes = goes; tells = tells; crash = λ g stands. reads_leave g stands }
+  reads_unopened tells = record { goes = goes; tells = tells; crash = λ g stands. reads_leave g stands; clear = λ cell low. inl (inl (keeps.cells (goes.told tells) cell)) }
 
   pub read_lives : (disk mid).tells → LivesOn disk keys old mid []
   read_lives tells = unopened_lives disk keys old mid (reads_unopened tells)

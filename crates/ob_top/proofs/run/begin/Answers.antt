@@ -103,15 +103,15 @@ returns-in-Err-prepare-clause-refused g c =
     let e = c.in-Err-prepare.ensures in
     unopened (λ s. g.S.Store.disk s) c.args.keys.now c.args.lanes c.requires.lanes.0 c.in-Ok.params c.in-Ok-read_script.scripts _ c.args.store.now c.head.new.store c.prepare.new.store head.value (record { keeps = head.keeps; passes = head.passes; seen = head.does.seen })
     c.in-Ok-read_script.ensures.came c.prepare.result _ _ _ _ _ _ _ c.in-Err-prepare.fault _ head.does.shows c.in-Ok-still_watched.ensures (g.met.S.Store.only_now c.args.store.now) head.serves.goes.faults e.faults e.serves.cause e.does_err e.refused e.stands e.unwritten e.leaves
-    (λ word_of s told at. e.acts word_of s None told at)
+    (λ word_of s pending told at. e.acts word_of s pending told at)
 
 -- ---- the life of the store
 
 pub returns-in-Err-clause-lives : goal.returns-in-Err-clause-lives
-returns-in-Err-clause-lives g c = read_lives (λ s. g.S.Store.disk s) g.met.S.Store.only_now c.args.keys.now c.args.store.now c.head.new.store c.in-Err.ensures.serves.goes c.in-Err.ensures.passes
+returns-in-Err-clause-lives g c = read_lives (λ s. g.S.Store.disk s) g.met.S.Store.only_now c.args.keys.now c.args.store.now c.head.new.store c.in-Err.ensures.serves.goes c.in-Err.ensures.keeps c.in-Err.ensures.passes
 
 pub returns-in-Err-still_watched-clause-lives : goal.returns-in-Err-still_watched-clause-lives
-returns-in-Err-still_watched-clause-lives g c = read_lives (λ s. g.S.Store.disk s) g.met.S.Store.only_now c.args.keys.now c.args.store.now c.head.new.store c.in-Ok.ensures.serves.goes c.in-Ok.ensures.passes
+returns-in-Err-still_watched-clause-lives g c = read_lives (λ s. g.S.Store.disk s) g.met.S.Store.only_now c.args.keys.now c.args.store.now c.head.new.store c.in-Ok.ensures.serves.goes c.in-Ok.ensures.keeps c.in-Ok.ensures.passes
 
 pub returns-in-Err-still_watched-clause-goes : goal.returns-in-Err-still_watched-clause-goes
 returns-in-Err-still_watched-clause-goes g c = c.in-Ok.ensures.serves.goes
@@ -120,22 +120,22 @@ pub returns-in-Err-still_watched-clause-none_out : goal.returns-in-Err-still_wat
 returns-in-Err-still_watched-clause-none_out g c = omega (arith, c.in-Ok.ensures.serves.out, c.requires.none_out)
 
 pub returns-in-Err-read_script-clause-lives : goal.returns-in-Err-read_script-clause-lives
-returns-in-Err-read_script-clause-lives g c = read_lives (λ s. g.S.Store.disk s) g.met.S.Store.only_now c.args.keys.now c.args.store.now c.head.new.store c.in-Ok.ensures.serves.goes c.in-Ok.ensures.passes
+returns-in-Err-read_script-clause-lives g c = read_lives (λ s. g.S.Store.disk s) g.met.S.Store.only_now c.args.keys.now c.args.store.now c.head.new.store c.in-Ok.ensures.serves.goes c.in-Ok.ensures.keeps c.in-Ok.ensures.passes
 
 pub returns-in-Err-runners-clause-lives : goal.returns-in-Err-runners-clause-lives
-returns-in-Err-runners-clause-lives g c = read_lives (λ s. g.S.Store.disk s) g.met.S.Store.only_now c.args.keys.now c.args.store.now c.head.new.store c.in-Ok.ensures.serves.goes c.in-Ok.ensures.passes
+returns-in-Err-runners-clause-lives g c = read_lives (λ s. g.S.Store.disk s) g.met.S.Store.only_now c.args.keys.now c.args.store.now c.head.new.store c.in-Ok.ensures.serves.goes c.in-Ok.ensures.keeps c.in-Ok.ensures.passes
 
 pub returns-in-Err-prepare-clause-lives : goal.returns-in-Err-prepare-clause-lives
 returns-in-Err-prepare-clause-lives g c =
     let head = c.in-Ok.ensures in
     let e = c.in-Err-prepare.ensures in
-    refused_lives (λ s. g.S.Store.disk s) g.met.S.Store.only_now c.args.keys.now c.args.store.now c.head.new.store head.serves.goes head.passes c.prepare.new.store e.serves.goes e.act
+    refused_lives (λ s. g.S.Store.disk s) g.met.S.Store.only_now c.args.keys.now c.args.store.now c.head.new.store head.serves.goes head.keeps head.passes c.prepare.new.store e.serves.goes e.act
 
 pub returns-in-Ok-prepare-clause-opens : goal.returns-in-Ok-prepare-clause-opens
 returns-in-Ok-prepare-clause-opens g c =
     let head = c.in-Ok.ensures in
     let e = c.in-Ok-prepare.ensures in
-    read_opened (λ s. g.S.Store.disk s) g.met.S.Store.only_now c.args.keys.now c.args.store.now c.head.new.store head.serves.goes head.passes c.prepare.new.store e.serves.goes c.in-Ok-prepare.opening.sealer e.act
+    read_opened (λ s. g.S.Store.disk s) g.met.S.Store.only_now c.args.keys.now c.args.store.now c.head.new.store head.serves.goes head.keeps head.passes c.prepare.new.store e.serves.goes c.in-Ok-prepare.opening.sealer e.act
 
 -- ---- the store goes on, and no lane of it is out
 
