@@ -1,3 +1,4 @@
 pub mod Calls
 pub mod Fillings
 pub mod Keeping
+pub mod Holding

@@ -118,6 +118,16 @@ impl MemStore {
     {
         self.faults
     }
+
+    // It has failed once more.
+    pub(crate) fn fail(&mut self)
+        ensures made { self.new
+            ≡ record self.old { faults = min (self.old.faults + 1) (2 ^ 64 - 1) } }
+        ensures later { self.old.faults ≤ self.new.faults }
+        ensures rose { Rose self.old.faults self.new.faults }
+    {
+        self.faults = self.faults.saturating_add(1);
+    }
 }
 
 fn is_named(fails: &[Fail], call: Fail) -> bool
