@@ -17,7 +17,7 @@ use ob_run::run;
 use ob_seal::Keys;
 use ob_serial::Vault;
 use ob_session::Runner;
-use ob_store::Blind;
+use ob_store::{Blind, Store};
 use std::alloc::Global;
 use std::process::Abort;
 use std::sync::Wait;
@@ -60,8 +60,8 @@ pub fn both<U: Runner>(rt: &impl Abort, alloc: Global, first: U, second: U) -> V
 }
 
 /// Opens a store.
-pub fn open<'a>(rt: &impl Abort, alloc: Global, store: &'a mut MemStore) -> FlatVault<'a, MemStore>
-    requires { (disk_of_store store.old).out ≡ 0 }
+pub fn open<'a, S: Store>(rt: &impl Abort, alloc: Global, store: &'a mut S) -> FlatVault<'a, S>
+    requires { (S.disk store.old).out ≡ 0 }
 {
     let Ok(params) = head(store, &test_keys(), &mut Blind) else {
         panic!(rt; "no head")

@@ -15,7 +15,7 @@ use ob_calls::Refused;
 use ob_conduct::RunErr;
 use ob_desk::{Begun, Eager};
 use ob_hall::{Hall, Pass};
-use ob_mem::MemSink;
+use ob_mem::{HoldStore, MemSink};
 use ob_run::serve;
 use ob_serial::{Outcome, Vault, Why};
 use ob_store::Blind;
@@ -23,11 +23,17 @@ use ob_threads::Client;
 use std::alloc::Global;
 use std::process::Abort;
 use std::sync::Wait;
-use std::sync::atomic::AtomicU64;
 use std::sync::atomic::Ordering::SeqCst;
+use std::sync::atomic::{AtomicBool, AtomicU64};
 use std::thread;
 use std::thread::Threads;
 use std::time::Duration;
+
+// So often a thread gives way before it waits no more.
+const TURNS: u64 = 10_000_000;
+
+// The body of the place where the first epoch's end sets the epoch's register.
+const REGISTER: u64 = 7;
 
 // What a client calls, and how it has to be answered.
 enum Ask {
@@ -47,18 +53,35 @@ struct Line {
     ask: Ask,
 }
 
-/// How many calls were answered, and how many of them as wanted.
+/// How many calls were answered, and how many of them as wanted. Where it holds the first epoch's
+/// end, that is reached, and let go behind the fourth answer.
 #[derive(Drop)]
 pub struct Clock {
     moment: AtomicU64,
     right: AtomicU64,
+    holds: bool,
+    reached: AtomicBool,
+    release: AtomicBool,
 }
 
 impl Clock {
-    fn new() -> Clock {
+    fn new(holds: bool) -> Clock {
         Clock {
             moment: AtomicU64::new(0),
             right: AtomicU64::new(0),
+            holds,
+            reached: AtomicBool::new(false),
+            release: AtomicBool::new(!holds),
+        }
+    }
+
+    // Waits until the end is reached, but not for ever.
+    fn wait_for_end(&self) {
+        for _ in 0..TURNS {
+            if self.reached.load(SeqCst) {
+                return;
+            }
+            thread::yield_now();
         }
     }
 
@@ -79,7 +102,9 @@ impl Clock {
         if right {
             self.right.fetch_add(1, SeqCst);
         }
-        self.moment.fetch_add(1, SeqCst);
+        if self.moment.fetch_add(1, SeqCst) >= 3 {
+            self.release.store(true, SeqCst);
+        }
         self.moment.wake_all();
     }
 }
@@ -225,15 +250,74 @@ const READER: &[Line] = &[
     },
 ];
 
+// The first client asks to commit, and its epoch is closed.
+const ENDED: &[Line] = &[
+    Line {
+        at: 0,
+        ask: Ask::Begin,
+    },
+    Line {
+        at: 1,
+        ask: Ask::Put { key: 5, why: None },
+    },
+    Line {
+        at: 2,
+        ask: Ask::Commit {
+            outcome: Outcome::Committed,
+        },
+    },
+];
+
+// The second one begins and writes while that epoch is ended.
+const BESIDE: &[Line] = &[
+    Line {
+        at: 2,
+        ask: Ask::Begin,
+    },
+    Line {
+        at: 3,
+        ask: Ask::Put { key: 6, why: None },
+    },
+    Line {
+        at: 4,
+        ask: Ask::Commit {
+            outcome: Outcome::Committed,
+        },
+    },
+];
+
+// The calls of a client.
+fn script_of(clock: &Clock, number: u32) -> &'static [Line] {
+    match (clock.holds, number) {
+        (false, 1) => WRITER,
+        (false, _) => READER,
+        (true, 1) => ENDED,
+        (true, _) => {
+            clock.wait_for_end();
+            BESIDE
+        }
+    }
+}
+
+// How many calls both clients make.
+fn calls_of(clock: &Clock) -> u64 {
+    if clock.holds { 6 } else { 7 }
+}
+
+// How many epochs are durable once both clients have made their calls.
+fn epochs_of(clock: &Clock) -> u64 {
+    if clock.holds { 2 } else { 1 }
+}
+
 // Makes the calls of a client, asks for the last durable epoch once both have made theirs, and
 // signs off.
 fn follow<R: Wait>(rt: &R, hall: &Hall, pass: &mut Pass, clock: &Clock)
     requires { IsSession hall.now pass.old }
 {
-    let script = if pass.number() == 1 { WRITER } else { READER };
+    let script = script_of(clock, pass.number());
     follow_all(rt, hall, pass, script, clock);
-    clock.wait_until(rt, 7);
-    clock.count(hall.durable(pass) == 1);
+    clock.wait_until(rt, calls_of(clock));
+    clock.count(hall.durable(pass) == epochs_of(clock));
     ob_calls::sign_off(rt, hall, pass);
 }
 
@@ -335,8 +419,9 @@ fn run_sessions<R: Threads + Wait + Sync + Abort>(
     clock: &Clock,
     output: &mut MemSink,
 ) -> Result<(), RunErr> {
-    let mut store = formatted(rt, alloc, NEVER);
-    let mut vault = open(rt, alloc, &mut store);
+    let store = formatted(rt, alloc, NEVER);
+    let mut held = HoldStore::new(store, REGISTER, TURNS, &clock.reached, &clock.release);
+    let mut vault = open(rt, alloc, &mut held);
     let params = vault.params();
     let mut opened = open_hall(rt, alloc, &params, &vault);
     run_beside(
@@ -359,9 +444,26 @@ const LINES: &[u8] =
 fn two_sessions_are_served(rt: HostRuntime) {
     let alloc = rt.alloc();
     let mut output = MemSink::new(alloc, 1000, Vec::new(alloc)).expect(&rt, "memory");
-    let clock = Clock::new();
+    let clock = Clock::new(false);
     let ended = run_sessions(&rt, alloc, &clock, &mut output);
     assert!(rt; ended.is_ok());
     assert!(rt; clock.right.load(SeqCst) == 9);
     assert!(rt; output.written() == LINES);
+}
+
+const TWO_EPOCHS: &[u8] =
+    b"epoch 1\ntxn 1 client 1 committed\nput 5 a\nepoch 2\ntxn 1 client 2 committed\nput 6 a\n";
+
+// Were the turn kept through the end, the second client could begin only behind it: and the store
+// would wait for it in vain, and fail.
+#[test]
+fn a_client_goes_on_while_an_epoch_is_ended(rt: HostRuntime) {
+    let alloc = rt.alloc();
+    let mut output = MemSink::new(alloc, 1000, Vec::new(alloc)).expect(&rt, "memory");
+    let clock = Clock::new(true);
+    let ended = run_sessions(&rt, alloc, &clock, &mut output);
+    assert!(rt; ended.is_ok());
+    assert!(rt; clock.reached.load(SeqCst));
+    assert!(rt; clock.right.load(SeqCst) == 8);
+    assert!(rt; output.written() == TWO_EPOCHS);
 }
