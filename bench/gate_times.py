@@ -55,7 +55,7 @@ def kind_of(words, folder):
         over = words[words.index("--incremental") + 1] if "--incremental" in words[:-1] else ""
         return "edits: a crate once more" if over.endswith("/seed") else "edits: each", crate
     if "--test" in words:
-        return "crate of tests" if crate.endswith("_tests") else "tests inside of a crate", crate
+        return "crate of tests" if crate.endswith(("_tests", "_cases")) else "tests inside of a crate", crate
     return "library", crate
 
 
