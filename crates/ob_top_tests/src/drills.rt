@@ -1,5 +1,6 @@
 //! Self-tests: over stores in memory that are handed in, and by the top call, which touches none.
 
+ghost use Rattle.std.specs.Prelude.{◌≡◌};
 ghost use Rattle.ob_seal.specs.Draws.{list_drawn};
 
 use crate::noting::noted;
@@ -90,21 +91,28 @@ impl Tape for Counted {
     }
 }
 
+fn wide<R: AllocGlobal + Abort>(rt: &R) -> MemSink {
+    let made = MemSink::new(rt.alloc(), WIDE, Vec::new(rt.alloc()));
+    made.expect(rt, "memory")
+}
+
+fn counting<R: AllocGlobal + Abort>(rt: &R) -> Counted
+    ensures { result.tape.generation ≡ 0 }
+{
+    let tape = ListTape::new(rt.alloc(), &[]).expect(rt, "memory");
+    Counted { tape, calls: 0 }
+}
+
 // A self-test of so many transactions beside a store, a tape, an input and a trace, none of which
 // it touches: its status.
 fn drill_beside<R: AllocGlobal + Threads + Wait + Sync + Abort>(rt: &R, count: &str) -> u8 {
     let made = MemStore::new(rt.alloc(), SMALL, Vec::new(rt.alloc()));
     let mut store = noted(rt, made.expect(rt, "memory"));
-    let mut tape = Counted {
-        tape: ListTape::new(rt.alloc(), &[]).expect(rt, "memory"),
-        calls: 0,
-    };
+    let mut tape = counting(rt);
     let script = b"client 1\n".to_vec(rt.alloc()).expect(rt, "memory");
     let mut input = MemSource::new(script, Vec::new(rt.alloc()));
-    let output = MemSink::new(rt.alloc(), WIDE, Vec::new(rt.alloc()));
-    let mut output = output.expect(rt, "memory");
-    let trace = MemSink::new(rt.alloc(), WIDE, Vec::new(rt.alloc()));
-    let mut trace = Some(trace.expect(rt, "memory"));
+    let mut output = wide(rt);
+    let mut trace = Some(wide(rt));
     let status = obladi(
         rt,
         &["drill", count],

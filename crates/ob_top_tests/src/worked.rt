@@ -5,7 +5,7 @@ ghost use Rattle.ob_mem.specs.Memory.{disk_of_store};
 
 use crate::noting::noted;
 use crate::playing::{CELLS, go_on};
-use crate::two_epochs::CELLS as DIGITS;
+use crate::two_epochs::cells;
 use hex::FromHex;
 use ob_mem::MemStore;
 use ob_store::Store;
@@ -16,8 +16,9 @@ fn write_digits<R: Abort>(rt: &R, store: &mut MemStore, cell: usize)
     requires { (disk_of_store store.old).out ≡ 0 }
     ensures { (disk_of_store store.new).out ≡ 0 }
 {
-    assert!(rt; cell < CELLS && DIGITS.len() == 256 * CELLS);
-    let own = &DIGITS[256 * cell..256 * cell + 256];
+    let digits = cells();
+    assert!(rt; cell < CELLS && digits.len() == 256 * CELLS);
+    let own = &digits[256 * cell..256 * cell + 256];
     let bytes = <[u8; 128] as FromHex>::from_hex(own)
         .ok()
         .expect(rt, "digits");
