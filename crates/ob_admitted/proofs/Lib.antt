@@ -7,3 +7,4 @@ pub mod Repeating
 pub mod Calling
 pub mod Wholes
 pub mod Fronts
+pub mod Cutting

@@ -5,3 +5,4 @@ pub mod Repeats
 pub mod Calls
 pub mod Wholes
 pub mod Fronts
+pub mod Cuts

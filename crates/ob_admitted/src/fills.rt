@@ -1,6 +1,7 @@
 //! What fills the holes of all epochs of a life.
 
 ghost use Rattle.ob_admitted.specs.Calls.{CallsAreTurns};
+ghost use Rattle.ob_admitted.specs.Cuts.{CutOpeningsShowHistories, CutRunsShowHistories};
 ghost use Rattle.ob_admitted.specs.Fills.{LivesHaveFills};
 ghost use Rattle.ob_admitted.specs.Fronts.{FrontsAreRuns};
 ghost use Rattle.ob_admitted.specs.Notes.{CallsGoByFills};
@@ -49,4 +50,16 @@ pub fn runs_show_histories()
 /// found.
 pub fn fronts_are_runs()
     ensures { FrontsAreRuns }
+{}
+
+/// So does one whose last call was refused: so many notes of what that call would have shown, behind
+/// the calls that were answered, are as many of the step that comes next.
+pub fn cut_runs_show_histories()
+    ensures { CutRunsShowHistories }
+{}
+
+/// And what an opening over such a life has shown that stopped, before or within the batches that it
+/// repeats, is a run of a public history with these fills, by what it found.
+pub fn cut_openings_show_histories()
+    ensures { CutOpeningsShowHistories }
 {}
