@@ -1,5 +1,5 @@
 -- What `format` does.
-use Rattle.std.specs.Prelude.{ℕ, ◌≡◌, ◌*◌, true, false, Bool, Option, Some, None, length}
+use Rattle.std.specs.Prelude.{ℕ, ◌≡◌, ◌*◌, true, false, Bool, Option, Some, None, Ok, Err, length}
 use Rattle.ob_base.specs.declared.params.Params.{Params}
 use Rattle.ob_base.specs.Tree.{buckets, width}
 use Rattle.ob_seal.specs.declared.keys.Keys.{Keys}
@@ -36,6 +36,8 @@ pub record IsFormatted (store : StoreKind) (life : LifeWords store) {S : Type 0}
   pub tells : (disk old).tells → (disk new).tells
   pub draws : DrawsSlots p tape
   pub begins : (disk old).tells → (disk old).leaves → IsFormattedStore disk keys new
+  -- what its head and registers show in the clear, each byte of it
+  pub clear : (disk new).tells → store.format_clears keys p (disk new).seen (disk old).cells (disk new).cells (Ok tt)
   -- each image that a crash leaves stands for a life that begins with these words
   pub begins_life : (disk old).tells → life.formatted keys p tape.words (disk new)
 
@@ -45,13 +47,15 @@ ShowsFormat store p t u is_broken = Shows (store.format_notes p) t u × (u.broke
 
 -- behind the format the tape has given this
 module _ (store : StoreKind) (life : LifeWords store) {S : Type 0} (disk : S → Disk) (tape : Given) where
-  -- How it ends. Its line tells how many cells the store has; none is written where the watch broke.
+  -- How it ends. Its line tells how many cells the store has; none is written where the watch broke. Where the store failed the head and the
+  -- registers show in the clear what the kind of store says of that.
   abbrev pub FormatEnds : Keys → Params → S → S → Flow → Flow → Trace → Trace → Option RunErr → Type 0
   FormatEnds keys p old new before after t u None = IsFormatted store life disk tape keys p old new × (after.bytes ≡ appended before.bytes (size_line (store.cells p))) × ShowsFormat store p t u false
   FormatEnds keys p old new before after t u (Some failed.Unwatched) = IsFormatted store life disk tape keys p old new × (after ≡ before) × ShowsFormat store p t u true
   FormatEnds keys p old new before after t u (Some (failed.Fault SinkFault)) = IsFormatted store life disk tape keys p old new × Rose before.faults after.faults × IsPrinted before after (size_line (store.cells p)) × ShowsFormat store p t u false
   FormatEnds keys p old new before after t u (Some (failed.Fault (StoreFault unsure))) =
       (unsure ≡ None) × Rose (disk old).faults (disk new).faults × NotesFirst (store.format_order p) (disk old).seen (disk new).seen × (after ≡ before) × TellsFirst (store.format_notes p) (disk old).seen (disk new).seen t u
+      × ((disk new).tells → store.format_clears keys p (disk new).seen (disk old).cells (disk new).cells (Err (StoreFault unsure)))
   FormatEnds keys p old new before after t u (Some (failed.Fault fault)) = store.format_fault fault × (new ≡ old) × (after ≡ before) × (u ≡ t)
 
   -- What `format` has done with parameters in range and a store. It looks at no input.
