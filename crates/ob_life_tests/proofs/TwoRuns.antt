@@ -85,7 +85,7 @@ module _ {S : Type 0} (disk : S → Disk) (keys : Keys) (p : Params) where
   its_lives : (tape : Given) (old new : S) (r : IsWholeRun disk keys tape old new) → (disk old).tells → LivesOn disk keys old new (answers disk r)
   its_lives tape old new r tells =
       let s = (r.ran).serving in
-      whole_lives disk keys old (r.ran).between new (r.ran).sealing (answers disk r) s.goes (r.ran).begun s.seals_on (s.tells refl ((r.ran).durable tells).0)
+      (whole_lives disk keys old (r.ran).between new (r.ran).sealing s.goes (r.ran).begun (answers disk r) (ring_kind.seals s.traced.behind) s.seals_on (s.tells refl ((r.ran).durable tells).0)).lives
 
   module _ (counts_now : (x : S) (t : Clock) (c : Image) → NotAfter t (disk x).moment → (disk x).may_leave c → (disk x).left_since t c) (includes_reads : (x : S) → (disk x).tells → (disk x).leaves → (disk x).may_leave (disk x).cells)
       (one_life : RunsAreOneLife disk) (pads : PadsAreFresh disk) (made_by first_by second_by : Given) (blank made ran left new : S) (dummies : 0 < p.dummies) (format_is : format.IsFormatted ring_kind ring_lives disk made_by keys p blank made)

@@ -26,7 +26,7 @@ use Rattle.ob_vault.specs.Kinds.{StoreKind}
 use Rattle.ob_vault.specs.KindLives.{LifeWords}
 use Rattle.ob_top.specs.Endings.{LinesStand, told_fault}
 use Rattle.ob_top.specs.Runs.{Went, RunOn, RunDone}
-use Rattle.ob_top.specs.Parts.{Manner}
+use Rattle.ob_top.specs.Parts.{IsInClearBehind, Manner}
 use Rattle.ob_top.proofs.Lines.{cut_printed}
 use Rattle.ob_top.specs.Sound.{StandsOn}
 use Rattle.ob_top.proofs.Running.{IsQuiet}
@@ -81,6 +81,7 @@ module _ (store : StoreKind) (quiet : IsQuiet store) (life : LifeWords store) wh
             line = f.line;
             went = went_on r.records None r.went;
             sound = r.sound;
+            clear = r.clear;
           }
 
       sink_rose : (records : List (EpochRecord ℕ)) → Went store life disk by tape keys old new before mid t u records (Some (failed.Fault SinkFault)) → Rose before.output.faults mid.output.faults
@@ -103,6 +104,7 @@ module _ (store : StoreKind) (quiet : IsQuiet store) (life : LifeWords store) wh
         line = f.line;
         went = went_on r.records (Some (failed.Fault SinkFault)) r.went;
         sound = r.sound;
+        clear = r.clear;
       }
         where
           no_fault : ◌≡◌ {A = Option RunErr} (Some (failed.Fault SinkFault)) None → ⊥
@@ -111,8 +113,9 @@ module _ (store : StoreKind) (quiet : IsQuiet store) (life : LifeWords store) wh
       -- anything else, behind the whole report
       done_other : (err : RunErr) (records : List (EpochRecord ℕ)) (whole : ℕ) → LinesStand (Some err) records whole before.output mid.output → ErrTold mid.output after.output (Some err)
           → mid.output.bytes ≡ appended before.output.bytes (report decimal records) → before.output.faults ≤ mid.output.faults → IsPrinted mid.output after.output (fault_line (told_fault (Some err))) → status ≡ status_of (told_fault (Some err))
-          → Went store life disk by tape keys old new before As t u records (Some err) → StandsOn store disk keys old new → RunDone store life disk by tape keys old new before after t u status
-      done_other err records whole lines told bytes later line status_is went sound = record {
+          → Went store life disk by tape keys old new before As t u records (Some err) → StandsOn store disk keys old new
+          → ((disk new).tells → IsInClearBehind keys (disk old) (disk new) (Some err)) → RunDone store life disk by tape keys old new before after t u status
+      done_other err records whole lines told bytes later line status_is went sound clear = record {
         err = Some err;
         status_is = status_is;
         records = records;
@@ -124,6 +127,7 @@ module _ (store : StoreKind) (quiet : IsQuiet store) (life : LifeWords store) wh
         line = told;
         went = went;
         sound = sound;
+        clear = clear;
       }
         where
           no_err : ◌≡◌ {A = Option RunErr} (Some err) None → ⊥
@@ -132,22 +136,22 @@ module _ (store : StoreKind) (quiet : IsQuiet store) (life : LifeWords store) wh
       pub run_done : (err : Option RunErr) → RunOn store life disk by tape keys old new before mid t u err → IsCommandFinished mid.output after.output err status → RunDone store life disk by tape keys old new before after t u status
       run_done None r f = done_whole r f
       run_done (Some (failed.Fault SinkFault)) r f = done_sink r f
-      run_done (Some failed.Unwatched) r f = done_other failed.Unwatched r.records r.whole r.lines f.line r.lines.0.bytes r.lines.0.later f.line f.status_is (went_on r.records (Some failed.Unwatched) r.went) r.sound
-      run_done (Some (failed.Fault Memory)) r f = done_other (failed.Fault Memory) r.records r.whole r.lines f.line r.lines.0.bytes r.lines.0.later f.line f.status_is (went_on r.records (Some (failed.Fault Memory)) r.went) r.sound
-      run_done (Some (failed.Fault Usage)) r f = done_other (failed.Fault Usage) r.records r.whole r.lines f.line r.lines.0.bytes r.lines.0.later f.line f.status_is (went_on r.records (Some (failed.Fault Usage)) r.went) r.sound
+      run_done (Some failed.Unwatched) r f = done_other failed.Unwatched r.records r.whole r.lines f.line r.lines.0.bytes r.lines.0.later f.line f.status_is (went_on r.records (Some failed.Unwatched) r.went) r.sound r.clear
+      run_done (Some (failed.Fault Memory)) r f = done_other (failed.Fault Memory) r.records r.whole r.lines f.line r.lines.0.bytes r.lines.0.later f.line f.status_is (went_on r.records (Some (failed.Fault Memory)) r.went) r.sound r.clear
+      run_done (Some (failed.Fault Usage)) r f = done_other (failed.Fault Usage) r.records r.whole r.lines f.line r.lines.0.bytes r.lines.0.later f.line f.status_is (went_on r.records (Some (failed.Fault Usage)) r.went) r.sound r.clear
       run_done (Some (failed.Fault (BadScript line))) r f = done_other (failed.Fault (BadScript line)) r.records r.whole r.lines f.line r.lines.0.bytes r.lines.0.later f.line f.status_is
-          (went_on r.records (Some (failed.Fault (BadScript line))) r.went) r.sound
+          (went_on r.records (Some (failed.Fault (BadScript line))) r.went) r.sound r.clear
       run_done (Some (failed.Fault (BadParams field))) r f = done_other (failed.Fault (BadParams field)) r.records r.whole r.lines f.line r.lines.0.bytes r.lines.0.later f.line f.status_is
-          (went_on r.records (Some (failed.Fault (BadParams field))) r.went) r.sound
-      run_done (Some (failed.Fault NotStore)) r f = done_other (failed.Fault NotStore) r.records r.whole r.lines f.line r.lines.0.bytes r.lines.0.later f.line f.status_is (went_on r.records (Some (failed.Fault NotStore)) r.went) r.sound
+          (went_on r.records (Some (failed.Fault (BadParams field))) r.went) r.sound r.clear
+      run_done (Some (failed.Fault NotStore)) r f = done_other (failed.Fault NotStore) r.records r.whole r.lines f.line r.lines.0.bytes r.lines.0.later f.line f.status_is (went_on r.records (Some (failed.Fault NotStore)) r.went) r.sound r.clear
       run_done (Some (failed.Fault (Damaged cell check kept computed))) r f = done_other (failed.Fault (Damaged cell check kept computed)) r.records r.whole r.lines f.line r.lines.0.bytes r.lines.0.later f.line f.status_is
-          (went_on r.records (Some (failed.Fault (Damaged cell check kept computed))) r.went) r.sound
+          (went_on r.records (Some (failed.Fault (Damaged cell check kept computed))) r.went) r.sound r.clear
       run_done (Some (failed.Fault (StoreFault unsure))) r f = done_other (failed.Fault (StoreFault unsure)) r.records r.whole r.lines f.line r.lines.0.bytes r.lines.0.later f.line f.status_is
-          (went_on r.records (Some (failed.Fault (StoreFault unsure))) r.went) r.sound
+          (went_on r.records (Some (failed.Fault (StoreFault unsure))) r.went) r.sound r.clear
       run_done (Some (failed.Fault (StashFull rows))) r f = done_other (failed.Fault (StashFull rows)) r.records r.whole r.lines f.line r.lines.0.bytes r.lines.0.later f.line f.status_is
-          (went_on r.records (Some (failed.Fault (StashFull rows))) r.went) r.sound
-      run_done (Some (failed.Fault (Worn number))) r f = done_other (failed.Fault (Worn number)) r.records r.whole r.lines f.line r.lines.0.bytes r.lines.0.later f.line f.status_is (went_on r.records (Some (failed.Fault (Worn number))) r.went) r.sound
-      run_done (Some (failed.Fault SourceFault)) r f = done_other (failed.Fault SourceFault) r.records r.whole r.lines f.line r.lines.0.bytes r.lines.0.later f.line f.status_is (went_on r.records (Some (failed.Fault SourceFault)) r.went) r.sound
+          (went_on r.records (Some (failed.Fault (StashFull rows))) r.went) r.sound r.clear
+      run_done (Some (failed.Fault (Worn number))) r f = done_other (failed.Fault (Worn number)) r.records r.whole r.lines f.line r.lines.0.bytes r.lines.0.later f.line f.status_is (went_on r.records (Some (failed.Fault (Worn number))) r.went) r.sound r.clear
+      run_done (Some (failed.Fault SourceFault)) r f = done_other (failed.Fault SourceFault) r.records r.whole r.lines f.line r.lines.0.bytes r.lines.0.later f.line f.status_is (went_on r.records (Some (failed.Fault SourceFault)) r.went) r.sound r.clear
 
   pub format_done : {S : Type 0} (disk : S → Disk) (tape : Given) (keys : Keys) (p : Params) (old new : S) (before mid after : Outside) (t u : Trace) (status : ℕ) (err : Option RunErr) → FormatEnds store life disk tape keys p old new before.output mid.output t u err
       → ((disk old).tells → LeavesOnly (disk old) (disk new) (store.format_leaves keys p tape.words (disk old))) → mid.input ≡ before.input → after.input ≡ mid.input

@@ -58,7 +58,7 @@ use Rattle.ob_top.specs.Sound.{StandsOn}
 use Rattle.ob_top.specs.Top.{ByTrace}
 use Rattle.ob_top.proofs.Completing.{RunTells, rose_added}
 use Rattle.ob_top.proofs.Counted.{one_lanes}
-use Rattle.ob_top.proofs.Living.{whole_lives}
+use Rattle.ob_top.proofs.Living.{whole_clear, whole_lives}
 use Rattle.ob_top.proofs.Lasting.{fresh_on, idle_at, leads_on, past_on, opened_there, opened_turn, stopped_next}
 
 no_rise : Rose 0 0 → ⊥
@@ -193,7 +193,10 @@ module _ {S : Type 0} (disk : S → Disk) (keys : Keys) (call : RunCall S) (t u 
           cause = cause_of r.between r.midway written r.faults r.opening_shown.faults p r.found (shapes asked) (end_point (length r.serving.records) r.serving.traced) err line r.serving.cause;
           filled = (r.serving.in_generation, opened_in_life, w.goes.shown, record { first = l.first; shown = l.shown });
           fresh = (past_on p past stood.is_past (made ++ l.made) life_made (w.turn_left at.content opened_at.content) small_made, fresh_on p past stood.is_past (made ++ l.made) life_made (w.turn_left at.content opened_at.content));
-          pads = whole_lives disk keys call.old r.between call.new r.sealing (map (λ s. s.1) asked) r.serving.goes r.begun r.serving.seals_on;
+          pads = λ tells. (
+            whole_lives disk keys call.old r.between call.new r.sealing r.serving.goes r.begun (map (λ s. s.1) asked) r.serving.traced.behind.seals r.serving.seals_on tells,
+            whole_clear disk keys call.old r.between call.new r.sealing r.serving.goes r.begun err r.serving.clear tells,
+          );
           again = (next_there, λ none. (r.serving.tells none (r.durable stood.tells.0).0, goes.leaves.0 stood.tells.1));
         }
 

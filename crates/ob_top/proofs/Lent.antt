@@ -1,6 +1,6 @@
 -- What serving a script does to the store that a ring vault was lent, where the vault's words are those of what it runs with.
 use Rattle.std.specs.Borrow.{GName}
-use Rattle.std.proofs.Common.{false, ◌≡◌, ◌∙◌, ◌∷◌, ◌<◌, ◌≤◌, ◌^◌, ℕ, suc, Bool, List, [], Result, sym, ap, subst}
+use Rattle.std.proofs.Common.{false, ◌≡◌, ◌∙◌, ◌∷◌, ◌++◌, ◌<◌, ◌≤◌, ◌^◌, ℕ, suc, Bool, List, [], Option, Result, map, sym, ap, subst}
 use Rattle.std.proofs.lemmas.List.Elements.{All-weaker}
 use Rattle.ob_base.specs.declared.params.Params.{Params}
 use Rattle.ob_io.specs.Streams.{Flow}
@@ -15,15 +15,20 @@ use Rattle.ob_serial.specs.Vaults.{DoubtBy, End, Ended, Fetch, RefusedBy, Standi
 use Rattle.ob_fetch.specs.declared.run.Run.{Run}
 use Rattle.ob_stand.specs.Stands.{StandsRing}
 use Rattle.ob_recover.specs.declared.found.Found.{Found}
-use Rattle.ob_pads.proofs.Chains.{chain_runs}
-use Rattle.ob_pads.specs.Lives.{Opens}
+use Rattle.ob_pads.proofs.Chains.{numbered_runs, told_first}
+use Rattle.ob_pads.specs.Lives.{Answers, LivesTo, Opens}
 use Rattle.ob_vault.specs.RingVaults.{HasPlanned, RingHolds, RingSound, Running, lent_both}
 use Rattle.ob_vault.proofs.SealCalls.{is_act}
 use Rattle.ob_vault.proofs.Tapes.{tapes_stay}
 use Rattle.ob_vault.specs.Kinds.{opened_with}
 use Rattle.ob_vault.proofs.Begun.{held_with, holds_found, ring_begins_sound, ring_begun}
 use Rattle.ob_vault.specs.RingKind.{GoesOnFrom, RingFound, ring_kind}
+use Rattle.ob_vault.proofs.Calling.{RingBehind}
+use Rattle.ob_vault.specs.Hidden.{RingHidden}
 use Rattle.ob_vault.specs.RingSteps.{HasRingWords}
+use Rattle.ob_vault.specs.Seen.{RingPublic}
+use Rattle.ob_vault.specs.Shapes.{Shape}
+use Rattle.ob_store.specs.declared.watch.Note.{Note}
 use Rattle.ob_vault.specs.Lives.{ring_lives}
 use Rattle.ob_script.specs.Script.{ScriptTxn, Scripts, AreSound, asks_by}
 use Rattle.ob_runner.proofs.Scripted.{is_its_script}
@@ -40,10 +45,11 @@ use Rattle.ob_run.specs.Threaded.{RunsBy}
 use Rattle.ob_outcomes.proofs.Whole.{RunsScripts}
 use Rattle.ob_conduct.specs.Records.{AreAnswered}
 use Rattle.ob_top.specs.Endings.{err_of}
-use Rattle.ob_top.specs.Runs.{ServedOver}
-use Rattle.ob_top.specs.Parts.{manner}
+use Rattle.ob_top.specs.Runs.{LivesBehind, ServedOver}
+use Rattle.ob_top.specs.Parts.{IsInClearBehind, manner}
 use Rattle.ob_top.proofs.Opens.{may_open}
 use Rattle.ob_conduct.specs.Acts.{calls}
+use Rattle.ob_top.proofs.Clearing.{Parted, all_served, none_served, rest_clear, served_clear}
 use Rattle.ob_top.proofs.RingServing.{IsRingLender, ring_serves, told_by}
 use Rattle.ob_top.proofs.Serving.{CallsBehind}
 
@@ -101,6 +107,28 @@ module _ {V S : Type 0} (k : Kind V) (disk : S → Disk) (counts_now : (x : S) (
   told_on v w ((End writes, RefusedBy fault) ∷ steps) chain all told = absurd all
   told_on v w ((End writes, DoubtBy fault) ∷ steps) chain all told = absurd all
 
+  acts : (v w : V) (call : VaultCall) (answer : VaultAnswer) (notes : List Note) → k.called v call answer notes w → (disk_of w).tells → Answers (disk_of v) (disk_of w) ((runs v).run).sealer ((runs w).run).sealer answer
+  acts v w call answer notes does told = is_act disk (runs v) (runs w) notes (λ image left. only_now (runs v).store image left) call answer (words.called v call answer notes w does) told
+
+  -- so many seals were made by then
+  abbrev Sealed : RingHidden → V → Type 0
+  Sealed h v = (q : RingPublic) × (so_far : List Shape) × (n : ℕ) × RingBehind k disk runs words keys most p f (disk (runs first).store) q h so_far n v
+
+  numbered : (w : V) (asked : List (VaultCall × VaultAnswer)) (h : RingHidden) (err : Option RunErr) → Parted k first w asked err (Sealed h) → LivesBehind disk keys f.run.sealer (runs first).store (runs w).store (map (λ s. s.1) asked) h.seals
+  numbered w asked h err part = λ old opens tells.
+      subst (λ (l : List (VaultCall × VaultAnswer)). LivesTo disk keys old (runs w).store (map (λ s. s.1) l) h.seals) part.are
+      (subst (λ (n : ℕ). LivesTo disk keys old (runs w).store (map (λ s. s.1) (part.front ++ part.rest)) n) part.is_at.3.sealed
+      (numbered_runs k disk (λ v. (runs v).store) (λ v. ((runs v).run).sealer) acts keys old first part.mid w part.front part.rest tells
+      (λ told. subst (λ (s : Sealing). Opens keys (disk old) (disk_of first) s) (sym (ap (λ (r : Run). r.sealer) run_is)) (opens told))
+      part.called (all_served part.front part.answered) part.more (none_served part.rest err part.cut)))
+
+  clear : (w : V) (asked : List (VaultCall × VaultAnswer)) (h : RingHidden) (err : Option RunErr) → Parted k first w asked err (Sealed h) → (disk_of w).tells → IsInClearBehind keys (disk_of first) (disk_of w) err
+  clear w asked h err part tells =
+      let keyed : ((runs first).run).sealer.keys ≡ keys = ap (λ (r : Run). r.sealer.keys) run_is ∙ ap (λ (x : Sealing). x.keys) goes.sealer in
+      let told = told_first k disk (λ v. (runs v).store) (λ v. ((runs v).run).sealer) acts keys part.mid w part.rest tells part.more in
+      let (front, now) = served_clear k disk (λ v. (runs v).store) (λ v. ((runs v).run).sealer) acts keys first part.mid part.front told part.called (all_served part.front part.answered) keyed in
+      rest_clear k disk (λ v. (runs v).store) (λ v. ((runs v).run).sealer) acts keys (disk_of first) part.mid w front now tells part.rest err part.more part.cut
+
   lender : IsRingLender k disk counts_now only_now runs words keys most p f first
   lender = record {
     faults = λ v. ap (λ (x : Disk). x.faults) (lent.disk_is v).2;
@@ -116,10 +144,7 @@ module _ {V S : Type 0} (k : Kind V) (disk : S → Disk) (counts_now : (x : S) (
     sound = λ at tells settled opened. lent.sound first (opened_with p f.run.left at) (subst (λ (r : Run). RingSound r (disk_of first) (opened_with p f.run.left at)) (sym run_is) (ring_begins_sound disk keys p f at (runs first).store goes.serving opened));
     stays = λ w steps called. tapes_stay k disk runs words first w steps called ∙ present_is;
     told = λ w steps called all. told_on first w steps called all;
-    lives = λ w steps called. λ old opens tells.
-        chain_runs k disk (λ v. (runs v).store) (λ v. (runs v).run.sealer)
-        (λ v w call answer notes does told. is_act disk (runs v) (runs w) notes (λ image left. only_now (runs v).store image left) call answer (words.called v call answer notes w does) told)
-        keys old first w steps tells (λ told. subst (λ (s : Sealing). Opens keys (disk old) (disk_of first) s) (sym (ap (λ (r : Run). r.sealer) run_is)) (opens told)) called;
+    seals = λ w asked h err part. (numbered w asked h err part, clear w asked h err part);
   }
 
 -- a run that was conducted over a vault that was just made of an opening

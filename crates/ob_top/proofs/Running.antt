@@ -13,7 +13,6 @@ use Rattle.ob_io.specs.Streams.{Flow}
 use Rattle.ob_store.specs.Disk.{Clock, Disk, Image, NotAfter}
 use Rattle.ob_store.specs.Images.{LeavesOnly, IsSynced}
 use Rattle.ob_serial.specs.Vaults.{Standing}
-use Rattle.ob_pads.specs.Lives.{LivesOn}
 use Rattle.ob_recover.specs.Telling.{ArePhasesMade}
 use Rattle.ob_vault.specs.Shapes.{refused}
 use Rattle.ob_vault.specs.Keeping.{AreStandingLaws}
@@ -25,9 +24,10 @@ use Rattle.ob_store.specs.declared.watch.Note.TheVariants as note
 use Rattle.ob_serial.specs.Serial.{EpochRecord}
 use Rattle.ob_script.specs.Script.{Scripts}
 use Rattle.ob_top.specs.Outside.{Given, Outside, outside}
-use Rattle.ob_top.specs.Runs.{EndsEarly, beginning_notes, IsReadAndOpened, ServedOver, Ran, Went, RunOn, ShownBehindHead}
+use Rattle.ob_top.specs.Runs.{EndsEarly, beginning_notes, IsReadAndOpened, LivesUnserved, ServedOver, Ran, Went, RunOn, ShownBehindHead}
 use Rattle.ob_top.specs.Parts.{Manner, IsOpened, begin_phases}
 use Rattle.ob_top.proofs.Lines.{Stand, stand_all, stand_unless}
+use Rattle.ob_top.proofs.Living.{whole_clear}
 use Rattle.ob_top.proofs.Sounding.{early_sound, ran_sound}
 
 -- the output is no cause of a head's or an opening's refusal
@@ -50,14 +50,15 @@ module _ (store : StoreKind) (quiet : IsQuiet store) (life : LifeWords store) wh
 
   pub ended_early : (laws : AreStandingLaws store) {S : Type 0} (disk : S → Disk)
       (counts_now : (x : S) (t : Clock) (c : Image) → NotAfter t (disk x).moment → (disk x).may_leave c → (disk x).left_since t c) (by : Manner) (tape : Given) (keys : Keys) (old new : S) (t u : Trace) (before after output : Flow) (err : RunErr)
-      → EndsEarly store life keys by.lanes (disk old) (disk new) t u disk before after err → ((disk new).tells → LivesOn disk keys old new [])
+      → EndsEarly store life keys by.lanes (disk old) (disk new) t u disk before after err → ((disk new).tells → LivesUnserved disk keys old new)
       → RunOn store life disk by tape keys old new
       (outside before output) (outside after output) t u (Some err)
   ended_early laws disk counts_now by tape keys old new t u before after output err early lives = record {
     records = [];
     whole = (early_stand disk keys by.lanes (disk old) (disk new) t u before after output err early).0;
     lines = (early_stand disk keys by.lanes (disk old) (disk new) t u before after output err early).1;
-    went = inl (refl, early, lives);
+    went = inl (refl, early, λ tells. (lives tells).0);
+    clear = λ tells. (lives tells).1;
     sound = early_sound store laws life disk counts_now keys old new by.lanes t u before after err early;
   }
 
@@ -110,4 +111,5 @@ module _ (store : StoreKind) (quiet : IsQuiet store) (life : LifeWords store) wh
         lines = s.lines;
         went = went_of disk by tape keys old new (outside input output) (outside input_new output_new) t u s.records err its;
         sound = ran_sound store laws life disk counts_now keys old new by tape (outside input output) (outside input_new output_new) t u s.records err its;
+        clear = whole_clear disk keys old between new sealing s.goes begun err s.clear;
       }

@@ -58,10 +58,12 @@ use Rattle.ob_outcomes.proofs.Whole.{RunsScripts, is_served, its_acts, its_desk,
 use Rattle.ob_desk.specs.Beats.{BeatKind}
 use Rattle.ob_top.specs.Endings.{err_of, told_fault}
 use Rattle.ob_top.specs.Outside.{Given}
+use Rattle.ob_pads.specs.Laws.{NoneServed}
+use Rattle.ob_top.proofs.Clearing.{Parted}
 use Rattle.ob_top.proofs.Listing.{are_listed}
 use Rattle.ob_top.proofs.Lines.{lines_stand, next_by_acts}
 use Rattle.ob_top.specs.Runs.{ListsActs, EachShown, EndsFor, IsShownToWatch, refused_row, steps_rows, IsLeftOnDisk, ServedOver, LivesBehind}
-use Rattle.ob_top.specs.Parts.{Manner, manner, EndsWith, IsTraced, StagedFrom, IsNextEpoch, ComesNext}
+use Rattle.ob_top.specs.Parts.{IsInClearBehind, Manner, manner, EndsWith, IsTraced, StagedFrom, IsNextEpoch, ComesNext}
 
 -- an end that was refused ended nothing
 none_ended : (writes : List (ℕ × Option (List ℕ))) (refused : EndErr) → ended_by (End writes, end_answer (Err refused)) ≡ []
@@ -207,6 +209,10 @@ module _ {V S : Type 0} (k : Kind V) (store : StoreKind) (disk : S → Disk) (st
   none_more [] call answer none = append-nil (ended_by (call, answer)) ∙ none
   none_more (step ∷ front) call answer none = ap (λ l. ended_by step ++ l) (none_more front call answer none)
 
+  -- this is hidden in the vault
+  abbrev pub Hides : store.Hidden → V → Type 0
+  Hides h v = (q : store.Public) × (so_far : List Shape) × (n : ℕ) × At q h so_far n v
+
   module _ (first last : V) (t u : Trace) (unbroken : t.broken ≡ false) (before after : Flow) (records : List (EpochRecord ℕ)) (begun : At (store.public p found) (store.hidden p found) [] 0 first) where
     abbrev old_disk : Disk
     old_disk = disk (store_of first)
@@ -222,6 +228,7 @@ module _ {V S : Type 0} (k : Kind V) (store : StoreKind) (disk : S → Disk) (st
       pub cause : EndsFor store under p found (disk (store_of start)) traced.behind (shapes asked) (length records) (refused asked) (tape_of last).words (disk (store_of first)) (disk (store_of last)) before after t u err
       pub seen : Notes events (disk (store_of first)).seen (disk (store_of last)).seen
       pub goes_on : life.goes_on under most p found (disk (store_of start)) (answered asked) traced.steps traced.behind (refused asked) (tape_of last).words traced.more (disk (store_of last))
+      pub parted : Parted k first last asked err (Hides traced.behind)
 
     -- what was seen of a last call, and what was shown
     abbrev Cut : (q : store.Public) (h : store.Hidden) (one : Option VaultCall) (fault : Option Fault) → List Event → List Note → Type 0
@@ -263,6 +270,17 @@ module _ {V S : Type 0} (k : Kind V) (store : StoreKind) (disk : S → Disk) (st
           goes_on = subst (λ (o : Option VaultCall). life.goes_on under most p found (disk (store_of start)) (answered asked) b.taken b.kept o (tape_of last).words [] (disk (store_of last))) (sym none)
               (at_rest (answered asked) b.taken (public_behind store p (store.public p found) b.taken) b.kept (shapes asked) (0 + length (ended_of asked)) last b.drawn b.at []);
           seen = subst (λ (l : List Event). Notes l (disk (store_of first)).seen (disk (store_of last)).seen) (sym (append-nil b.seen.events)) b.seen.noted;
+          parted = record {
+            front = asked;
+            rest = [];
+            mid = last;
+            are = append-nil asked;
+            called = called k first t asked notes last u chain;
+            answered = all;
+            is_at = (public_behind store p (store.public p found) b.taken, shapes asked, 0 + length (ended_of asked), b.at);
+            more = refl;
+            cut = tt;
+          };
         }
 
     module _ (faults : (v : V) → (k.disk v).faults ≡ (disk (store_of v)).faults) where
@@ -287,11 +305,11 @@ module _ {V S : Type 0} (k : Kind V) (store : StoreKind) (disk : S → Disk) (st
 
       -- a last call was refused with this fault, behind others that were answered
       cut_short : (front : List (VaultCall × VaultAnswer)) (call : VaultCall) (answer : VaultAnswer) (fault : Fault) (notes : List Note) → AllNoted k first t (front ++ (call, answer) ∷ []) notes last u → AreAnswered front → AreWritten (ended_of front) records
-          → refused ((call, answer) ∷ []) ≡ Some call → shapes ((call, answer) ∷ []) ≡ [] → answered ((call, answer) ∷ []) ≡ []
+          → refused ((call, answer) ∷ []) ≡ Some call → shapes ((call, answer) ∷ []) ≡ [] → answered ((call, answer) ∷ []) ≡ [] → NoneServed ((call, answer) ∷ [])
           → ((q : store.Public) (h : store.Hidden) (so_far : List Shape) (n : ℕ) (v : V) (w : V) → At q h so_far n v → (one : Called k v call answer w)
           → Stops store under most p found (disk (store_of start)) (disk (store_of v)) (disk (store_of w)) (tape_of w).words q h so_far n call fault one.notes)
           → (IsStoreFault fault → Rose (k.disk first).faults (k.disk last).faults) → Ending (front ++ (call, answer) ∷ []) (Some (failed.Fault fault))
-      cut_short front call answer fault notes chain all wrote is none none_answered stops cause =
+      cut_short front call answer fault notes chain all wrote is none none_answered unserved stops cause =
           let (mid, between, front_notes, own, before_last, (one, own_is, whole, own_shown), joined) = split first t front call answer notes last u chain in
           let b = behind (store.public p found) (store.hidden p found) [] 0 first t front front_notes mid between begun before_last all in
           let q = public_behind store p (store.public p found) b.taken in
@@ -330,6 +348,17 @@ module _ {V S : Type 0} (k : Kind V) (store : StoreKind) (disk : S → Disk) (st
                 (subst (λ (o : Option VaultCall). life.goes_on under most p found (disk (store_of start)) (answered front) b.taken b.kept o (tape_of last).words s.more (disk (store_of last))) (sym was_cut)
                 (at_stop (answered front) b.taken q b.kept (shapes front) (0 + length (ended_of front)) mid b.drawn b.at call answer last one fault s.more s.cut s.shown));
             seen = joined_seen b.seen.events s.more _ _ _ b.seen.noted s.seen;
+            parted = record {
+              front = front;
+              rest = (call, answer) ∷ [];
+              mid = mid;
+              are = refl;
+              called = called k first t front front_notes mid between before_last;
+              answered = all;
+              is_at = (q, shapes front, 0 + length (ended_of front), b.at);
+              more = (last, one, refl);
+              cut = unserved;
+            };
           }
         where
           none_before : (m : ℕ) → 0 + m ≡ m
@@ -338,12 +367,12 @@ module _ {V S : Type 0} (k : Kind V) (store : StoreKind) (disk : S → Disk) (st
       -- a refused batch, and a refused end
       by_fetch : (front : List (VaultCall × VaultAnswer)) (keys : List (Option ℕ)) (fault : Fault) (notes : List Note) → AllNoted k first t (front ++ (Fetch keys, RefusedBy fault) ∷ []) notes last u → AreAnswered front → AreWritten (ended_of front) records
           → (IsStoreFault fault → Rose (k.disk first).faults (k.disk last).faults) → Ending (front ++ (Fetch keys, RefusedBy fault) ∷ []) (Some (failed.Fault fault))
-      by_fetch front keys fault notes chain answered wrote cause = cut_short front (Fetch keys) (RefusedBy fault) fault notes chain answered wrote refl refl refl (λ q h so_far n v w at one. does q h so_far n v (Fetch keys) (RefusedBy fault) w at one) cause
+      by_fetch front keys fault notes chain answered wrote cause = cut_short front (Fetch keys) (RefusedBy fault) fault notes chain answered wrote refl refl refl tt (λ q h so_far n v w at one. does q h so_far n v (Fetch keys) (RefusedBy fault) w at one) cause
 
       by_end : (front : List (VaultCall × VaultAnswer)) (writes : List (ℕ × Option (List ℕ))) (refusal : EndErr) (notes : List Note) → AllNoted k first t (front ++ (End writes, end_answer (Err refusal)) ∷ []) notes last u → AreAnswered front → AreWritten (ended_of front) records
           → (IsStoreFault (fault_in refusal) → Rose (k.disk first).faults (k.disk last).faults) → Ending (front ++ (End writes, end_answer (Err refusal)) ∷ []) (Some (failed.Fault (fault_in refusal)))
-      by_end front writes (Before fault) notes chain answered wrote cause = cut_short front (End writes) (RefusedBy fault) fault notes chain answered wrote refl refl refl (λ q h so_far n v w at one. does q h so_far n v (End writes) (RefusedBy fault) w at one) cause
-      by_end front writes (Unsure fault) notes chain answered wrote cause = cut_short front (End writes) (DoubtBy fault) fault notes chain answered wrote refl refl refl (λ q h so_far n v w at one. does q h so_far n v (End writes) (DoubtBy fault) w at one) cause
+      by_end front writes (Before fault) notes chain answered wrote cause = cut_short front (End writes) (RefusedBy fault) fault notes chain answered wrote refl refl refl tt (λ q h so_far n v w at one. does q h so_far n v (End writes) (RefusedBy fault) w at one) cause
+      by_end front writes (Unsure fault) notes chain answered wrote cause = cut_short front (End writes) (DoubtBy fault) fault notes chain answered wrote refl refl refl tt (λ q h so_far n v w at one. does q h so_far n v (End writes) (DoubtBy fault) w at one) cause
 
       module _ (acts : List Act) (notes : List Note) (same : records_of_acts acts ≡ records) (chain : AllNoted k first t (calls acts) notes last u) (wrote : AreWritten (ended_of (calls acts)) records) where
         module _ (d e : DeskState) (err : RunErr) (f : Failure k (scene d first t) (scene e last u) acts before after err) where
@@ -410,7 +439,8 @@ module _ {V S : Type 0} (k : Kind V) (store : StoreKind) (disk : S → Disk) (st
     pub sound : (at : Standing) → (disk (store_of start)).tells → IsSynced (disk (store_of start)) → IsOpenedAt store under p at found (disk (store_of start)) → k.sound start (opened_with p (store.left p found) at)
     pub stays : (w : V) (steps : List (VaultCall × VaultAnswer)) → AllCalled k start steps w → (tape_of w).generation ≡ store.generation found
     pub told : (w : V) (steps : List (VaultCall × VaultAnswer)) → AllCalled k start steps w → AreAnswered steps → (disk (store_of start)).tells → (disk (store_of w)).tells
-    pub lives : (w : V) (steps : List (VaultCall × VaultAnswer)) → AllCalled k start steps w → LivesBehind disk under sealing (store_of start) (store_of w) (map (λ s. s.1) steps)
+    pub seals : (w : V) (asked : List (VaultCall × VaultAnswer)) (h : store.Hidden) (err : Option RunErr) → Parted k start w asked err (Hides h)
+        → LivesBehind disk under sealing (store_of start) (store_of w) (map (λ s. s.1) asked) (store.seals h) × ((disk (store_of w)).tells → IsInClearBehind under (disk (store_of start)) (disk (store_of w)) err)
 
   module _ {U : Type 0} (beat : BeatKind) (threads : Bool) (kind : RunnerKind U (List ScriptTxn))
       (means : RunsScripts kind)
@@ -536,6 +566,7 @@ module _ {V S : Type 0} (k : Kind V) (store : StoreKind) (disk : S → Disk) (st
           × IsShownToWatch store most p found (tape_of last).words (calls xs) (told_fault (err_of result)) events t trace end.scene.trace
           × life.goes_on under most p found (disk (store_of start)) (answered (calls xs)) t.steps t.behind (refused (calls xs)) (tape_of last).words t.more (disk (store_of last))
           × EndsFor store under p found (disk (store_of start)) t.behind (shapes (calls xs)) (length records) (refused (calls xs)) (tape_of last).words (disk (store_of start)) (disk (store_of last)) before after trace end.scene.trace (err_of result)
+          × LivesBehind disk under sealing (store_of start) (store_of last) (map (λ s. s.1) (calls xs)) (store.seals t.behind)
 
       -- the acts, as a list of the world's events
       listed : ListsActs store under p (disk (store_of start)) found script acts
@@ -550,7 +581,8 @@ module _ {V S : Type 0} (k : Kind V) (store : StoreKind) (disk : S → Disk) (st
           × CallsBehind k start (calls s.is_served.served.evidence.acts) last (err_of result)
       serves begun =
           let e = ending start last trace end.scene.trace unbroken before after records begun l.faults acts d.notes refl d.chain d.wrote base end.scene.desk runners end.runners result d.ends in
-          let told = subst (λ (xs : List Act). TracesLife xs e.events) acts_are (e.traced, e.shown, e.goes_on, e.cause) in
+          let (lives, clear) = l.seals last (calls acts) e.traced.behind (err_of result) e.parted in
+          let told = subst (λ (xs : List Act). TracesLife xs e.events) acts_are (e.traced, e.shown, e.goes_on, e.cause, lives) in
           let stand = lines_stand k begin end acts result d.ends in (
             record {
               records = records;
@@ -574,7 +606,8 @@ module _ {V S : Type 0} (k : Kind V) (store : StoreKind) (disk : S → Disk) (st
               goes = l.goes start last (goes_all k start trace (calls acts) d.notes last end.scene.trace d.chain);
               tells = still_told result d.ends;
               left = λ at tells settled opened. subst (λ (xs : List Act). IsLeftOnDisk store under p found at script records (err_of result) xs disk (disk (store_of start)) (disk (store_of last))) acts_are (left at tells settled opened);
-              seals_on = subst (λ (xs : List Act). LivesBehind disk under sealing (store_of start) (store_of last) (map (λ s. s.1) (calls xs))) acts_are (l.lives last (calls acts) chain);
+              seals_on = told.4;
+              clear = clear;
               goes_on = told.2;
             },
             calls_behind,

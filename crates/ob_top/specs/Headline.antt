@@ -8,7 +8,7 @@ use Rattle.ob_conduct.specs.Records.{contents}
 use Rattle.ob_conduct.specs.declared.run_err.RunErr.{RunErr}
 use Rattle.ob_io.specs.Flows.{appended}
 use Rattle.ob_outcomes.specs.Served.{ClientsServed, ClientsServedAll, IsServed}
-use Rattle.ob_pads.specs.Lives.{LivesOn}
+use Rattle.ob_pads.specs.Lives.{LivesTo}
 use Rattle.ob_recover.specs.Calls.{Finds}
 use Rattle.ob_recover.specs.Life.{LifeAct}
 use Rattle.ob_recover.specs.Telling.{ArePhasesMade}
@@ -38,7 +38,7 @@ use Rattle.ob_top.specs.Endings.{IsNextBy, told_fault}
 use Rattle.ob_top.specs.Listed.{AreListed}
 use Rattle.ob_top.specs.Outside.{Given}
 use Rattle.ob_top.specs.Pasts.{LeadsToAt, IsLifeFresh, IsPastLife, LeadsTo, PastLife, behind_run, life_of, opened_life, run_life}
-use Rattle.ob_top.specs.Parts.{EndsWith, IsNextEpoch, IsOpened, IsTraced, StagedFrom, begin_phases}
+use Rattle.ob_top.specs.Parts.{EndsWith, IsInClearBehind, IsNextEpoch, IsOpened, IsTraced, StagedFrom, begin_phases}
 
 -- The premises. The store tells what a read gives and what a crash leaves; whatever crashed, it stands for something; what was done with it
 -- since its format is one life, and it stands, at an epoch and a map, where that leads; and the tape gives its generation's words.
@@ -94,7 +94,8 @@ module _ {S : Type 0} (disk : S → Disk) (keys : Keys) (p : Params) (at : Stand
         × IsCutOff call.by.lanes p past.word_of (run_life p past run.shown) (end_point (length run.records) trace) run.cut run.flying
     -- So the life goes on, and in the whole of it no word is shown in two holes, nor a slot, and a hole that is shown again is filled as before.
     pub fresh : IsPastLife p (behind_run p past run.shown run.cut) × IsLifeFresh p (behind_run p past run.shown run.cut)
-    -- Its seals go on in the life of the store's pads, in which no pad is used twice (pads_are_fresh).
-    pub pads : (disk call.new).tells → LivesOn disk keys call.old call.new (map (λ s. s.1) (calls served.evidence.acts))
+    -- Its seals go on in the life of its pads, none used twice (pads_are_fresh); behind answered calls the next has the hidden number, as what is public
+    -- tells (seals_are_public). In the clear each cell of head and registers is as it was, or a register's; cut off, but for one whose write was refused.
+    pub pads : (disk call.new).tells → LivesTo disk keys call.old call.new (map (λ s. s.1) (calls served.evidence.acts)) trace.behind.seals × IsInClearBehind keys (disk call.old) (disk call.new) run.err
     -- And the next run may say all of this again, from each image that a crash leaves at the return; of moments before it prefix alone speaks.
     pub again : ((c : Image) → IsImageOf (disk call.new) c → (found : List LifeAct) × Finds run.flying found × LeadsTo keys p (behind_run p past run.shown (run.cut ++ found)) c) × (run.err ≡ None → (disk call.new).tells × (disk call.new).leaves)

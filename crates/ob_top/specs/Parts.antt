@@ -15,6 +15,8 @@ use Rattle.ob_serial.specs.Serial.{EpochRecord, Map, OneByOne, AreInOrder, commi
 use Rattle.ob_serial.specs.Vaults.{VaultCall, VaultAnswer, Standing, StandsIn}
 use Rattle.ob_schedule.specs.Phases.{Phase, Reads}
 use Rattle.ob_recover.specs.Telling.{AreDealt}
+use Rattle.ob_twin.specs.Clear.{AreInClear, AreInClearBut}
+use Rattle.ob_twin.specs.Keyed.{tagging}
 use Rattle.ob_vault.specs.Shapes.{Shape, answered, shapes, refused}
 use Rattle.ob_vault.specs.Kinds.{StoreKind}
 use Rattle.ob_vault.specs.KindShown.{AreDrawn, IsSeenCut, public_behind, steps_phases}
@@ -80,6 +82,12 @@ pub record Manner : Type 0 where
 
 abbrev pub manner : BeatKind → Bool → ℕ → Manner
 manner beat threads lanes = record { beat = beat; threads = threads; lanes = lanes }
+
+-- What stands in the clear behind a run: each cell of the head and of the registers is as it was, or has what a register writes there, byte
+-- by byte; where something cut the run off, but for one whose write the store refused.
+abbrev pub IsInClearBehind : Keys → (old new : Disk) → Option RunErr → Type 0
+IsInClearBehind keys old new None = AreInClear (tagging keys) old.cells new.cells
+IsInClearBehind keys old new (Some err) = AreInClearBut (tagging keys) new.seen old.cells new.cells
 
 -- The record is that of the next epoch: with it too each client's transactions are a front of its script's, and those that its close
 -- kept run one by one behind the committed ones, from each such map.

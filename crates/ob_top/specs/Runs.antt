@@ -16,7 +16,9 @@ use Rattle.ob_store.specs.declared.event.Event.{Event}
 use Rattle.ob_store.specs.declared.watch.Note.{Note}
 use Rattle.ob_store.specs.declared.watch.Note.TheVariants as note
 use Rattle.ob_store.specs.Lines.{Shows, Trace}
+use Rattle.ob_twin.specs.Clear.{AreInClear, AreInClearBut}
 use Rattle.ob_twin.specs.Got.{DoesReads}
+use Rattle.ob_twin.specs.Keyed.{tagging}
 use Rattle.ob_conduct.specs.declared.run_err.RunErr.{RunErr}
 use Rattle.ob_store.specs.declared.event.Event.TheVariants as event
 use Rattle.ob_store.specs.Disk.{Disk, Image}
@@ -25,7 +27,7 @@ use Rattle.ob_store.specs.Calls.{GoesOn, Keeps, Notes, IsStoreFault, NotesReads}
 use Rattle.ob_serial.specs.Serial.{EpochRecord, Map, OneByOne, committed_of}
 use Rattle.ob_serial.specs.Vaults.{VaultCall, VaultAnswer, VaultState, Standing, StandsIn}
 use Rattle.ob_recover.specs.Telling.{ArePhasesMade}
-use Rattle.ob_pads.specs.Lives.{Opens, LivesOn}
+use Rattle.ob_pads.specs.Lives.{Opens, LivesOn, LivesTo}
 use Rattle.ob_vault.specs.Shapes.{Shape, answered, shapes, refused}
 use Rattle.ob_vault.specs.KindLives.{LifeWords}
 use Rattle.ob_vault.specs.Openings.{OpensStanding}
@@ -43,7 +45,7 @@ use Rattle.ob_top.specs.Endings.{IsNextBy, LinesStand, told_fault}
 use Rattle.ob_top.specs.Listed.{AreListed}
 use Rattle.ob_top.specs.Outside.{Outside, ErrTold, Given, outside}
 use Rattle.ob_top.specs.Sound.{StandsOn}
-use Rattle.ob_top.specs.Parts.{begin_phases, IsTraced, CameIn, IsOpened, EndsWith, Manner, IsNextEpoch, StagedFrom}
+use Rattle.ob_top.specs.Parts.{begin_phases, IsTraced, CameIn, IsInClearBehind, IsOpened, EndsWith, Manner, IsNextEpoch, StagedFrom}
 
 -- What the watch is shown of the opening: the head's read, and the notes that the kind of store gives.
 abbrev pub beginning_notes : (store : StoreKind) → Params → store.Found → store.Start → List Note
@@ -222,10 +224,16 @@ pub record IsReadAndOpened {S : Type 0} (disk : S → Disk) (keys : Keys) (old n
   pub read : S
   pub head : (disk new).tells → LivesOn disk keys old read []
   pub opens : (disk new).tells → Opens keys (disk read) (disk new) sealing
+  pub clear : (disk new).tells → AreInClear (tagging keys) (disk old).cells (disk new).cells
 
--- Where an opening gave this sealer, the life of the store that was opened went on with calls that had these answers.
-abbrev pub LivesBehind : {S : Type 0} → (S → Disk) → Keys → Sealing → S → S → List VaultAnswer → Type 0
-LivesBehind {S} disk keys sealing opened new answers = (old : S) → ((disk opened).tells → Opens keys (disk old) (disk opened) sealing) → (disk new).tells → LivesOn disk keys old new answers
+-- Where nothing was run: no vault's call is in the store's life, and this stands in the clear.
+abbrev pub LivesUnserved : {S : Type 0} → (S → Disk) → Keys → S → S → Type 0
+LivesUnserved disk keys old new = LivesOn disk keys old new [] × AreInClearBut (tagging keys) (disk new).seen (disk old).cells (disk new).cells
+
+-- Where an opening gave this sealer, the life of the store that was opened went on with calls that had these answers; behind those that weren't
+-- refused the next seal has this number.
+abbrev pub LivesBehind : {S : Type 0} → (S → Disk) → Keys → Sealing → S → S → List VaultAnswer → (number : ℕ) → Type 0
+LivesBehind {S} disk keys sealing opened new answers number = (old : S) → ((disk opened).tells → Opens keys (disk old) (disk opened) sealing) → (disk new).tells → LivesTo disk keys old new answers number
 
 -- From a map that was found on, at the epoch that was, the acts are a list of the world's events.
 abbrev pub ListsActs : (store : StoreKind) → Keys → Params → (opened : Disk) → store.Found → Scripts → List Act → Type 0
@@ -253,7 +261,9 @@ pub record ServedOver (store : StoreKind) (life : LifeWords store) {S : Type 0} 
   -- unless there was a fault, cells are told where they were
   pub tells : err ≡ None → (disk old).tells → (disk new).tells
   pub left : (at : Standing) → (disk old).tells → IsSynced (disk old) → IsOpenedAt store keys p at found (disk old) → IsLeftOnDisk store keys p found at script records err is_served.served.evidence.acts disk (disk old) (disk new)
-  pub seals_on : LivesBehind disk keys sealing old new (map (λ s. s.1) (calls is_served.served.evidence.acts))
+  -- the next seal has the number that is hidden behind the calls that were answered
+  pub seals_on : LivesBehind disk keys sealing old new (map (λ s. s.1) (calls is_served.served.evidence.acts)) (store.seals traced.behind)
+  pub clear : (disk new).tells → IsInClearBehind keys (disk old) (disk new) err
   pub goes_on : life.goes_on keys by.lanes p found (disk old) (answered (calls is_served.served.evidence.acts)) traced.steps traced.behind (refused (calls is_served.served.evidence.acts)) tape.words traced.more (disk new)
 
 -- behind the run the tape has given this
@@ -302,6 +312,7 @@ module _ (store : StoreKind) (life : LifeWords store) {S : Type 0} (disk : S →
     pub lines : LinesStand err records whole before.output after.output
     pub went : Went keys old new before after t u records err
     pub sound : StandsOn store disk keys old new
+    pub clear : (disk new).tells → IsInClearBehind keys (disk old) (disk new) err
 
   -- What `run` has done with a store that was handed in.
   pub record RunDone (keys : Keys) (old new : S) (before after : Outside) (t u : Trace) (status : ℕ) : Type 0 where
@@ -321,3 +332,5 @@ module _ (store : StoreKind) (life : LifeWords store) {S : Type 0} (disk : S →
     -- how far it came, with this in the output
     pub went : Went keys old new before (outside after.input written) t u records err
     pub sound : StandsOn store disk keys old new
+    -- where the store tells its cells and calls, what stands in the clear
+    pub clear : (disk new).tells → IsInClearBehind keys (disk old) (disk new) err

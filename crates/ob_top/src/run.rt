@@ -6,7 +6,6 @@ ghost use Rattle.ob_io.specs.Streams.{inflow, outflow};
 ghost use Rattle.ob_store.specs.Calls.{GoesOn};
 ghost use Rattle.ob_store.specs.Images.{IsSynced, LeavesOnly};
 ghost use Rattle.ob_serial.specs.Vaults.{Standing};
-ghost use Rattle.ob_pads.specs.Lives.{LivesOn};
 ghost use Rattle.ob_vault.specs.Openings.{OpensStanding};
 ghost use Rattle.ob_vault.specs.Kinds.{Stands, AllStand, StandsAsBefore};
 ghost use Rattle.ob_recover.specs.declared.found.Found.{Found};
@@ -23,7 +22,7 @@ ghost use Rattle.ob_runner.specs.Turns.{IsScriptTurn};
 ghost use Rattle.ob_conduct.specs.Scenes.{scene, run_state, runner_kind};
 ghost use Rattle.ob_run.specs.Threaded.{RunsBy};
 ghost use Rattle.ob_serial.specs.VaultKinds.{kind_of};
-ghost use Rattle.ob_top.specs.Runs.{IsInputRefused, EndsEarly, IsReadAndOpened, ServedOver, RunOn};
+ghost use Rattle.ob_top.specs.Runs.{IsInputRefused, EndsEarly, IsReadAndOpened, LivesUnserved, ServedOver, RunOn};
 ghost use Rattle.ob_top.specs.Parts.{manner, CameIn};
 ghost use Rattle.ob_top.specs.Endings.{err_of};
 ghost use Rattle.ob_top.specs.Outside.{words_given, outside};
@@ -126,7 +125,7 @@ fn begin<R: Threads + Sync, S: Lanes, T: Tape, I: Source, W: Watch>(
     ensures opens { IfOk result (λ begun. IsReadAndOpened S.disk keys.now store.old store.new
         begun.opening.sealer) }
     ensures lives { (S.disk store.new).tells
-        → OnErr result (LivesOn S.disk keys.now store.old store.new []) }
+        → OnErr result (LivesUnserved S.disk keys.now store.old store.new) }
 {
     let params = match head(store, keys, watch) {
         Ok(params) => params,
