@@ -1,5 +1,5 @@
 -- The calls of a run, those that were answered and the one that cut it off: what they leave in the clear.
-use Rattle.std.proofs.Common.{◌≡◌, ◌∙◌, ℕ, List, [], ◌∷◌, ◌++◌, Option, Some, None, inl, refl, sym, ap, subst}
+use Rattle.std.proofs.Common.{◌≡◌, ◌∙◌, List, [], ◌∷◌, ◌++◌, Option, Some, None, inl, refl, sym, ap, subst}
 use Rattle.ob_conduct.specs.Records.{AreAnswered}
 use Rattle.ob_conduct.specs.declared.run_err.RunErr.{RunErr}
 use Rattle.ob_pads.proofs.Chains.{told_first}

@@ -36,6 +36,8 @@ use Rattle.ob_store.specs.Calls.{GoesOn}
 use Rattle.ob_store.specs.Disk.{Disk, Image}
 use Rattle.ob_store.specs.Images.{IsImageOf, LeavesOnly, Passes, Same}
 use Rattle.ob_store.specs.Lines.{Trace, open_line}
+use Rattle.ob_twin.specs.Clear.{AreInClearBut}
+use Rattle.ob_twin.specs.Keyed.{tagging}
 use Rattle.ob_vault.proofs.Standing.{ring_keeps}
 use Rattle.ob_vault.proofs.Whole.{reached_join, whole_run}
 use Rattle.ob_vault.specs.Acts.{AreBatchesSmall, AreTapeWords}
@@ -53,7 +55,7 @@ use Rattle.ob_top.specs.Outside.{ErrTold, Given, HasTrace, Outside, blind, outsi
 use Rattle.ob_top.specs.Pasts.{LeadsTo, PastLife, life_of, with_acts}
 use Rattle.ob_top.specs.Promised.{is_lacking, Promised, Unserved, faults_of, IsEarlyCause}
 use Rattle.ob_top.specs.Runs.{EndsEarly, EndsFor, IsLeftOnDisk, Ran, RunDone, Went}
-use Rattle.ob_top.specs.Parts.{EndsWith, IsNextEpoch, manner}
+use Rattle.ob_top.specs.Parts.{IsInClearBehind, EndsWith, IsNextEpoch, manner}
 use Rattle.ob_top.specs.Sound.{StandsOn}
 use Rattle.ob_top.specs.Top.{ByTrace}
 use Rattle.ob_top.proofs.Completing.{RunTells, rose_added}
@@ -219,6 +221,7 @@ module _ {S : Type 0} (disk : S → Disk) (keys : Keys) (call : RunCall S) (t u 
 
       abbrev Told : Fault → Type 0
       Told f = (call.status ≡ fault_status f) × IsPrinted call.before.output call.after.output (fault_line (Some f)) × IsEarlyCause disk p past call f
+          × ((disk call.new).tells → AreInClearBut (tagging keys) (disk call.new).seen (disk call.old).cells (disk call.new).cells)
 
       pub read_only : (f : Fault) → Told f → Passes Same (disk call.old) (disk call.new) → Unserved disk keys p past call
       read_only f said passes = record {
@@ -226,6 +229,7 @@ module _ {S : Type 0} (disk : S → Disk) (keys : Keys) (call : RunCall S) (t u 
         status_is = said.0;
         output = said.1;
         cause = said.2;
+        clear = said.3;
         opening = leaves_of Same (StandsAsBefore ring_kind keys p (disk call.old)) (StandsAsBefore ring_kind keys p (disk call.old)) (disk call.old) (disk call.new) passes (only_now call.old) left_so (λ tells. stands_so (disk call.old).cells stood.is_at.stands refl)
             (λ c d was same. subst (StandsAsBefore ring_kind keys p (disk call.old)) (sym same) was) (λ c was. was);
         sound = λ c may.
@@ -257,6 +261,7 @@ module _ {S : Type 0} (disk : S → Disk) (keys : Keys) (call : RunCall S) (t u 
               status_is = said.0;
               output = said.1;
               cause = said.2;
+              clear = said.3;
               opening = subst (λ (q : Params). LeavesOnly (disk call.old) (disk call.new) (StandsAsBefore ring_kind keys q (disk call.old))) same
                   (o.left at stood.tells.0 (subst (λ (q : Params). Stands ring_kind keys q (disk call.old).cells at) (sym same) stood.is_at.stands) (subst (λ (q : Params). AllStand ring_kind keys q (disk call.old)) (sym same) stood.sound));
               sound = images;
@@ -276,6 +281,7 @@ module _ {S : Type 0} (disk : S → Disk) (keys : Keys) (call : RunCall S) (t u 
               status_is = said.0;
               output = said.1;
               cause = said.2;
+              clear = said.3;
               opening = subst (λ (q : Params). LeavesOnly (disk call.old) (disk call.new) (StandsAsBefore ring_kind keys q (disk call.old))) same (o.left at stood.tells.0 stands (subst (λ (q : Params). AllStand ring_kind keys q (disk call.old)) (sym same) stood.sound));
               sound = images;
               again = λ there c may.
@@ -302,20 +308,21 @@ module _ {S : Type 0} (disk : S → Disk) (keys : Keys) (call : RunCall S) (t u 
   module _ (only_now : (x : S) (c : Image) → (disk x).left_since (disk x).moment c → (disk x).may_leave c) (includes_reads : (x : S) → (disk x).tells → (disk x).leaves → (disk x).may_leave (disk x).cells) (goes : GoesOn (disk call.old) (disk call.new))
       (p : Params) (at : Standing) (past : PastLife) (stood : Stood disk keys p at past call.tape call.old) (whole : t.broken ≡ false) where
     by_went : (records : List (EpochRecord ℕ)) (err : Option RunErr) (written : Flow) (line : ErrTold written call.after.output err) → Output includes_reads goes at past err written line records → StandsOn ring_kind disk keys call.old call.new
-        → Went ring_kind ring_lives disk call.by call.tape keys call.old call.new call.before (outside call.after.input written) t u records err → Promised disk keys p at past call
-    by_went records None written line output sound ran = by_run includes_reads goes at past None written line only_now records output sound p stood ran
-    by_went records (Some err) written line output sound (inr ran) = by_run includes_reads goes at past (Some err) written line only_now records output sound p stood ran
-    by_went records (Some err) written line output sound (inl (none, ended, lives)) =
+        → ((disk call.new).tells → IsInClearBehind keys (disk call.old) (disk call.new) err) → Went ring_kind ring_lives disk call.by call.tape keys call.old call.new call.before (outside call.after.input written) t u records err → Promised disk keys p at past call
+    by_went records None written line output sound clear ran = by_run includes_reads goes at past None written line only_now records output sound p stood ran
+    by_went records (Some err) written line output sound clear (inr ran) = by_run includes_reads goes at past (Some err) written line only_now records output sound p stood ran
+    by_went records (Some err) written line output sound clear (inl (none, ended, lives)) =
         let said = subst (λ (rs : List (EpochRecord ℕ)). IsPrinted call.before.output call.after.output (report decimal rs ++ fault_line (Some (fault_of err)))) none output.1 in
-        inr (early includes_reads goes at past (Some err) written line only_now p stood sound err (output.0, said, early_cause disk keys p at past call stood t u whole traced err ended) ended)
+        inr (early includes_reads goes at past (Some err) written line only_now p stood sound err (output.0, said, early_cause disk keys p at past call stood t u whole traced err ended, clear) ended)
 
     pub done_promised : RunDone ring_kind ring_lives disk call.by call.tape keys call.old call.new call.before call.after t u call.status → Promised disk keys p at past call
-    done_promised d = by_went d.records d.err d.written d.line (d.status_is, d.output_is, d.all_written) d.sound d.went
+    done_promised d = by_went d.records d.err d.written d.line (d.status_is, d.output_is, d.all_written) d.sound d.clear d.went
 
     -- nothing was done, and this told
     pub none_promised : (f : Fault) → IsOnlyTold f call.before call.after call.status → IsEarlyCause disk p past call f → call.new ≡ call.old → Promised disk keys p at past call
     none_promised f told cause same =
-        inr (read_only includes_reads goes at past None call.after.output refl only_now p stood f (told.status_is, told.printed, cause) (subst (λ (x : S). Passes Same (disk call.old) (disk x)) (sym same) (same_none (disk call.old))))
+        inr (read_only includes_reads goes at past None call.after.output refl only_now p stood f (told.status_is, told.printed, cause, λ tells cell low. inl (inl (ap (λ (x : S). (disk x).cells cell) same)))
+        (subst (λ (x : S). Passes Same (disk call.old) (disk x)) (sym same) (same_none (disk call.old))))
 
 -- ---- by the words
 

@@ -17,6 +17,8 @@ use Rattle.ob_seal.specs.declared.keys.Keys.{Keys}
 use Rattle.ob_serial.specs.Vaults.{Standing}
 use Rattle.ob_store.specs.Disk.{Disk, Image}
 use Rattle.ob_store.specs.Images.{LeavesOnly}
+use Rattle.ob_twin.specs.Clear.{AreInClearBut}
+use Rattle.ob_twin.specs.Keyed.{tagging}
 use Rattle.ob_vault.specs.Kinds.{AllStand, StandsAsBefore}
 use Rattle.ob_vault.specs.Lives.{opening_acts}
 use Rattle.ob_vault.specs.RingKind.{ring_kind}
@@ -48,6 +50,8 @@ pub record Unserved {S : Type 0} (disk : S → Disk) (keys : Keys) (p : Params) 
   pub cause : IsEarlyCause disk p past call fault
   pub opening : LeavesOnly (disk call.old) (disk call.new) (StandsAsBefore ring_kind keys p (disk call.old))
   pub sound : AllStand ring_kind keys p (disk call.new)
+  -- in the clear each cell of head and registers is as it was, or has what a register writes, but for one whose write the store refused
+  pub clear : (disk call.new).tells → AreInClearBut (tagging keys) (disk call.new).seen (disk call.old).cells (disk call.new).cells
   pub again : ((d : Image) → (disk call.old).may_leave d → StandsInLife keys p past.word_of (life_of p past) d) → (c : Image) → (disk call.new).may_leave c
       → (made : List LifeAct) × (rest : List LifeAct) × (opening_acts (life_of p past) ≡ made ++ rest) × LeadsTo keys p (with_acts past made) c
 
