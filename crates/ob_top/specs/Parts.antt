@@ -84,7 +84,8 @@ abbrev pub manner : BeatKind → Bool → ℕ → Manner
 manner beat threads lanes = record { beat = beat; threads = threads; lanes = lanes }
 
 -- What stands in the clear behind a run: each cell of the head and of the registers is as it was, or has what a register writes there, byte
--- by byte; where something cut the run off, but for one whose write the store refused.
+-- by byte. Where something cut the run off: but for one whose write the store refused, which was the last call; so where the store doesn't tell
+-- its calls, nothing is said there.
 abbrev pub IsInClearBehind : Keys → (old new : Disk) → Option RunErr → Type 0
 IsInClearBehind keys old new None = AreInClear (tagging keys) old.cells new.cells
 IsInClearBehind keys old new (Some err) = AreInClearBut (tagging keys) new.seen old.cells new.cells
