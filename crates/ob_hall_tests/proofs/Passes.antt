@@ -133,7 +133,7 @@ pub stopped : (hall : Hall) (before mid after : Pass) (d : DeskState) (calls : S
 stopped hall before mid after d calls f place unmade e l own idle stop other =
     let opened : Rounds = rounds_of (opening_of hall) in
     turned hall before mid after d calls place unmade e l own idle
-    (ap (λ (cs : Steps). (rounds_behind (opening_of hall).setup.params.batches opened cs).has_closed) stop ∙ ap (λ (b : Bool). (if b then opened else record opened { has_closed = false }).has_closed) other)
+    (ap (λ (cs : Steps). (rounds_behind (opening_of hall).setup.params.batches opened cs).has_closed) stop ∙ ap (λ (b : Bool). (if b then opened else record opened { has_closed = false; due = None }).has_closed) other)
 
 -- ---- passes that are taken out, and put back
 
