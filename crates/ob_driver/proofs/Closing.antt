@@ -1,5 +1,5 @@
 -- An epoch that is closed in one turn, and published in another, and one whose end, or a batch before it, was refused.
-use Rattle.std.proofs.Common.{◌≡◌, ◌∙◌, ◌≤◌, ◌-◌, ℕ, suc, true, false, All, List, [], ◌∷◌, ◌++◌, Option, None, Some, Err, refl, sym, ap, subst, append-nil, append_assoc, arith, decimal}
+use Rattle.std.proofs.Common.{◌≡◌, ◌∙◌, ◌≤◌, ◌-◌, ℕ, suc, true, All, List, [], ◌∷◌, ◌++◌, Option, Some, Err, refl, sym, ap, subst, append-nil, append_assoc, arith, decimal}
 use Rattle.std.proofs.lemmas.List.Elements.{All-nil, All-cons}
 use Rattle.ob_base.specs.declared.fault.Fault.{Fault}
 use Rattle.ob_base.specs.declared.fault.Fault.TheVariants.{SinkFault}
@@ -10,7 +10,6 @@ use Rattle.ob_serial.specs.Vaults.{VaultCall, VaultAnswer, Fetch, End, Ended, Re
 use Rattle.ob_serial.specs.VaultViews.{end_answer, IsEndFault}
 use Rattle.ob_serial.specs.VaultKinds.{Kind, ended_of}
 use Rattle.ob_desk.specs.Desk as desk
-use Rattle.ob_desk.specs.Desk.{DeskState, Call, Reply, published}
 use Rattle.ob_desk.specs.declared.calls.Look.{Look}
 use Rattle.ob_desk.specs.Beats.{BeatKind}
 use Rattle.ob_turn.specs.declared.bell.Heard.{Heard}

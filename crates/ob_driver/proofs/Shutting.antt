@@ -1,5 +1,5 @@
 -- An epoch that was closed in a turn, and what is told of its end in another, behind which clients had theirs.
-use Rattle.std.proofs.Common.{◌≡◌, ◌∙◌, ◌<◌, ◌+◌, ◌^◌, ℕ, suc, true, All, List, [], ◌∷◌, ◌++◌, Option, None, Some, Err, refl, sym, ap, subst, arith}
+use Rattle.std.proofs.Common.{◌≡◌, ◌∙◌, ◌<◌, ◌+◌, ◌^◌, ℕ, suc, true, All, List, [], ◌∷◌, ◌++◌, Option, None, Err, refl, sym, ap, subst, arith}
 use Rattle.std.specs.Option.{is_some}
 use Rattle.std.proofs.lemmas.Option.{same_Some}
 use mathlib.Core.List.{IsPrefix}
@@ -14,19 +14,19 @@ use Rattle.ob_serial.specs.VaultKinds.{Kind}
 use Rattle.ob_serial.specs.declared.vault.EndErr.{EndErr}
 use Rattle.ob_serial.specs.declared.vault.EndErr.TheVariants.{Before, Unsure}
 use Rattle.ob_desk.specs.Desk as desk
-use Rattle.ob_desk.specs.Desk.{DeskState, Part, MayCall, PublishStep, closing, record_of}
+use Rattle.ob_desk.specs.Desk.{DeskState, MayCall, PublishStep, closing, record_of}
 use Rattle.ob_turn.specs.declared.turn.Entry.{Entry}
 use Rattle.ob_turn.specs.TurnCalls.{TurnSeat}
 use Rattle.ob_turn.proofs.Prefixes.{prefix_self}
 use Rattle.ob_hall.specs.Passes.{Steps, Hall, Pass, opening_of, history_of, calls_in, IsPassOf, IsRaised, EntersTurn}
-use Rattle.ob_hall.specs.Rounds.{Rounds, ClosedEpoch, rounds_of, rounds_behind, StaysClosed}
+use Rattle.ob_hall.specs.Rounds.{Rounds, rounds_of, rounds_behind, StaysClosed}
 use Rattle.ob_hall.proofs.Staying.{closed_stays}
 use Rattle.ob_conduct.specs.declared.run_err.RunErr.TheVariants as failed
 use Rattle.ob_conduct.specs.Acts.{stop_for, fault_in}
 use Rattle.ob_conduct.specs.Scenes.{scene, Watched}
 use Rattle.ob_conduct.specs.Ready.{IsBetweenActs, IsDueRecord}
 use Rattle.ob_conduct.proofs.Closing.{store_end}
-use Rattle.ob_driver.specs.Resting.{params_of, rounds_by, ending, IsMild, IsDriver, IsEnding}
+use Rattle.ob_driver.specs.Resting.{params_of, rounds_by, ending, IsMild, IsDriver}
 use Rattle.ob_driver.specs.Turning.{MakesTurn}
 use Rattle.ob_driver.specs.Places.{MakesEntries}
 use Rattle.ob_driver.specs.Inside.{Ends, EndRefused}

@@ -6,7 +6,6 @@ use mathlib.Core.List.{IsPrefix}
 use Rattle.ob_desk.specs.Desk.{DeskState}
 use Rattle.ob_turn.specs.declared.turn.Entry.{Entry}
 use Rattle.ob_turn.specs.History.{entry}
-use Rattle.ob_turn.specs.TurnCalls.{TurnSeat}
 use Rattle.ob_turn.proofs.Prefixes.{prefix_self, prefix_trans}
 use Rattle.ob_hall.specs.Passes.{Steps, Hall, Pass, pass_place, history_of, entries_by, EntersTurn, NotesTurn, LeavesTurn, IsTurnBehind}
 use Rattle.ob_driver.specs.Turning.{NotesMore}
@@ -50,15 +49,8 @@ ends_from before now after made seen e = record {
   seen = e.seen ∙ ap (λ (es : List (Entry Steps)). es ++ e.turn ∷ []) seen;
 }
 
-pub ends_noted : (before now after : Pass) (calls : Steps) → NotesTurn before now calls → EndsItsTurn now after → EndsItsTurn before after
-ends_noted before now after calls n e = ends_from before now after (λ i. (n.notes.knows i).mine) (λ i. (n.notes.knows i).seen) e
-
 pub ends_notes : (before now after : Pass) (calls : Steps) → NotesMore before now calls → EndsItsTurn now after → EndsItsTurn before after
 ends_notes before now after calls n e = ends_from before now after n.made n.seen e
-
-pub ends_rung : (before now after : Pass) → now.seat ≡ before.seat → EndsItsTurn now after → EndsItsTurn before after
-ends_rung before now after seat e =
-    ends_from before now after (ap (λ (s : TurnSeat DeskState Steps). s.me.0.mine) seat) (ap (λ (s : TurnSeat DeskState Steps). s.me.0.seen) seat) e
 
 -- ---- entries that a pass made
 

@@ -7,7 +7,6 @@ use Rattle.ob_session.specs.Clients.{client_of}
 use Rattle.ob_turn.specs.declared.turn.Entry.{Entry}
 use Rattle.ob_turn.specs.declared.turn.View.{View}
 use Rattle.ob_turn.specs.History.{entry, IsAt, Reaches}
-use Rattle.ob_turn.specs.TurnCalls.{TurnSeat, IsInside}
 use Rattle.ob_turn.proofs.LongTurn.{one_more}
 use Rattle.ob_hall.specs.Turns.{IsBy, IsTurn}
 use Rattle.ob_hall.specs.Passes.{Steps, Hall, Pass, pass_place, entries_by, calls_in, own_calls, IsPassOf, NotesTurn, LeavesTurn}
@@ -66,27 +65,6 @@ turn_from before now after notes calls n m = record { turn = m.turn; made = m.ma
 -- the pass's calls are so much longer
 pub calls_longer : (before after : Pass) (calls : Steps) → MakesTurn before after calls → own_calls after ≡ own_calls before ++ calls
 calls_longer before after calls m = ap calls_in m.made ∙ (calls_append (entries_by before) (m.turn ∷ []) ∙ ap (λ (c : Steps). own_calls before ++ c) m.calls_are)
-
--- ---- a number raised within a turn
-
-abbrev TSeat : Type 0
-TSeat = TurnSeat DeskState Steps
-
-pub turn_rung : (hall : Hall) (before rung : Pass) (d : DeskState) → IsInTurn hall before d → rung.seat ≡ before.seat → IsPassOf hall rung → IsInTurn hall rung d
-turn_rung hall before rung d t seat own = record {
-  own = own;
-  place = ap (λ (s : TSeat). s.me.0.by) seat ∙ t.place;
-  inside = subst (λ (s : TSeat). IsInside s) (sym seat) t.inside;
-  value = subst (λ (s : TSeat). Reaches IsTurn s.me.0 d) (sym seat) t.value;
-}
-
-pub made_rung : (before rung after : Pass) (calls : Steps) → rung.seat ≡ before.seat → MakesTurn rung after (noted_by rung ++ calls) → MakesTurn before after (noted_by before ++ calls)
-made_rung before rung after calls seat m = record {
-  turn = m.turn;
-  made = m.made ∙ ap (λ (s : TSeat). s.me.0.mine ++ m.turn ∷ []) seat;
-  calls_are = m.calls_are ∙ ap (λ (s : TSeat). noted_calls s.me.0.noted ++ calls) seat;
-  place = m.place ∙ ap (λ (s : TSeat). s.me.0.by) seat;
-}
 
 -- ---- turns as acts
 
