@@ -8,3 +8,4 @@ pub mod Calling
 pub mod Wholes
 pub mod Fronts
 pub mod Cutting
+pub mod Betweens

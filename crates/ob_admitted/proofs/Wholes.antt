@@ -37,7 +37,7 @@ use Rattle.ob_admitted.proofs.Repeating.{openings_go}
 
 module _ (p : Params) (f : AllFills) (e records : ℕ) (gate : Bool) where
   -- at a batch of the epoch, of which these are repeated
-  abbrev turn_at : ℕ → HistoryTurn
+  abbrev pub turn_at : ℕ → HistoryTurn
   turn_at b = record { epoch = e; batch = b; records = records; gate = gate }
 
   turn_repeats : (b : ℕ) → b < records → b < p.batches → notes_of_turn p f (turn_at b) ≡ phase_of_fills p f e b
@@ -45,7 +45,7 @@ module _ (p : Params) (f : AllFills) (e records : ℕ) (gate : Bool) where
       ap (λ (c : Bool). cond c (notes_of_batch p f (turn_at b)) (notes_of_end p f (turn_at b))) (lt-ltb b p.batches low)
       ∙ ap (λ (c : Bool). cond c (phase_of_fills p f e b) (batch_notes p (public_in_epoch p f e b) (fills_at p f e) b)) (lt-ltb b records few)
 
-  turn_next : (b : ℕ) → b < p.batches → next_turn p (turn_at b) ≡ turn_at (b + 1)
+  pub turn_next : (b : ℕ) → b < p.batches → next_turn p (turn_at b) ≡ turn_at (b + 1)
   turn_next b low = ap (λ (c : Bool). cond c (turn_at (suc b)) (record { epoch = suc e; batch = 0; records = 0; gate = true })) (lt-ltb b p.batches low) ∙ ap turn_at (sym (add-one b))
 
   turns_repeat : (shown n b m : ℕ) → b + n ≤ records → records ≤ p.batches → notes_from p f (turn_at b) (n + m) shown ≡ flat_map (phase_of_fills p f e) (range_with_len b n) ++ notes_from p f (turn_at (b + n)) m shown

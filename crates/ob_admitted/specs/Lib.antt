@@ -6,3 +6,4 @@ pub mod Calls
 pub mod Wholes
 pub mod Fronts
 pub mod Cuts
+pub mod Between

@@ -1,5 +1,6 @@
 //! What fills the holes of all epochs of a life.
 
+ghost use Rattle.ob_admitted.specs.Between.{RunsLeaveHistories};
 ghost use Rattle.ob_admitted.specs.Calls.{CallsAreTurns};
 ghost use Rattle.ob_admitted.specs.Cuts.{CutOpeningsShowHistories, CutRunsShowHistories};
 ghost use Rattle.ob_admitted.specs.Fills.{LivesHaveFills};
@@ -62,4 +63,12 @@ pub fn cut_runs_show_histories()
 /// repeats, is a run of a public history with these fills, by what it found.
 pub fn cut_openings_show_histories()
     ensures { CutOpeningsShowHistories }
+{}
+
+/// What a run over such a life leaves to be found, by its acts and those that count of the call that
+/// was refused, a run of a public history may leave that has shown the same. Premises: of the refused
+/// call a record, or the epoch's end, is found only where the write was shown that opens its gate, and
+/// is where the sync behind that was; and gates are found as their writes and syncs leave them.
+pub fn runs_leave_histories()
+    ensures { RunsLeaveHistories }
 {}

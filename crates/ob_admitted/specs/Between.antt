@@ -1,0 +1,54 @@
+-- What a run of a life leaves to be found is what a history's run leaves.
+use Rattle.std.specs.Prelude.{◌≡◌, ◌≤◌, ◌<◌, ◌⊎◌, ℕ, ◌+◌, ◌-◌, Bool, true, List, [], ◌∷◌, Option, Some, None, length}
+use Rattle.std.proofs.Common.{suc}
+use Rattle.ob_base.specs.Tree.{width}
+use Rattle.ob_base.specs.declared.params.Params.{Params}
+use Rattle.ob_tables.specs.Rank.{IsRanking}
+use Rattle.ob_schedule.specs.Schedule.{Fills, record_notes}
+use Rattle.ob_recover.specs.Life.{WordId, LifeAct, LifeBatch, LifeState, Append, ShowBatch, ShowLifts, End as EndAct, IsLife, formatted_life, reached}
+use Rattle.ob_serial.specs.Vaults.{End, Fetch, VaultCall}
+use Rattle.ob_vault.specs.Shapes.{Shape}
+use Rattle.ob_vault.specs.Shown.{AreShownBy}
+use Rattle.ob_histories.specs.Fills.{AllFills}
+use Rattle.ob_histories.specs.Histories.{IsGateLeft, MayFind}
+use Rattle.ob_histories.specs.Runs.{HistoryTurn, RunFound, first_turn, notes_of_turn, turn_behind}
+use Rattle.ob_admitted.specs.Cuts.{state_behind}
+use Rattle.ob_admitted.specs.Repeats.{begin_acts}
+use Rattle.ob_admitted.specs.Wholes.{found_of_life, run_of_life}
+
+-- the first acts of the refused call, as far as the next run finds them made; without such a call there are none
+abbrev pub AreActsLeft : Option VaultCall → List LifeAct → Type 0
+AreActsLeft None more = more ≡ []
+AreActsLeft (Some (Fetch asks)) more = (more ≡ []) ⊎ ((r : LifeBatch) × ((more ≡ Append r ∷ []) ⊎ (more ≡ Append r ∷ ShowBatch ∷ [])))
+AreActsLeft (Some (End writes)) more =
+    ((more ≡ []) ⊎ (more ≡ ShowLifts ∷ [])) ⊎ ((ws : List (ℕ × Option WordId)) × (drawn : ℕ) × (slot : ℕ → ℕ → ℕ) × (more ≡ ShowLifts ∷ EndAct ws drawn slot ∷ []))
+
+-- it may come next: there is a batch left to be fetched, or none
+abbrev pub MayComeNext : Params → LifeState → Option VaultCall → Type 0
+MayComeNext p s None = Unit {0}
+MayComeNext p s (Some (Fetch asks)) = length s.log < p.batches
+MayComeNext p s (Some (End writes)) = length s.log ≡ p.batches
+
+-- The refused call showed so many notes. Its record is found only if the write that opens its gate was shown, and it is if the sync behind
+-- that was; the epoch's end likewise, and its register's gate is found as closing and opening it leave that. Else that gate stays.
+abbrev pub IsFoundAsShown : Params → AllFills → HistoryTurn → Option VaultCall → (count : ℕ) → RunFound → Type 0
+IsFoundAsShown p f t None count next = (count ≡ 0) × (next.epoch_gate ≡ t.gate)
+IsFoundAsShown p f t (Some (Fetch asks)) count next =
+    (next.records ≡ suc t.batch → length (record_notes p 0 t.batch) ≤ suc count) × (length (record_notes p 0 t.batch) ≤ count → next.records ≡ suc t.batch) × (next.epoch_gate ≡ t.gate)
+IsFoundAsShown p f t (Some (End writes)) count next =
+    (next.epoch ≡ suc t.epoch → (length (notes_of_turn p f t) ≤ suc count) × (next.epoch_gate ≡ true)) × (length (notes_of_turn p f t) ≤ count → next.epoch ≡ suc t.epoch)
+    × (next.epoch ≡ t.epoch → IsGateLeft t.gate (length (notes_of_turn p f t) - count) next.epoch_gate)
+
+-- the step of a history's run that comes behind a run's opening, its repeats and the calls that were answered
+abbrev pub turn_of_run : Params → LifeState → (ℕ → Bool) → List (Shape × Fills) → HistoryTurn
+turn_of_run p s found steps = turn_behind p (first_turn (found_of_life p s found)) (length s.log + length steps)
+
+-- A run of a life began its generation, whose gate stays open. What the next run finds, with the gates that it finds, is what the run leaves
+-- that this one shows.
+abbrev pub RunsLeaveHistories : Type 0
+RunsLeaveHistories = (p : Params) (word_of : WordId → ℕ) (f : AllFills) (s : LifeState) (found next : ℕ → Bool) (calls : List VaultCall) (steps : List (Shape × Fills)) (acts : List LifeAct) → length s.log ≤ p.batches
+    → IsLife p word_of (reached p word_of s (begin_acts s (suc s.generation))) acts → AreShownBy p word_of (reached p word_of s (begin_acts s (suc s.generation))) calls steps acts
+    → (refused : Option VaultCall) (count : ℕ) (more : List LifeAct) → MayComeNext p (state_behind p word_of s acts) refused → AreActsLeft refused more
+    → (found_of_life p (reached p word_of (state_behind p word_of s acts) more) next).generation_gate ≡ true
+    → IsFoundAsShown p f (turn_of_run p s found steps) refused count (found_of_life p (reached p word_of (state_behind p word_of s acts) more) next)
+    → MayFind p f (Some (record (run_of_life p s found steps) { shown = count })) (found_of_life p (reached p word_of (state_behind p word_of s acts) more) next)
