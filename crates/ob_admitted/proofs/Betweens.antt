@@ -33,7 +33,7 @@ record IsTurnOf (p : Params) (t : HistoryTurn) (s : LifeState) : Type 0 where
 -- ---- behind an opening and calls
 
 module _ (p : Params) (f : AllFills) (e records : ℕ) (gate : Bool) where
-  turns_pass : (n b m : ℕ) → b + n ≤ p.batches → turn_behind p (turn_at p f e records gate b) (n + m) ≡ turn_behind p (turn_at p f e records gate (b + n)) m
+  pub turns_pass : (n b m : ℕ) → b + n ≤ p.batches → turn_behind p (turn_at p f e records gate b) (n + m) ≡ turn_behind p (turn_at p f e records gate (b + n)) m
   turns_pass zero b m low = (let none : zero + m ≡ m = omega arith in let same : b ≡ b + zero = omega arith in λ i. turn_behind p (turn_at p f e records gate (same i)) (none i))
   turns_pass (suc n) b m low =
       let more : suc n + m ≡ suc (n + m) = omega arith in

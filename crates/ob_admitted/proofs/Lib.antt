@@ -9,3 +9,4 @@ pub mod Wholes
 pub mod Fronts
 pub mod Cutting
 pub mod Betweens
+pub mod Stopping

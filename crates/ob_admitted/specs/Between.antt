@@ -5,13 +5,14 @@ use Rattle.ob_base.specs.Tree.{width}
 use Rattle.ob_base.specs.declared.params.Params.{Params}
 use Rattle.ob_tables.specs.Rank.{IsRanking}
 use Rattle.ob_schedule.specs.Schedule.{Fills, record_notes}
-use Rattle.ob_recover.specs.Life.{WordId, LifeAct, LifeBatch, LifeState, Append, ShowBatch, ShowLifts, End as EndAct, IsLife, formatted_life, reached}
+use Rattle.ob_recover.specs.Life.{WordId, LifeAct, LifeBatch, LifeState, Append, Open, ShowBatch, ShowLifts, End as EndAct, IsLife, formatted_life, reached}
+use Rattle.ob_recover.specs.Calls.{repeated}
 use Rattle.ob_serial.specs.Vaults.{End, Fetch, VaultCall}
 use Rattle.ob_vault.specs.Shapes.{Shape}
 use Rattle.ob_vault.specs.Shown.{AreShownBy}
 use Rattle.ob_histories.specs.Fills.{AllFills}
 use Rattle.ob_histories.specs.Histories.{IsGateLeft, MayFind}
-use Rattle.ob_histories.specs.Runs.{HistoryTurn, RunFound, first_turn, notes_of_turn, turn_behind}
+use Rattle.ob_histories.specs.Runs.{HistoryTurn, RunFound, first_turn, notes_of_turn, opening_step, turn_behind}
 use Rattle.ob_admitted.specs.Cuts.{state_behind}
 use Rattle.ob_admitted.specs.Repeats.{begin_acts}
 use Rattle.ob_admitted.specs.Wholes.{found_of_life, run_of_life}
@@ -52,3 +53,30 @@ RunsLeaveHistories = (p : Params) (word_of : WordId → ℕ) (f : AllFills) (s :
     → (found_of_life p (reached p word_of (state_behind p word_of s acts) more) next).generation_gate ≡ true
     → IsFoundAsShown p f (turn_of_run p s found steps) refused count (found_of_life p (reached p word_of (state_behind p word_of s acts) more) next)
     → MayFind p f (Some (record (run_of_life p s found steps) { shown = count })) (found_of_life p (reached p word_of (state_behind p word_of s acts) more) next)
+
+-- ---- openings
+
+-- the first acts of an opening: none, or the generation, and so many repeats
+abbrev pub AreOpeningActs : LifeState → List LifeAct → Type 0
+AreOpeningActs s made = (made ≡ []) ⊎ ((repeats : ℕ) × (made ≡ Open (suc s.generation) ∷ repeated repeats))
+
+-- An opening showed so many notes. Its generation is found just where the sync behind the write that opens its gate was shown; until then that
+-- gate is found as closing and opening it leave it. The other register's gate stays.
+pub record IsOpeningFoundAsShown (p : Params) (f : AllFills) (found : RunFound) (count : ℕ) (next : RunFound) : Type 0 where
+  pub surely : length (opening_step p f found) ≤ count → next.generation ≡ suc found.generation
+  pub shown : next.generation ≡ suc found.generation → (length (opening_step p f found) ≤ count) × (next.generation_gate ≡ true)
+  pub gate : next.generation ≡ found.generation → IsGateLeft found.generation_gate (length (opening_step p f found) - count) next.generation_gate
+  pub epoch_gate : next.epoch_gate ≡ found.epoch_gate
+
+-- an opening that stopped before its repeats
+abbrev pub OpeningsLeaveHistories : Type 0
+OpeningsLeaveHistories = (p : Params) (word_of : WordId → ℕ) (f : AllFills) (s : LifeState) (found next : ℕ → Bool) (count : ℕ) (made : List LifeAct) → AreOpeningActs s made
+    → IsOpeningFoundAsShown p f (found_of_life p s found) count (found_of_life p (reached p word_of s made) next)
+    → MayFind p f (Some (record { found = found_of_life p s found; steps = 0; shown = count })) (found_of_life p (reached p word_of s made) next)
+
+-- and one that stopped within them, behind whole ones: its generation's gate stays open, and the other register's stays
+abbrev pub RepeatsLeaveHistories : Type 0
+RepeatsLeaveHistories = (p : Params) (word_of : WordId → ℕ) (f : AllFills) (s : LifeState) (found next : ℕ → Bool) (whole count repeats : ℕ) → whole < length s.log → length s.log ≤ p.batches
+    → (found_of_life p (reached p word_of s (Open (suc s.generation) ∷ repeated repeats)) next).generation_gate ≡ true
+    → (found_of_life p (reached p word_of s (Open (suc s.generation) ∷ repeated repeats)) next).epoch_gate ≡ (found_of_life p s found).epoch_gate
+    → MayFind p f (Some (record { found = found_of_life p s found; steps = suc whole; shown = count })) (found_of_life p (reached p word_of s (Open (suc s.generation) ∷ repeated repeats)) next)

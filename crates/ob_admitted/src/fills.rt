@@ -1,6 +1,10 @@
 //! What fills the holes of all epochs of a life.
 
-ghost use Rattle.ob_admitted.specs.Between.{RunsLeaveHistories};
+ghost use Rattle.ob_admitted.specs.Between.{
+  OpeningsLeaveHistories,
+  RepeatsLeaveHistories,
+  RunsLeaveHistories,
+};
 ghost use Rattle.ob_admitted.specs.Calls.{CallsAreTurns};
 ghost use Rattle.ob_admitted.specs.Cuts.{CutOpeningsShowHistories, CutRunsShowHistories};
 ghost use Rattle.ob_admitted.specs.Fills.{LivesHaveFills};
@@ -71,4 +75,15 @@ pub fn cut_openings_show_histories()
 /// is where the sync behind that was; and gates are found as their writes and syncs leave them.
 pub fn runs_leave_histories()
     ensures { RunsLeaveHistories }
+{}
+
+/// So does an opening over such a life that stopped before its repeats. Premise: its generation is
+/// found just where the sync behind the write was shown that opens its gate.
+pub fn openings_leave_histories()
+    ensures { OpeningsLeaveHistories }
+{}
+
+/// And one that stopped within the batches that it repeats, whose number is as it was.
+pub fn repeats_leave_histories()
+    ensures { RepeatsLeaveHistories }
 {}
