@@ -10,3 +10,4 @@ pub mod Fronts
 pub mod Cutting
 pub mod Betweens
 pub mod Stopping
+pub mod Rowing

@@ -7,3 +7,4 @@ pub mod Wholes
 pub mod Fronts
 pub mod Cuts
 pub mod Between
+pub mod Rows

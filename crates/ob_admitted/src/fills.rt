@@ -12,6 +12,7 @@ ghost use Rattle.ob_admitted.specs.Fronts.{FrontsAreRuns};
 ghost use Rattle.ob_admitted.specs.Notes.{CallsGoByFills};
 ghost use Rattle.ob_admitted.specs.Publics.{LivesGoByFills};
 ghost use Rattle.ob_admitted.specs.Repeats.{OpeningsGoByFills};
+ghost use Rattle.ob_admitted.specs.Rows.{RowsAreAdmitted};
 ghost use Rattle.ob_admitted.specs.Wholes.{RunsShowHistories};
 
 /// Each life from a format on, of any number of runs, crashes and repeats, has fills of all epochs
@@ -86,4 +87,11 @@ pub fn openings_leave_histories()
 /// And one that stopped within the batches that it repeats, whose number is as it was.
 pub fn repeats_leave_histories()
     ensures { RepeatsLeaveHistories }
+{}
+
+/// The lines of a format, and of runs of a life behind it, are a public history's, and so they are
+/// admitted. Premises: each run shows a run of a history that finds the life where it is, and leaves
+/// what the next one finds there.
+pub fn rows_are_admitted()
+    ensures { RowsAreAdmitted }
 {}
