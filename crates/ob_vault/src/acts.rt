@@ -21,8 +21,8 @@ pub fn seals_are_public()
 
 /// An opening and the calls of a ring vault over it are a run in a life of the store: so no two
 /// seals of a store's life have the same generation and number, over all openings, calls and
-/// crashes. And behind the calls that were answered the next seal has the number that is hidden: the
-/// sealer has gone on by just what the hidden count of seals has.
+/// crashes. And behind the calls that were answered the next seal has the number that is hidden:
+/// the sealer has gone on by just what the hidden count of seals has.
 pub fn ring_chains_are_runs<V: Vault, S: Store>()
     ensures live { RingChainsLive (kind_of V.Vault) (λ store. S.disk store) }
     ensures numbered { RingRunsAreNumbered (kind_of V.Vault) (λ store. S.disk store) }

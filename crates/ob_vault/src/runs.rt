@@ -49,8 +49,8 @@ pub fn runs_are_one_life<S: Store>()
     ensures { RunsAreOneLife (λ store. S.disk store) }
 {}
 
-/// For any such row there are words such that the tape of each run gave those of its generation: the
-/// generations of its runs rise. So the law on rows of runs isn't empty.
+/// For any such row there are words such that the tape of each run gave those of its generation:
+/// the generations of its runs rise. So the law on rows of runs isn't empty.
 pub fn tapes_exist<S: Store>()
     ensures { TapesExist (λ store. S.disk store) }
 {}
