@@ -18,7 +18,7 @@ use Rattle.ob_histories.specs.Fills.{AllFills, fills_at, public_in_epoch}
 use Rattle.ob_histories.specs.Histories.{AreRecordsLeft, EpochEnded, EpochStays, IsBatchLeft, IsEndLeft, IsGateLeft, IsTurnLeft}
 use Rattle.ob_histories.specs.Runs.{HistoryTurn, RunFound, first_turn, next_turn, notes_of_batch, notes_of_end, notes_of_turn, turn_behind}
 use Rattle.ob_admitted.specs.Between.{AreActsLeft, IsFoundAsShown, MayComeNext, RunsLeaveHistories, turn_of_run}
-use Rattle.ob_admitted.specs.Cuts.{state_behind}
+use Rattle.ob_admitted.specs.Cuts.{life_behind_calls}
 use Rattle.ob_admitted.specs.Repeats.{begin_acts}
 use Rattle.ob_admitted.specs.Wholes.{found_of_life}
 use Rattle.ob_admitted.proofs.Wholes.{turn_at, turn_next}
@@ -227,8 +227,8 @@ runs_leave p word_of f s found next calls steps acts room life show refused coun
     let same : 0 + n ≡ n = omega arith in
     let turns : turn_of_run p s found steps ≡ turn_behind p first (length steps) =
     turns_pass p f s.epoch n x.epoch_gate n 0 (length steps) (omega (arith, room)) ∙ ap (λ (b : ℕ). turn_behind p (turn_at p f s.epoch n x.epoch_gate b) (length steps)) same in
-    let at_end : IsTurnOf p (turn_of_run p s found steps) (state_behind p word_of s acts) = subst (λ (u : HistoryTurn). IsTurnOf p u (state_behind p word_of s acts)) (sym turns) led.0 in (
-      same_generation p word_of f (state_behind p word_of s acts) (turn_of_run p s found steps) at_end count next refused more left ∙ led.1 ∙ on.generation,
+    let at_end : IsTurnOf p (turn_of_run p s found steps) (life_behind_calls p word_of s acts) = subst (λ (u : HistoryTurn). IsTurnOf p u (life_behind_calls p word_of s acts)) (sym turns) led.0 in (
+      same_generation p word_of f (life_behind_calls p word_of s acts) (turn_of_run p s found steps) at_end count next refused more left ∙ led.1 ∙ on.generation,
       stays,
-      turn_left p word_of f (state_behind p word_of s acts) (turn_of_run p s found steps) at_end count next refused more may left as_shown,
+      turn_left p word_of f (life_behind_calls p word_of s acts) (turn_of_run p s found steps) at_end count next refused more may left as_shown,
     )

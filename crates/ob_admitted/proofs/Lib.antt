@@ -11,3 +11,4 @@ pub mod Cutting
 pub mod Betweens
 pub mod Stopping
 pub mod Rowing
+pub mod Serving

@@ -26,7 +26,7 @@ use Rattle.ob_histories.specs.Fills.{AllFills, fills_at, public_at, public_in_ep
 use Rattle.ob_histories.specs.Runs.{HistoryTurn, RunFound, first_turn, next_turn, notes_from, notes_of_batch, notes_of_end, notes_of_turn, opening_step, run_notes}
 use Rattle.ob_histories.proofs.Finding.{epoch_at}
 use Rattle.ob_admitted.specs.Calls.{public_of_life, turn_of_life}
-use Rattle.ob_admitted.specs.Cuts.{public_of_calls, state_behind}
+use Rattle.ob_admitted.specs.Cuts.{public_of_calls, life_behind_calls}
 use Rattle.ob_admitted.specs.Fills.{FillsAll}
 use Rattle.ob_admitted.specs.Publics.{AreRecordsWhole}
 use Rattle.ob_admitted.specs.Repeats.{begin_acts, phase_of_fills}
@@ -73,7 +73,7 @@ pub runs_go : (p : Params) (word_of : WordId → ℕ) (slot : ℕ → ℕ → �
     → FillsAll p word_of f (planned_labels p word_of (reached p word_of (formatted_life slot) before)) []
     → (c : Fills) (found gates : ℕ → Bool) (calls : List VaultCall) (steps : List (Shape × Fills)) (acts : List LifeAct) → AreGatesKept p (reached p word_of (formatted_life slot) before).epoch found gates
     → IsRunFilled p word_of f (reached p word_of (formatted_life slot) before) c calls steps acts
-    → Q (state_behind p word_of (reached p word_of (formatted_life slot) before) acts)
+    → Q (life_behind_calls p word_of (reached p word_of (formatted_life slot) before) acts)
     → notes_of_run p word_of (reached p word_of (formatted_life slot) before) c found gates steps ++ more (public_of_calls p word_of (reached p word_of (formatted_life slot) before) gates steps)
     ≡ run_notes p f (record (run_of_life p (reached p word_of (formatted_life slot) before) found steps) { shown = count })
 runs_go p word_of slot before f some Q more count k ranked life ends whole filled c found gates calls steps acts kept is last =

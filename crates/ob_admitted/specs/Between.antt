@@ -13,7 +13,7 @@ use Rattle.ob_vault.specs.Shown.{AreShownBy}
 use Rattle.ob_histories.specs.Fills.{AllFills}
 use Rattle.ob_histories.specs.Histories.{IsGateLeft, MayFind}
 use Rattle.ob_histories.specs.Runs.{HistoryTurn, RunFound, first_turn, notes_of_turn, opening_step, turn_behind}
-use Rattle.ob_admitted.specs.Cuts.{state_behind}
+use Rattle.ob_admitted.specs.Cuts.{life_behind_calls}
 use Rattle.ob_admitted.specs.Repeats.{begin_acts}
 use Rattle.ob_admitted.specs.Wholes.{found_of_life, run_of_life}
 
@@ -49,10 +49,10 @@ turn_of_run p s found steps = turn_behind p (first_turn (found_of_life p s found
 abbrev pub RunsLeaveHistories : Type 0
 RunsLeaveHistories = (p : Params) (word_of : WordId → ℕ) (f : AllFills) (s : LifeState) (found next : ℕ → Bool) (calls : List VaultCall) (steps : List (Shape × Fills)) (acts : List LifeAct) → length s.log ≤ p.batches
     → IsLife p word_of (reached p word_of s (begin_acts s (suc s.generation))) acts → AreShownBy p word_of (reached p word_of s (begin_acts s (suc s.generation))) calls steps acts
-    → (refused : Option VaultCall) (count : ℕ) (more : List LifeAct) → MayComeNext p (state_behind p word_of s acts) refused → AreActsLeft refused more
-    → (found_of_life p (reached p word_of (state_behind p word_of s acts) more) next).generation_gate ≡ true
-    → IsFoundAsShown p f (turn_of_run p s found steps) refused count (found_of_life p (reached p word_of (state_behind p word_of s acts) more) next)
-    → MayFind p f (Some (record (run_of_life p s found steps) { shown = count })) (found_of_life p (reached p word_of (state_behind p word_of s acts) more) next)
+    → (refused : Option VaultCall) (count : ℕ) (more : List LifeAct) → MayComeNext p (life_behind_calls p word_of s acts) refused → AreActsLeft refused more
+    → (found_of_life p (reached p word_of (life_behind_calls p word_of s acts) more) next).generation_gate ≡ true
+    → IsFoundAsShown p f (turn_of_run p s found steps) refused count (found_of_life p (reached p word_of (life_behind_calls p word_of s acts) more) next)
+    → MayFind p f (Some (record (run_of_life p s found steps) { shown = count })) (found_of_life p (reached p word_of (life_behind_calls p word_of s acts) more) next)
 
 -- ---- openings
 

@@ -23,8 +23,8 @@ use Rattle.ob_admitted.specs.Repeats.{begin_acts}
 use Rattle.ob_admitted.specs.Wholes.{AreGatesKept, IsRunFilled, found_of_life, notes_of_run, run_of_life}
 
 -- where the life is behind an opening and the acts of calls, and what is public behind these calls
-abbrev pub state_behind : Params → (WordId → ℕ) → LifeState → List LifeAct → LifeState
-state_behind p word_of s acts = reached p word_of (reached p word_of s (begin_acts s (suc s.generation))) acts
+abbrev pub life_behind_calls : Params → (WordId → ℕ) → LifeState → List LifeAct → LifeState
+life_behind_calls p word_of s acts = reached p word_of (reached p word_of s (begin_acts s (suc s.generation))) acts
 
 abbrev pub public_of_calls : Params → (WordId → ℕ) → LifeState → (ℕ → Bool) → List (Shape × Fills) → RingPublic
 public_of_calls p word_of s gates steps = public_behind ring_kind p (public_of_life p word_of (reached p word_of s (begin_acts s (suc s.generation))) gates) steps
@@ -42,7 +42,7 @@ CutRunsShowHistories = (p : Params) (word_of : WordId → ℕ) (slot : ℕ → �
     → AreEndsShown p word_of (formatted_life slot) before → AreRecordsWhole p before → FillsAll p word_of f (planned_labels p word_of (reached p word_of (formatted_life slot) before)) []
     → (c : Fills) (found gates : ℕ → Bool) (calls : List VaultCall) (steps : List (Shape × Fills)) (acts : List LifeAct) → AreGatesKept p (reached p word_of (formatted_life slot) before).epoch found gates
     → IsRunFilled p word_of f (reached p word_of (formatted_life slot) before) c calls steps acts
-    → (call : VaultCall) (d : Fills) (count : ℕ) → IsCutFilled p word_of f (state_behind p word_of (reached p word_of (formatted_life slot) before) acts) call d
+    → (call : VaultCall) (d : Fills) (count : ℕ) → IsCutFilled p word_of f (life_behind_calls p word_of (reached p word_of (formatted_life slot) before) acts) call d
     → notes_of_run p word_of (reached p word_of (formatted_life slot) before) c found gates steps
     ++ take count (ring_notes p (public_of_calls p word_of (reached p word_of (formatted_life slot) before) gates steps) (shape_of call) d)
     ≡ run_notes p f (record (run_of_life p (reached p word_of (formatted_life slot) before) found steps) { shown = count })

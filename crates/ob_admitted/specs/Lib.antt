@@ -8,3 +8,4 @@ pub mod Fronts
 pub mod Cuts
 pub mod Between
 pub mod Rows
+pub mod Served

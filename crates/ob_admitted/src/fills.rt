@@ -13,6 +13,7 @@ ghost use Rattle.ob_admitted.specs.Notes.{CallsGoByFills};
 ghost use Rattle.ob_admitted.specs.Publics.{LivesGoByFills};
 ghost use Rattle.ob_admitted.specs.Repeats.{OpeningsGoByFills};
 ghost use Rattle.ob_admitted.specs.Rows.{RowsAreAdmitted};
+ghost use Rattle.ob_admitted.specs.Served.{ServedRunsAreShown};
 ghost use Rattle.ob_admitted.specs.Wholes.{RunsShowHistories};
 
 /// Each life from a format on, of any number of runs, crashes and repeats, has fills of all epochs
@@ -94,4 +95,10 @@ pub fn repeats_leave_histories()
 /// what the next one finds there.
 pub fn rows_are_admitted()
     ensures { RowsAreAdmitted }
+{}
+
+/// A run over such a life that served calls, whose last one may have been refused, shows a run of a
+/// public history that finds the life where it is, and leaves what the next run finds.
+pub fn served_runs_are_shown()
+    ensures { ServedRunsAreShown }
 {}
