@@ -12,3 +12,4 @@ pub mod Betweens
 pub mod Stopping
 pub mod Rowing
 pub mod Serving
+pub mod Lives

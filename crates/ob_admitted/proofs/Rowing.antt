@@ -31,7 +31,7 @@ module _ (p : Params) (word_of : WordId → ℕ) (f : AllFills) where
 
   rows_go : (rows : List (List Note)) (s : LifeState) (found : ℕ → Bool) (last : Option HistoryRun) → MayFind p f last (found_of_life p s found) → AreRunsShown p word_of f s found rows → Row last rows
   rows_go [] s found last may shown = ([], (tt, refl))
-  rows_go (notes ∷ rows) s found last may (one, acts, next, life, left, rest) =
+  rows_go (notes ∷ rows) s found last may (one, acts, next, left, rest) =
       let here : MayFind p f last one.run.found = subst (λ (x : RunFound). MayFind p f last x) (sym one.finds) may in
       let settled : Bool = is_settled p f one.run.found one.run.steps one.run.shown in
       let later = rows_go rows (reached p word_of s acts) next (cond settled (Some one.run) last) (goes_on one.run last (found_of_life p (reached p word_of s acts) next) settled here left) rest in

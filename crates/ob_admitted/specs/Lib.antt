@@ -9,3 +9,4 @@ pub mod Cuts
 pub mod Between
 pub mod Rows
 pub mod Served
+pub mod Lives

@@ -6,7 +6,7 @@ use Rattle.ob_store.specs.declared.watch.Note.{Note}
 use Rattle.ob_schedule.specs.Schedule.{format_notes}
 use Rattle.ob_schedule.specs.declared.line.Line.{Line}
 use Rattle.ob_schedule.specs.declared.line.Line.TheVariants as L
-use Rattle.ob_recover.specs.Life.{WordId, LifeAct, LifeState, IsLife, formatted_life, reached}
+use Rattle.ob_recover.specs.Life.{WordId, LifeAct, LifeState, formatted_life, reached}
 use Rattle.ob_histories.specs.Fills.{AllFills, AreAllFills}
 use Rattle.ob_histories.specs.Histories.{IsHistory, MayFind, lines_of_notes}
 use Rattle.ob_histories.specs.Laws.{AreAdmitted}
@@ -26,7 +26,7 @@ pub record IsRunShown (p : Params) (f : AllFills) (s : LifeState) (found : ℕ �
 -- Each run's notes are shown so, and with its acts the life goes on to where the next run finds it, with the gates that this finds.
 abbrev pub AreRunsShown : Params → (WordId → ℕ) → AllFills → LifeState → (ℕ → Bool) → List (List Note) → Type 0
 AreRunsShown p word_of f s found [] = Unit {0}
-AreRunsShown p word_of f s found (notes ∷ rest) = (one : IsRunShown p f s found notes) × (acts : List LifeAct) × (next : ℕ → Bool) × IsLife p word_of s acts
+AreRunsShown p word_of f s found (notes ∷ rest) = (one : IsRunShown p f s found notes) × (acts : List LifeAct) × (next : ℕ → Bool)
     × LeavesFound p f one.run (found_of_life p (reached p word_of s acts) next) × AreRunsShown p word_of f (reached p word_of s acts) next rest
 
 -- a format's line and notes, and those of runs behind it

@@ -9,6 +9,7 @@ ghost use Rattle.ob_admitted.specs.Calls.{CallsAreTurns};
 ghost use Rattle.ob_admitted.specs.Cuts.{CutOpeningsShowHistories, CutRunsShowHistories};
 ghost use Rattle.ob_admitted.specs.Fills.{LivesHaveFills};
 ghost use Rattle.ob_admitted.specs.Fronts.{FrontsAreRuns};
+ghost use Rattle.ob_admitted.specs.Lives.{LivesAreAdmitted};
 ghost use Rattle.ob_admitted.specs.Notes.{CallsGoByFills};
 ghost use Rattle.ob_admitted.specs.Publics.{LivesGoByFills};
 ghost use Rattle.ob_admitted.specs.Repeats.{OpeningsGoByFills};
@@ -101,4 +102,10 @@ pub fn rows_are_admitted()
 /// public history that finds the life where it is, and leaves what the next run finds.
 pub fn served_runs_are_shown()
     ensures { ServedRunsAreShown }
+{}
+
+/// The lines of a format and of runs of one life behind it, which served calls or stopped in their
+/// openings, are a public history's, and so they are admitted. Premises: those of the laws above.
+pub fn lives_are_admitted()
+    ensures { LivesAreAdmitted }
 {}

@@ -5,7 +5,7 @@ mod fills;
 
 pub use fills::{
     calls_are_turns, calls_go_by_fills, cut_openings_show_histories, cut_runs_show_histories,
-    fronts_are_runs, lives_go_by_fills, lives_have_fills, openings_go_by_fills,
+    fronts_are_runs, lives_are_admitted, lives_go_by_fills, lives_have_fills, openings_go_by_fills,
     openings_leave_histories, repeats_leave_histories, rows_are_admitted, runs_leave_histories,
     runs_show_histories, served_runs_are_shown,
 };
