@@ -1,5 +1,6 @@
 mod Ends
 mod Words
 mod Lives
+mod Both
 mod TwoRuns
 mod Told

@@ -12,6 +12,7 @@ use Rattle.ob_stand.specs.Stands.{StandsRing}
 use Rattle.ob_store.specs.Disk.{Clock, Disk, Image, NotAfter}
 use Rattle.ob_store.specs.Images.{IsSynced}
 use Rattle.ob_top.proofs.Living.{whole_lives}
+use Rattle.ob_top.specs.Again.{CrashesStand, FormatsStand}
 use Rattle.ob_top.specs.Formats as format
 use Rattle.ob_top.specs.Outside.{Given, blind}
 use Rattle.ob_top.specs.Runs.{RunDone}
@@ -30,7 +31,9 @@ use Rattle.ob_vault.specs.RingKind.{IsRingFound, IsRingMap, RingFound, ring_kind
 use Rattle.ob_vault.specs.Shapes.{answered, refused}
 use Rattle.ob_words.proofs.Named.{one_keys}
 use Rattle.std.specs.Borrow.{Bor}
+use Rattle.ob_life_tests.specs.Held.{KeepsToHeadline}
 use Rattle.ob_life_tests.specs.Lived.{AreOneLife, HasRun, HasFormatted, IsWholeRun, answers, part_of}
+use Rattle.ob_life_tests.proofs.Both.{both_held}
 use Rattle.ob_life_tests.proofs.Ends.{formatted, whole}
 use Rattle.ob_life_tests.proofs.Lives.{joined}
 use Rattle.ob_life_tests.proofs.Words.{first_given, made_given, second_given, word_in}
@@ -88,10 +91,11 @@ module _ {S : Type 0} (disk : S → Disk) (keys : Keys) (p : Params) where
       (whole_lives disk keys old (r.ran).between new (r.ran).sealing s.goes (r.ran).begun (answers disk r) (ring_kind.seals s.traced.behind) s.seals_on (s.tells refl ((r.ran).durable tells).0)).lives
 
   module _ (counts_now : (x : S) (t : Clock) (c : Image) → NotAfter t (disk x).moment → (disk x).may_leave c → (disk x).left_since t c) (includes_reads : (x : S) → (disk x).tells → (disk x).leaves → (disk x).may_leave (disk x).cells)
-      (one_life : RunsAreOneLife disk) (pads : PadsAreFresh disk) (made_by first_by second_by : Given) (blank made ran left new : S) (dummies : 0 < p.dummies) (format_is : format.IsFormatted ring_kind ring_lives disk made_by keys p blank made)
+      (one_life : RunsAreOneLife disk) (pads : PadsAreFresh disk) (formats : FormatsStand disk) (crashes : CrashesStand disk)
+      (made_by first_by second_by : Given) (blank made ran left new : S) (dummies : 0 < p.dummies) (format_is : format.IsFormatted ring_kind ring_lives disk made_by keys p blank made)
       (sound : IsSound ring_kind keys p (disk made)) (told_blank : (disk blank).tells) (leaves_blank : (disk blank).leaves) (leaves_made : (disk made).leaves)
       (first : IsWholeRun disk keys first_by made ran) (sound_on : IsSound ring_kind keys p (disk ran)) (may : (disk ran).may_leave (disk left).cells) (sure : IsSynced (disk left)) (told_left : (disk left).tells) (leaves_left : (disk left).leaves)
-      (second : IsWholeRun disk keys second_by left new) where
+      (second : IsWholeRun disk keys second_by left new) (first_holds : KeepsToHeadline disk keys first_by made ran) (second_holds : KeepsToHeadline disk keys second_by left new) where
     told_made : (disk made).tells
     told_made = format_is.tells told_blank
 
@@ -121,9 +125,12 @@ module _ {S : Type 0} (disk : S → Disk) (keys : Keys) (p : Params) where
     lived =
         let word_of = word_in generation made_by.words first_by.words second_by.words in
         let parts : List (RunPart S) = part_of disk first ∷ part_of disk second ∷ [] in
-        let given : AreGiven word_of parts = (first_given generation made_by.words first_by.words second_by.words, (second_given generation made_by.words first_by.words second_by.words next (λ is. omega (arith, is, next_is)) (λ is. omega (arith, is, next_is, behind_first)), tt)) in
+        let first_words = first_given generation made_by.words first_by.words second_by.words in
+        let second_words = second_given generation made_by.words first_by.words second_by.words next (λ is. omega (arith, is, next_is)) (λ is. omega (arith, is, next_is, behind_first)) in
+        let given : AreGiven word_of parts = (first_words, (second_words, tt)) in
         let from : AreRunsFrom disk keys p (disk made).may_leave parts = (includes_reads made told_made leaves_made, told first_by made ran first told_made sound, (may, told second_by left new second told_left sound_left, tt)) in
         let drawn = made_given generation made_by.words first_by.words second_by.words (λ is. omega (arith, is, behind_first)) in
+        let made_words : AreTapeWords word_of made_by.generation made_by.words = subst (λ n. AreTapeWords word_of n made_by.words) (sym format_is.draws.first) drawn in
         let lives_on : IsOneLife disk keys p word_of made_by.words parts = one_life keys p made_by.words made parts (format_is.begins_life told_blank) from word_of given in
         let lives = joined disk keys counts_now pads made ran left new (answers disk first) (answers disk second) (its_lives first_by made ran first told_made) (its_lives second_by left new second told_left)
         (format_is.begins told_blank leaves_blank) may sure told_left leaves_left in
@@ -136,30 +143,38 @@ module _ {S : Type 0} (disk : S → Disk) (keys : Keys) (p : Params) where
           second = second;
           word_of = word_of;
           given = given;
-          drawn = subst (λ n. AreTapeWords word_of n made_by.words) (sym format_is.draws.first) drawn;
+          drawn = made_words;
           one_life = lives_on;
           apart = lives_on.apart dummies drawn;
           acts = lives.acts;
           is_life = lives.is_life;
           answered = lives.answered;
           fresh = lives.fresh;
+          headlines = both_held disk keys p made_by first_by second_by blank made ran left new word_of formats crashes format_is told_blank leaves_made made_words
+              first_holds (subst (λ n. AreTapeWords word_of n first_by.words) (sym (first.ran).serving.in_generation) first_words)
+              may sure told_left leaves_left second_holds (subst (λ n. AreTapeWords word_of n second_by.words) (sym (second.ran).serving.in_generation) second_words);
         }
 
 -- the same of calls that answered 0 under the keys of one text
 pub lived_so : {S : Type 0} (disk : S → Disk) (counts_now : (x : S) (t : Clock) (c : Image) → NotAfter t (disk x).moment → (disk x).may_leave c → (disk x).left_since t c) (includes_reads : (x : S) → (disk x).tells → (disk x).leaves → (disk x).may_leave (disk x).cells)
-    → RunsAreOneLife disk → PadsAreFresh disk → ((x : S) → (disk x).tells) → ((x : S) → (disk x).leaves) → (text : Bor (List ℕ)) (made_by first_by second_by : Given) (blank made ran left new : S)
+    → RunsAreOneLife disk → PadsAreFresh disk → FormatsStand disk → CrashesStand disk → ((x : S) → (disk x).tells) → ((x : S) → (disk x).leaves) → (text : Bor (List ℕ)) (made_by first_by second_by : Given) (blank made ran left new : S)
     → HasFormatted disk text.now made_by blank made → HasRun disk text.now first_by made ran → (disk ran).may_leave (disk left).cells → IsSynced (disk left) → HasRun disk text.now second_by left new
     → (keys : Keys) × (made_is : Given) × (first_is : Given) × (second_is : Given) × (formatted_is : S) × AreOneLife disk keys made_is first_is second_is formatted_is new
-lived_so {S} disk counts_now includes_reads one_life pads tells leaves text made_by first_by second_by blank made ran left new f one may sure two =
+lived_so {S} disk counts_now includes_reads one_life pads formats crashes tells leaves text made_by first_by second_by blank made ran left new f one may sure two =
     let keys : Keys = f.keys in
-    let one_done = subst (λ (k : Keys). RunDone ring_kind ring_lives disk one.by first_by k made ran one.before one.after blind blind 0) (one_keys (Some text) one.keys keys one.are f.are) one.done in
-    let two_done = subst (λ (k : Keys). RunDone ring_kind ring_lives disk two.by second_by k left new two.before two.after blind blind 0) (one_keys (Some text) two.keys keys two.are f.are) two.done in
+    let one_same : one.keys ≡ keys = one_keys (Some text) one.keys keys one.are f.are in
+    let two_same : two.keys ≡ keys = one_keys (Some text) two.keys keys two.are f.are in
+    let one_done = subst (λ (k : Keys). RunDone ring_kind ring_lives disk one.by first_by k made ran one.before one.after blind blind 0) one_same one.done in
+    let two_done = subst (λ (k : Keys). RunDone ring_kind ring_lives disk two.by second_by k left new two.before two.after blind blind 0) two_same two.done in
+    let one_held = subst (λ (k : Keys). KeepsToHeadline disk k first_by made ran) one_same one.held in
+    let two_held = subst (λ (k : Keys). KeepsToHeadline disk k second_by left new) two_same two.held in
     let sound = (f.done).sound refl (tells blank) in (
       keys,
       made_by,
       first_by,
       second_by,
       made,
-      lived disk keys f.p counts_now includes_reads one_life pads made_by first_by second_by blank made ran left new (omega (arith, f.p.in_range.some_dummies)) (formatted disk keys made_by f.p blank made f.before f.after f.done) sound (tells blank) (leaves blank) (leaves made)
-          (whole disk keys one.by first_by made ran one.before one.after one_done) (one_done.sound f.p (tells made) sound) may sure (tells left) (leaves left) (whole disk keys two.by second_by left new two.before two.after two_done),
+      lived disk keys f.p counts_now includes_reads one_life pads formats crashes made_by first_by second_by blank made ran left new (omega (arith, f.p.in_range.some_dummies)) (formatted disk keys made_by f.p blank made f.before f.after f.done) sound (tells blank) (leaves blank) (leaves made)
+          (whole disk keys one.by first_by made ran one.before one.after one_done) (one_done.sound f.p (tells made) sound) may sure (tells left) (leaves left) (whole disk keys two.by second_by left new two.before two.after two_done)
+          one_held two_held,
     )

@@ -22,6 +22,7 @@ use Rattle.ob_vault.specs.Lives.{ring_lives}
 use Rattle.ob_vault.specs.RingKind.{ring_kind}
 use Rattle.ob_vault.specs.Shapes.{answered, refused}
 use Rattle.ob_words.specs.Work.{AreKeys}
+use Rattle.ob_life_tests.specs.Held.{HeadlinesHold, KeepsToHeadline}
 
 module _ {S : Type 0} (disk : S → Disk) where
   -- a format under the keys of this text, without a trace, that answered 0, with what its tape gave
@@ -41,6 +42,7 @@ module _ {S : Type 0} (disk : S → Disk) where
     pub before : Outside
     pub after : Outside
     pub done : RunDone ring_kind ring_lives disk by tape keys old new before after blind blind 0
+    pub held : KeepsToHeadline disk keys tape old new
 
   -- a whole run, whose script came to its end
   pub record IsWholeRun (keys : Keys) (tape : Given) (old new : S) : Type 0 where
@@ -61,7 +63,7 @@ module _ {S : Type 0} (disk : S → Disk) where
 
   -- A run behind a format, a crash behind that, and a run on what it left. All their acts are one life of the store, whose words are those that
   -- the three tapes gave, each in a generation of its own; so no word is shown in two holes, of labels and slots together. And no pad is used
-  -- twice, those of the format among them.
+  -- twice, those of the format among them. Of both runs the headline holds, each with its own past, by the same words.
   pub record AreOneLife (keys : Keys) (made_by first_by second_by : Given) (formatted new : S) : Type 0 where
     pub p : Params
     pub ran : S
@@ -78,3 +80,4 @@ module _ {S : Type 0} (disk : S → Disk) where
     pub is_life : IsLife disk keys (formatted_at formatted) acts
     pub answered : answers_of acts ≡ answers first ++ answers second
     pub fresh : (seals : ℕ) → NoRepeats (pads_from 1 0 seals ++ pads_of (formatted_at formatted) acts)
+    pub headlines : HeadlinesHold disk keys p word_of first_by second_by formatted ran left new

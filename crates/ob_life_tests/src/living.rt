@@ -1,5 +1,6 @@
 //! Calls of the top over one store in memory, with a crash between two of them: what each answers
-//! is what the next one asks for, and all of them are one life of the store.
+//! is what the next one asks for, all of them are one life of the store, and of each run the
+//! headline holds.
 
 ghost use Rattle.std.specs.Prelude.{◌≡◌, ◌≢◌, IfOk, IfErr};
 ghost use Rattle.ob_life_tests.specs.Lived.{AreOneLife, HasRun, HasFormatted};
@@ -12,7 +13,7 @@ use ob_desk::Eager;
 use ob_mem::{MemSink, MemSource, MemStore};
 use ob_pads::pads_are_fresh;
 use ob_seal::ListTape;
-use ob_top::obladi;
+use ob_top::{obladi, stood_again};
 use ob_vault::runs_are_one_life;
 use ob_word_forms::forms_are_read;
 use std::process::Abort;
@@ -115,6 +116,7 @@ fn live<R: AllocGlobal + Threads + Wait + Sync + Abort>(
 {
     runs_are_one_life::<MemStore>();
     pads_are_fresh::<MemStore>();
+    stood_again::<MemStore>();
     let keys = KEYS.as_bytes();
     let mut store = MemStore::new(rt.alloc(), CELLS, Vec::new(rt.alloc())).expect(rt, "memory");
     let status = format_store(rt, keys, &mut store);
