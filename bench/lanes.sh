@@ -1,10 +1,12 @@
 #!/usr/bin/env bash
 # Measures the reads of a batch by 1, 2, 4, 8 and 16 lanes: 960 jobs, as 64 places have at 65,536 keys
-# (levels 0 to 14), read and opened; and of a phase of 9 jobs, as a sealed record has. Once over a store in
-# memory, and once over one whose reads sleep for 200 us. What is planned before and shown behind is left out.
+# (levels 0 to 14), read and opened; and of a phase of 9 jobs, as a sealed record has. Over a store in
+# memory, over one whose reads sleep for 200 us, and over one where of 50 cells' reads one sleeps for 4 ms.
+# What is planned before and shown behind is left out.
 # What is aimed at, on four processors: over sleeping reads 4 lanes 3.5 times as fast as one and 16 lanes 10
-# times, in memory 4 lanes 2.5 times; 9 jobs by 4 lanes at most 200 us longer than by one. It fails where
-# that is missed, or where one lane starts a thread.
+# times; where few of them sleep long, 4 lanes at most 1.15 of a fourth of one's time, and 16 lanes 1.4 of a
+# sixteenth; in memory 4 lanes 2.5 times as fast; 9 jobs by 4 lanes at most 200 us longer than by one. It fails where that is missed, or where one lane
+# starts a thread.
 # It needs rt and strace, and writes only to a temporary folder. Times are of the clock: the fewest of seven
 # runs of 20 batches each (where reads sleep of 4, of the small phases of 200).
 #
@@ -15,10 +17,10 @@ top=$(cd "$(dirname "$0")/.." && pwd)
 program=${1:+$(realpath "$1")}
 keep=${KEEP:+$(realpath "$KEEP")}
 source "$top/bench/common.sh"
-bench_crate lanes_bench ob_base ob_io ob_store ob_lanes ob_bare ob_seal ob_cells <<'PROGRAM'
+bench_crate lanes_bench ob_base ob_io ob_store ob_claims ob_lanes ob_bare ob_seal ob_cells <<'PROGRAM'
 //! Reads batches by several lanes. The input is a byte that says what, and two digits that say by how many
-//! lanes: 960 jobs a batch in memory (m) or where reads sleep (s), or nine in memory (n). The output is how
-//! many batches went well, and the fewest nanoseconds of one.
+//! lanes: 960 jobs a batch in memory (m), where reads sleep (s) or where few of them sleep long (u), or nine
+//! in memory (n). The output is how many batches went well, and the fewest nanoseconds of one.
 #![tactic(auto)]
 
 mod sleeping;
@@ -143,7 +145,7 @@ fn main(rt: HostRuntime) -> io::Result<()> {
     };
     let (batches, jobs) = match what {
         b'm' => (20, 960),
-        b's' => (4, 960),
+        b's' | b'u' => (4, 960),
         _ => (200, 9),
     };
     let setting = Setting {
@@ -151,8 +153,9 @@ fn main(rt: HostRuntime) -> io::Result<()> {
         jobs,
         lanes,
     };
-    let (done, least) = if what == b's' {
-        let mut sleeping = Sleeping::over(store, &rt);
+    let (done, least) = if what == b's' || what == b'u' {
+        let long = if what == b'u' { 4000 } else { 200 };
+        let mut sleeping = Sleeping::over(store, &rt, long);
         measure(&rt, rt.alloc(), &mut sleeping, &sealer, setting)?
     } else {
         measure(&rt, rt.alloc(), &mut store, &sealer, setting)?
@@ -169,23 +172,25 @@ ghost use Rattle.ob_store.specs.Disk.{bare};
 
 use ob_bare::{BareLane, BareStore};
 use ob_base::Failed;
-use ob_lanes::{Hand, Lanes, read_hands};
+use ob_claims::{Claims, Round};
+use ob_lanes::{Hand, Lanes, SealedJobs, read_hands};
 use ob_store::Store;
 use std::thread;
 use std::thread::Threads;
 use std::time::Duration;
 
-/// A store in memory, each read of which takes 200 us more.
+/// A store in memory, each read of which takes 200 us more, and that of one cell in 50 so many.
 #[derive(Drop)]
 pub struct Sleeping<'r> {
     store: BareStore,
     clock: &'r HostRuntime,
+    long: u64,
 }
 
 impl<'r> Sleeping<'r> {
     /// Over a store in memory.
-    pub fn over(store: BareStore, clock: &'r HostRuntime) -> Sleeping<'r> {
-        Sleeping { store, clock }
+    pub fn over(store: BareStore, clock: &'r HostRuntime, long: u64) -> Sleeping<'r> {
+        Sleeping { store, clock, long }
     }
 }
 
@@ -209,7 +214,8 @@ impl<'r> Store for Sleeping<'r> {
     }
 
     fn read(&self, lane: &mut BareLane, cell: u64, out: &mut [u8; 128]) -> Result<(), Failed> {
-        thread::sleep(self.clock, Duration::from_micros(200));
+        let time = if cell % 50 == 0 { self.long } else { 200 };
+        thread::sleep(self.clock, Duration::from_micros(time));
         self.store.read(lane, cell, out)
     }
 
@@ -227,8 +233,15 @@ impl<'r> Store for Sleeping<'r> {
 }
 
 impl<'r> Lanes for Sleeping<'r> {
-    fn read_parts<R: Threads + Sync>(&self, rt: &R, hands: &mut [Option<Hand<BareLane>>]) {
-        read_hands(rt, self, hands);
+    fn read_parts<R: Threads + Sync>(
+        &self,
+        rt: &R,
+        hands: &mut [Option<Hand<BareLane>>],
+        claims: &Claims,
+        round: &Round,
+        asked: &SealedJobs,
+    ) {
+        read_hands(rt, self, hands, claims, round, asked);
     }
 }
 PROGRAM
@@ -242,7 +255,7 @@ fi
 # The nanoseconds of a batch by so many lanes: each kind with the batches that have to go well.
 declare -A took=()
 for _ in 1 2 3 4 5 6 7; do
-    for kind in m:20 s:4 n:200; do
+    for kind in m:20 s:4 u:4 n:200; do
         for lanes in 01 02 04 08 16; do
             read -r done nanos <<<"$("./out/${PWD##*/}" <<<"${kind%:*}$lanes")"
             [[ $done == "${kind#*:}" ]]
@@ -263,6 +276,7 @@ tell() {
 }
 tell '960 jobs in memory, by lanes:' m
 tell '960 jobs where a read sleeps, by lanes:' s
+tell '960 jobs where few reads sleep long, by lanes:' u
 tell '9 jobs in memory, by lanes:' n
 # How many threads a run starts.
 threads() {
@@ -281,6 +295,10 @@ floor() {
 }
 floor 'where a read sleeps 4 lanes are 3.5 times as fast as one' "${took[s01]} >= 3.5 * ${took[s04]}"
 floor 'where a read sleeps 16 lanes are 10 times as fast as one' "${took[s01]} >= 10 * ${took[s16]}"
+# By one lane the batch takes the sum of its sleeps: 4 lanes have 1.15 of a fourth of it, 16 lanes 1.4 of a
+# sixteenth.
+floor 'where few reads sleep long 4 lanes take at most 1.15 of a fourth' "${took[u04]} <= 1.15 * ${took[u01]} / 4"
+floor 'where few reads sleep long 16 lanes take at most 1.4 of a sixteenth' "${took[u16]} <= 1.4 * ${took[u01]} / 16"
 floor 'in memory 4 lanes are 2.5 times as fast as one' "${took[m01]} >= 2.5 * ${took[m04]}"
 floor '9 jobs take 4 lanes at most 200 us longer than one' "${took[n04]} <= ${took[n01]} + 200000"
 floor 'one lane starts no thread, and 4 start some' "$(threads m01) == 0 && $(threads m04) > 0"

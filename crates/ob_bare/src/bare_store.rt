@@ -7,10 +7,14 @@ ghost use Rattle.ob_bare.specs.Cells.{cell_of, zeros};
 
 use crate::cells::blank;
 use ob_base::{Failed, Memory};
-use ob_lanes::{Hand, Lanes, read_hands_in_turn};
+use ob_claims::{Claims, Round};
+use ob_lanes::{Hand, Lanes, SealedJobs, read_hands, read_hands_in_turn};
 use ob_store::Store;
 use std::alloc::Global;
 use std::thread::Threads;
+
+// To start a thread takes the time of so many jobs: reads wait for nothing here.
+const JOBS_A_THREAD: usize = 32;
 
 /// A store in memory that keeps no record: it tells what a read gives, and no more. It fails
 /// exactly at a write past its end.
@@ -103,7 +107,18 @@ impl Store for BareStore {
 }
 
 impl Lanes for BareStore {
-    fn read_parts<R: Threads + Sync>(&self, _rt: &R, hands: &mut [Option<Hand<BareLane>>]) {
-        read_hands_in_turn(self, hands);
+    fn read_parts<R: Threads + Sync>(
+        &self,
+        rt: &R,
+        hands: &mut [Option<Hand<BareLane>>],
+        claims: &Claims,
+        round: &Round,
+        asked: &SealedJobs,
+    ) {
+        if asked.jobs.len() / JOBS_A_THREAD < hands.len() {
+            read_hands_in_turn(self, hands, claims, round, asked);
+        } else {
+            read_hands(rt, self, hands, claims, round, asked);
+        }
     }
 }

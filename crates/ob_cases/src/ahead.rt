@@ -11,8 +11,9 @@ ghost use Rattle.ob_mem.specs.Laws.{counts_now, only_now, includes_reads};
 
 use crate::calling::{CELLS, EMPTY, FORMAT, RUNS, WIDE, ask_for, blank, call_on, sink_of};
 use ob_base::Failed;
+use ob_claims::{Claims, Round};
 use ob_io::Sink;
-use ob_lanes::{Hand, Lanes, read_hands};
+use ob_lanes::{Hand, Lanes, SealedJobs, read_hands};
 use ob_mem::{MemLane, MemStore};
 use ob_store::Store;
 use std::process::Abort;
@@ -116,8 +117,15 @@ impl Store for Asking<'_> {
 }
 
 impl Lanes for Asking<'_> {
-    fn read_parts<R: Threads + Sync>(&self, rt: &R, hands: &mut [Option<Hand<MemLane>>]) {
-        read_hands(rt, self, hands);
+    fn read_parts<R: Threads + Sync>(
+        &self,
+        rt: &R,
+        hands: &mut [Option<Hand<MemLane>>],
+        claims: &Claims,
+        round: &Round,
+        asked: &SealedJobs,
+    ) {
+        read_hands(rt, self, hands, claims, round, asked);
     }
 }
 

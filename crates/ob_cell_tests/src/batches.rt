@@ -219,7 +219,7 @@ fn batches_are_read_or_the_first_failing_job_is_told(rt: HostRuntime) {
 }
 
 // Where one of 16 lanes is refused nothing is read, and the same crew reads all of the next batch:
-// of its 16 jobs ten fail, each in a lane of its own.
+// of its 16 jobs ten fail.
 fn goes_on<R: Abort + Threads + Sync>(rt: &R, alloc: Global, refused: u64) -> bool {
     let fails = [Fail::Lane(refused), READ_46, READ_56];
     let mut store = store_of(rt, alloc, &fails, 0);

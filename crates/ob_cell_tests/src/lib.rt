@@ -4,6 +4,10 @@
 #[cfg(test)]
 mod batches;
 #[cfg(test)]
+mod claiming;
+#[cfg(test)]
+mod late;
+#[cfg(test)]
 mod logs;
 #[cfg(test)]
 mod long;

@@ -7,5 +7,3 @@ pub mod Stopping
 pub mod Written
 pub mod Filling
 pub mod JobReads
-pub mod Dealt
-pub mod Opened

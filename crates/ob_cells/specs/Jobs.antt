@@ -1,17 +1,17 @@
 -- What jobs read.
-use Rattle.std.specs.Prelude.{◌≡◌, ◌<◌, ℕ, List, [], length, map, slice_index_or, Option, Some, None, Result, Ok, Err, IfErr}
+use Rattle.std.specs.Prelude.{◌≡◌, ◌<◌, ℕ, List, [], length, Option, Some, None, Result, Ok, Err}
 use Rattle.std.specs.Result.{IsOk}
-use Rattle.ob_base.specs.Causes.{Rose}
 use Rattle.ob_base.specs.declared.fault.Fault.{Fault}
-use Rattle.ob_base.specs.declared.fault.Fault.TheVariants.{Memory, Damaged, StoreFault}
+use Rattle.ob_base.specs.declared.fault.Fault.TheVariants.{StoreFault}
 use Rattle.ob_base.specs.declared.job.Job.{Job}
 use Rattle.ob_base.specs.Planned.{job_at}
 use Rattle.ob_seal.specs.declared.keys.Keys.{Keys}
-use Rattle.ob_seal.specs.Damage.{IsDamage}
-use Rattle.ob_seal.specs.Seals.{sealed}
 use Rattle.ob_store.specs.declared.event.Event.{Event}
 use Rattle.ob_store.specs.Disk.{Image}
 use Rattle.ob_store.specs.Calls.{IsStoreFault, Notes}
+use Rattle.ob_lanes.specs.declared.hand.Slot.{Slot}
+use Rattle.ob_lanes.specs.Hands.{slot_at}
+pub use Rattle.ob_lanes.specs.JobReads.{cells_of, IsPlainOf, IsJobFault, IsReadFault, IsJobRead}
 use Rattle.ob_cells.specs.declared.error.JobsErr.{JobsErr}
 use Rattle.ob_cells.specs.declared.error.JobsErr.TheVariants as error
 use Rattle.ob_cells.specs.Lanes.{ReadByLanes}
@@ -21,56 +21,23 @@ pub record Manned : Type 0 where
   pub lanes : ℕ
   pub jobs : ℕ
 
-abbrev pub cells_of : List Job → List ℕ
-cells_of jobs = map (λ j. j.cell) jobs
-
--- a job's cell spells these plain bytes under the job's identity
-pub record IsPlainOf (keys : Keys) (image : Image) (job : Job) (plain : List ℕ) : Type 0 where
-  pub whole : length plain ≡ 96
-  pub spelled : image job.cell ≡ sealed keys job.cell job.generation job.number plain
-
--- why a job fails: its read was refused, or its cell is damaged
-abbrev pub IsJobFault : Keys → Image → Job → Fault → Type 0
-IsJobFault keys image job (StoreFault unsure) = unsure ≡ None
-IsJobFault keys image job (Damaged cell check kept computed) =
-    IsDamage keys job.cell (Some (job.generation, job.number)) (image job.cell) (record { cell = cell; check = check; kept = kept; computed = computed })
-IsJobFault keys image job _ = ⊥
-
--- the faults of jobs
-abbrev pub IsReadFault : Fault → Type 0
-IsReadFault (StoreFault unsure) = unsure ≡ None
-IsReadFault (Damaged cell check kept computed) = Unit {0}
-IsReadFault _ = ⊥
-
--- what reading a job answers
-abbrev pub IsJobRead : Keys → Image → Job → Result (List ℕ) Fault → Type 0
-IsJobRead keys image job (Ok plain) = IsPlainOf keys image job plain
-IsJobRead keys image job (Err fault) = IsJobFault keys image job fault
-
-abbrev pub job_outcome : List (Result (List ℕ) Fault) → ℕ → Result (List ℕ) Fault
-job_outcome outcomes i = slice_index_or outcomes i (Err Memory)
+-- what a job gave
+abbrev pub job_outcome : List Slot → ℕ → Result (List ℕ) Fault
+job_outcome slots i = (slot_at slots i).outcome
 
 abbrev pub plain_of : Result (List ℕ) Fault → List ℕ
 plain_of (Ok plain) = plain
 plain_of (Err fault) = []
 
-abbrev pub plain_at : List (Result (List ℕ) Fault) → ℕ → List ℕ
-plain_at outcomes i = plain_of (job_outcome outcomes i)
-
--- the outcomes of these jobs
-abbrev pub AreOutcomes : Keys → Image → List Job → List (Result (List ℕ) Fault) → Type 0
-AreOutcomes keys image jobs outcomes = (i : ℕ) → i < length jobs → IsJobRead keys image (job_at jobs i) (job_outcome outcomes i)
-
--- each is a fault of a read, and the store's own only where a count rose
-abbrev pub AreCaused : ℕ → ℕ → ℕ → List (Result (List ℕ) Fault) → Type 0
-AreCaused before now jobs outcomes = (i : ℕ) → i < jobs → IfErr (job_outcome outcomes i) (λ f. IsReadFault f × (IsStoreFault f → Rose before now))
+abbrev pub plain_at : List Slot → ℕ → List ℕ
+plain_at slots i = plain_of (job_outcome slots i)
 
 -- the first of so many that failed
-pub record IsFirstErr (outcomes : List (Result (List ℕ) Fault)) (jobs : ℕ) (fault : Fault) : Type 0 where
+pub record IsFirstErr (slots : List Slot) (jobs : ℕ) (fault : Fault) : Type 0 where
   pub job : ℕ
   pub within : job < jobs
-  pub earlier : (i : ℕ) → i < job → IsOk (job_outcome outcomes i)
-  pub is : job_outcome outcomes job ≡ Err fault
+  pub earlier : (i : ℕ) → i < job → IsOk (job_outcome slots i)
+  pub is : job_outcome slots job ≡ Err fault
 
 -- each job has its plain bytes, and is else as before
 pub record AreFilled (old new : List Job) (plain : ℕ → List ℕ) : Type 0 where

@@ -7,5 +7,4 @@ pub mod Writes
 pub mod Errors
 pub mod Jobs
 pub mod Lanes
-pub mod Shares
 pub mod Windows

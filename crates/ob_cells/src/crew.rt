@@ -2,8 +2,8 @@
 
 ghost use Rattle.std.specs.Prelude.{◌≡◌, ◌≤◌, IfOk};
 
-use crate::rooms::Rooms;
 use ob_base::Memory;
+use ob_lanes::Readers;
 use std::alloc::Global;
 use std::marker::Model;
 
@@ -11,19 +11,18 @@ use std::marker::Model;
 /// numbers.
 #[derive(Drop)]
 pub struct Crew<L> {
-    pub(crate) rooms: Rooms<L>,
+    pub(crate) readers: Readers<L>,
 }
 
 impl<L> Model for Crew<L> {
-    ghost use Rattle.std.specs.Prelude.{length};
+    ghost use Rattle.ob_lanes.specs.Rooms.{AreReaders, jobs_of, lanes_of};
     ghost use Rattle.ob_cells.specs.Jobs.{Manned};
-    ghost use Rattle.ob_cells.specs.Shares.{HasRooms};
 
     ghost Value = { Manned };
 
-    ghost view = { λ s. record { lanes = s.rooms.lanes; jobs = length s.rooms.outcomes.items } };
+    ghost view = { λ s. record { lanes = lanes_of s.readers; jobs = jobs_of s.readers } };
 
-    ghost invariant = { λ s. HasRooms s.rooms };
+    ghost invariant = { λ s. AreReaders s.readers };
 }
 
 impl<L> Crew<L> {
@@ -37,8 +36,8 @@ impl<L> Crew<L> {
         requires { (1 ≤ lanes) × (lanes ≤ 16) }
         ensures { IfOk result (λ s. s ≡ record { lanes = lanes; jobs = jobs }) }
     {
-        let rooms = Rooms::new(alloc, lanes, jobs)?;
-        Ok(Crew { rooms })
+        let readers = Readers::new(alloc, lanes, jobs)?;
+        Ok(Crew { readers })
     }
 
     /// The most lanes.
@@ -47,13 +46,13 @@ impl<L> Crew<L> {
         ensures some { 1 ≤ result }
         ensures few { result ≤ 16 }
     {
-        self.rooms.lanes
+        self.readers.parts.len()
     }
 
     /// How many jobs there is room for.
     pub fn jobs(&self) -> usize
         ensures { result ≡ self.now.jobs }
     {
-        self.rooms.outcomes.len()
+        self.readers.slots.len()
     }
 }

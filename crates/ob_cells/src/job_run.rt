@@ -4,28 +4,26 @@ ghost use Rattle.std.specs.Prelude.{◌≡◌, ◌≤◌, length, IfErr};
 ghost use Rattle.ob_store.specs.Images.{Same, Passes};
 ghost use Rattle.ob_store.specs.Calls.{Serves, Keeps};
 ghost use Rattle.ob_cells.specs.Jobs.{AreJobsAnswered, AreKept, AreSeen, IsBlamed, IsJobsErr};
-ghost use Rattle.ob_cells.specs.Shares.{AreAsLarge, HasRooms};
+ghost use Rattle.ob_lanes.specs.Rooms.{AreAsLarge, AreReaders, jobs_of, lanes_of};
 
 use crate::crew::Crew;
 use crate::error::JobsErr;
-use crate::job_opening::{judge, keep_all};
-use crate::job_reading::read_jobs;
-use crate::rooms::Rooms;
+use crate::job_outcomes::{first_fault, keep_all};
 use ob_base::{Failed, Fault, Jobs};
-use ob_lanes::Lanes;
+use ob_lanes::{Lanes, Readers, read_jobs};
 use ob_seal::Sealer;
 use std::thread::Threads;
 
-// What `run_jobs` does, in a crew's rooms.
+// What `run_jobs` does, by a crew's readers.
 fn run_in<S: Lanes, R: Threads + Sync>(
     rt: &R,
     store: &mut S,
-    rooms: &mut Rooms<S::Lane>,
+    readers: &mut Readers<S::Lane>,
     sealer: &Sealer,
     jobs: &mut Jobs,
 ) -> Result<(), JobsErr>
-    requires rooms { HasRooms rooms.old }
-    requires few { length jobs.old.jobs ≤ length rooms.old.outcomes.items }
+    requires readers { AreReaders readers.old }
+    requires few { length jobs.old.jobs ≤ jobs_of readers.old }
     ensures serves { Serves IsBlamed (S.disk store.old) (S.disk store.new) result }
     ensures value { (S.disk store.old).tells
         → AreJobsAnswered sealer.now.keys (S.disk store.old).cells jobs.old.jobs jobs.new.jobs
@@ -33,23 +31,23 @@ fn run_in<S: Lanes, R: Threads + Sync>(
     ensures faults { IfErr result IsJobsErr }
     ensures kept { AreKept jobs.old.jobs jobs.new.jobs result }
     ensures rest { jobs.new ≡ record jobs.old { jobs = jobs.new.jobs } }
-    ensures rooms { AreAsLarge rooms.old rooms.new }
+    ensures readers { AreAsLarge readers.old readers.new }
     ensures keeps { Keeps (S.disk store.old) (S.disk store.new) }
     ensures passes { Passes Same (S.disk store.old) (S.disk store.new) }
-    ensures seen { AreSeen rooms.old.lanes jobs.old.jobs (S.disk store.old).seen
+    ensures seen { AreSeen (lanes_of readers.old) jobs.old.jobs (S.disk store.old).seen
         (S.disk store.new).seen result }
 {
     let asked = jobs.jobs();
-    match read_jobs(rt, store, rooms, asked) {
+    match read_jobs(rt, store, readers, sealer, asked) {
         Ok(()) => {}
         Err(Failed) => return Err(JobsErr::NotBegun(Fault::StoreFault { unsure: None })),
     }
-    match judge(rt, sealer, rooms, asked) {
+    let slots = readers.slots.as_slice();
+    match first_fault(slots, asked.len()) {
         Some(fault) => return Err(JobsErr::Job(fault)),
         None => {}
     }
-    let outcomes = rooms.outcomes.as_slice();
-    keep_all(jobs, outcomes);
+    keep_all(jobs, slots);
     Ok(())
 }
 
@@ -84,5 +82,5 @@ pub fn run_jobs<S: Lanes, R: Threads + Sync>(
     ensures seen { AreSeen crew.old.lanes jobs.old.jobs (S.disk store.old).seen
         (S.disk store.new).seen result }
 {
-    run_in(rt, store, &mut crew.rooms, sealer, jobs)
+    run_in(rt, store, &mut crew.readers, sealer, jobs)
 }

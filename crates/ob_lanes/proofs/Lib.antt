@@ -1,3 +1,11 @@
+pub mod Claiming
 pub mod Each
-pub mod Rounding
-pub mod Dealing
+mod Gathering
+mod Last
+mod Left
+mod Places
+mod Rounding
+pub mod Sharing
+pub mod SlotReads
+mod Taking
+mod Whole

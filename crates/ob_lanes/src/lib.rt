@@ -1,13 +1,16 @@
-//! Cells read by several lanes at once: who reads which, lanes made for it, and all taken back.
+//! Jobs read by several lanes at once: each claims the next one and opens its cell, lanes are made
+//! for it, and all taken back.
 #![tactic(auto)]
 
-mod dealt;
 mod hand;
+mod job_reading;
 mod lanes;
+mod readers;
 mod reading;
 mod round;
 
-pub use dealt::read_dealt;
-pub use hand::{Hand, Slot};
+pub use hand::{Hand, Outcome, SealedJobs, Slot};
+pub use job_reading::read_jobs;
 pub use lanes::Lanes;
-pub use reading::{read_hands, read_hands_in_turn};
+pub use readers::Readers;
+pub use reading::{open_cell, read_hands, read_hands_in_turn, read_slot};

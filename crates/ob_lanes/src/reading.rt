@@ -1,75 +1,147 @@
-//! Reading what hands hold.
+//! Reading what hands claim.
 
-ghost use Rattle.std.specs.Prelude.{◌≡◌, ◌<◌, ◌≤◌, ℕ, length, false, [], ◌∷◌};
-ghost use Rattle.ob_base.specs.Causes.{Rose};
+ghost use Rattle.std.specs.Prelude.{◌≡◌, ◌<◌, ◌≤◌, ℕ, length, [], ◌∷◌, IfErr};
+ghost use Rattle.ob_base.specs.Planned.{job_at};
 ghost use Rattle.ob_store.specs.declared.event.Event.TheVariants as event;
+ghost use Rattle.ob_store.specs.Disk.{Image};
 ghost use Rattle.ob_store.specs.Calls.{Notes};
-ghost use Rattle.ob_lanes.specs.Hands.{IsPlaceRead, IsSlotRead, AreSlotsRead, AreFailuresCounted, hand_at, reads_in};
+ghost use Rattle.ob_lanes.specs.JobReads.{IsJobRead, IsDamagedFault, IsSlotRead};
+ghost use Rattle.ob_lanes.specs.Hands.{IsHandDone, IsHandRead, IsHandReady, IsPlaceRead, IsPlaceReady, hand_at};
 
-use crate::{Hand, Slot};
+use crate::{Hand, Outcome, SealedJobs, Slot};
+use ob_base::{Failed, Fault, Job};
+use ob_claims::{Claims, Round};
+use ob_seal::Sealer;
 use ob_store::Store;
 use std::thread;
 use std::thread::Threads;
 
-fn read_slot<S: Store>(store: &S, lane: &mut S::Lane, cell: u64) -> Slot
-    ensures read { IsSlotRead (S.disk store.now) cell result }
-    ensures seen { Notes (event.Read cell ∷ []) (S.lane_seen lane.old) (S.lane_seen lane.new) }
-    ensures later { S.lane_faults lane.old ≤ S.lane_faults lane.new }
-    ensures cause { result.good ≡ false → Rose (S.lane_faults lane.old) (S.lane_faults lane.new) }
+/// Opens a job's cell, which is sealed with the job's identity: its plain bytes, or how the cell is
+/// damaged.
+pub fn open_cell(sealer: &Sealer, job: &Job, bytes: &[u8; 128]) -> Outcome
+    ensures value { (image : Image) → bytes.now ≡ image job.now.cell
+        → IsJobRead sealer.now.keys image job.now result }
+    ensures faults { IfErr result IsDamagedFault }
 {
-    let mut bytes = [0; 128];
-    let good = store.read(lane, cell, &mut bytes).is_ok();
-    Slot { cell, bytes, good }
-}
-
-fn read_part<S: Store>(store: &S, lane: &mut S::Lane, part: &mut [Slot])
-    ensures read { AreSlotsRead (S.disk store.now) part.old part.new }
-    ensures seen { Notes (reads_in part.old) (S.lane_seen lane.old) (S.lane_seen lane.new) }
-    ensures later { S.lane_faults lane.old ≤ S.lane_faults lane.new }
-    ensures cause { AreFailuresCounted (S.lane_faults lane.old) (S.lane_faults lane.new)
-        (length part.new) part.new }
-{
-    for i in 0..part.len() {
-        let cell = part[i].cell;
-        part[i] = read_slot(store, lane, cell);
+    match sealer.unseal(job.cell, Some((job.generation, job.number)), bytes) {
+        Ok(opened) => Ok(opened.plain),
+        Err(damaged) => Err(Fault::from(damaged)),
     }
 }
 
-fn read_place<S: Store>(store: &S, place: &mut Option<Hand<S::Lane>>)
-    ensures { IsPlaceRead (S.disk store.now) S.lane_seen S.lane_faults place.old place.new }
+/// Reads the job at a place by a lane, and opens its cell. It is the store's fault where the lane
+/// could not read.
+pub fn read_slot<S: Store>(store: &S, lane: &mut S::Lane, asked: &SealedJobs, place: usize) -> Slot
+    requires within { place < length asked.now.jobs.now }
+    ensures place { result.place ≡ place }
+    ensures read { IsSlotRead asked.now.sealer.now.keys (S.disk store.now) (S.lane_faults lane.old)
+        (S.lane_faults lane.new) (job_at asked.now.jobs.now place) result }
+    ensures seen { Notes (event.Read (job_at asked.now.jobs.now place).cell ∷ [])
+        (S.lane_seen lane.old) (S.lane_seen lane.new) }
+    ensures later { S.lane_faults lane.old ≤ S.lane_faults lane.new }
+{
+    let job = &asked.jobs[place];
+    let mut bytes = [0; 128];
+    let outcome = match store.read(lane, job.cell, &mut bytes) {
+        Ok(()) => open_cell(asked.sealer, job, &bytes),
+        Err(Failed) => Err(Fault::StoreFault { unsure: None }),
+    };
+    Slot { place, outcome }
+}
+
+// Claims places and reads their jobs until none is left, or the hand's part is full.
+fn read_claimed<S: Store>(
+    store: &S,
+    hand: &mut Hand<S::Lane>,
+    claims: &Claims,
+    round: &Round,
+    asked: &SealedJobs,
+)
+    requires ready { IsHandReady claims.now round.now hand.old }
+    requires jobs { round.now.count ≡ length asked.now.jobs.now }
+    ensures read { IsHandRead (S.disk store.now) S.lane_seen S.lane_faults claims.now round.now
+        asked.now hand.old hand.new }
+    ensures ended { IsHandDone round.now hand.new }
+{
+    while hand.part.len() < hand.part.capacity() {
+        let Some(place) = claims.next(&mut hand.seat, round) else {
+            return;
+        };
+        let slot = read_slot(store, &mut hand.lane, asked, place);
+        hand.part.push_reserved(slot);
+    }
+}
+
+fn read_place<S: Store>(
+    store: &S,
+    place: &mut Option<Hand<S::Lane>>,
+    claims: &Claims,
+    round: &Round,
+    asked: &SealedJobs,
+)
+    requires ready { IsPlaceReady claims.now round.now place.old }
+    requires jobs { round.now.count ≡ length asked.now.jobs.now }
+    ensures { IsPlaceRead (S.disk store.now) S.lane_seen S.lane_faults claims.now round.now
+        asked.now place.old place.new }
 {
     if let Some(hand) = place {
-        read_part(store, &mut hand.lane, hand.part.as_mut_slice());
+        read_claimed(store, hand, claims, round, asked);
     }
 }
 
-/// Each hand reads its cells, in order and whatever became of the others, in a thread of its own
-/// where one can be started.
+/// Each hand claims places of the round, one after another, reads the job at each, and opens its
+/// cell, whatever became of the others, until none is left or its part is full; in a thread of its
+/// own where one can be started.
 pub fn read_hands<S: Store + Sync, R: Threads + Sync>(
     rt: &R,
     store: &S,
     hands: &mut [Option<Hand<S::Lane>>],
+    claims: &Claims,
+    round: &Round,
+    asked: &SealedJobs,
 )
 where
     S::Lane: Send,
+    requires ready { (i : ℕ) → i < length hands.old
+        → IsPlaceReady claims.now round.now (hand_at hands.old i) }
+    requires jobs { round.now.count ≡ length asked.now.jobs.now }
     ensures many { length hands.new ≡ length hands.old }
     ensures each { (i : ℕ) → i < length hands.old
-        → IsPlaceRead (S.disk store.now) S.lane_seen S.lane_faults (hand_at hands.old i)
-        (hand_at hands.new i) }
+        → IsPlaceRead (S.disk store.now) S.lane_seen S.lane_faults claims.now round.now asked.now
+        (hand_at hands.old i) (hand_at hands.new i) }
 {
     let threads = hands.len().max(1);
-    thread::for_each_mut(rt, hands, threads, &|_, place| read_place(store, place));
+    thread::for_each_mut(
+        rt,
+        hands,
+        threads,
+        &|_, place: &mut Option<Hand<S::Lane>>|
+            requires { IsPlaceReady claims.now round.now place.old
+                × (round.now.count ≡ length asked.now.jobs.now) }
+            ensures { IsPlaceRead (S.disk store.entry.now) S.lane_seen S.lane_faults
+                claims.entry.now round.entry.now asked.entry.now place.old place.new }
+        { read_place(store, place, claims, round, asked) },
+    );
 }
 
 /// The same by the calling thread alone, hand by hand: for a store whose reads wait for nothing, so
-/// that to start a thread takes longer than they do.
-pub fn read_hands_in_turn<S: Store>(store: &S, hands: &mut [Option<Hand<S::Lane>>])
+/// that to start a thread takes longer than few reads do.
+pub fn read_hands_in_turn<S: Store>(
+    store: &S,
+    hands: &mut [Option<Hand<S::Lane>>],
+    claims: &Claims,
+    round: &Round,
+    asked: &SealedJobs,
+)
+    requires ready { (i : ℕ) → i < length hands.old
+        → IsPlaceReady claims.now round.now (hand_at hands.old i) }
+    requires jobs { round.now.count ≡ length asked.now.jobs.now }
     ensures many { length hands.new ≡ length hands.old }
     ensures each { (i : ℕ) → i < length hands.old
-        → IsPlaceRead (S.disk store.now) S.lane_seen S.lane_faults (hand_at hands.old i)
-        (hand_at hands.new i) }
+        → IsPlaceRead (S.disk store.now) S.lane_seen S.lane_faults claims.now round.now asked.now
+        (hand_at hands.old i) (hand_at hands.new i) }
 {
     for i in 0..hands.len() {
-        read_place(store, &mut hands[i]);
+        read_place(store, &mut hands[i], claims, round, asked);
     }
 }

@@ -10,7 +10,8 @@ use crate::gate::Gate;
 use crate::log::MemLane;
 use crate::mem_store::MemStore;
 use ob_base::Failed;
-use ob_lanes::{Hand, Lanes, read_hands};
+use ob_claims::{Claims, Round};
+use ob_lanes::{Hand, Lanes, SealedJobs, read_hands};
 use ob_store::Store;
 use std::thread::Threads;
 
@@ -101,7 +102,14 @@ impl Store for GateStore {
 }
 
 impl Lanes for GateStore {
-    fn read_parts<R: Threads + Sync>(&self, rt: &R, hands: &mut [Option<Hand<MemLane>>]) {
-        read_hands(rt, self, hands);
+    fn read_parts<R: Threads + Sync>(
+        &self,
+        rt: &R,
+        hands: &mut [Option<Hand<MemLane>>],
+        claims: &Claims,
+        round: &Round,
+        asked: &SealedJobs,
+    ) {
+        read_hands(rt, self, hands, claims, round, asked);
     }
 }

@@ -8,7 +8,8 @@ ghost use Rattle.ob_mem.specs.Laws.{counts_now, only_now, includes_reads};
 use crate::log::MemLane;
 use crate::mem_store::MemStore;
 use ob_base::Failed;
-use ob_lanes::{Hand, Lanes, read_hands};
+use ob_claims::{Claims, Round};
+use ob_lanes::{Hand, Lanes, SealedJobs, read_hands};
 use ob_store::Store;
 use std::sync::atomic::AtomicBool;
 use std::sync::atomic::Ordering::SeqCst;
@@ -105,7 +106,14 @@ impl<'h> Store for HoldStore<'h> {
 }
 
 impl<'h> Lanes for HoldStore<'h> {
-    fn read_parts<R: Threads + Sync>(&self, rt: &R, hands: &mut [Option<Hand<MemLane>>]) {
-        read_hands(rt, self, hands);
+    fn read_parts<R: Threads + Sync>(
+        &self,
+        rt: &R,
+        hands: &mut [Option<Hand<MemLane>>],
+        claims: &Claims,
+        round: &Round,
+        asked: &SealedJobs,
+    ) {
+        read_hands(rt, self, hands, claims, round, asked);
     }
 }

@@ -16,7 +16,8 @@ use crate::fail::{Counts, Fail};
 use crate::log::{Log, MemLane};
 use crate::past::History;
 use ob_base::{Failed, Memory};
-use ob_lanes::{Hand, Lanes, read_hands};
+use ob_claims::{Claims, Round};
+use ob_lanes::{Hand, Lanes, SealedJobs, read_hands};
 use ob_store::{Event, Store};
 use std::alloc::Global;
 use std::thread::Threads;
@@ -329,7 +330,14 @@ impl Store for MemStore {
 }
 
 impl Lanes for MemStore {
-    fn read_parts<R: Threads + Sync>(&self, rt: &R, hands: &mut [Option<Hand<MemLane>>]) {
-        read_hands(rt, self, hands);
+    fn read_parts<R: Threads + Sync>(
+        &self,
+        rt: &R,
+        hands: &mut [Option<Hand<MemLane>>],
+        claims: &Claims,
+        round: &Round,
+        asked: &SealedJobs,
+    ) {
+        read_hands(rt, self, hands, claims, round, asked);
     }
 }

@@ -1,74 +1,157 @@
 -- Hands that both halves have read are read of the mirror.
-use Rattle.std.proofs.Common.{◌≡◌, ◌≤◌, ◌+◌, ℕ, List, Option, Some, None, Bool, true, false, refl, sym, ◌∙◌, ap, subst, arith}
+use Rattle.std.proofs.Common.{◌≡◌, ◌≤◌, ◌<◌, ◌+◌, ℕ, zero, suc, List, [], ◌∷◌, ◌++◌, Option, Some, None, Ok, Bool, true, false, length, refl, sym, ◌∙◌, ap, subst, arith, inl, inr, ⊎_elim}
 use Rattle.std.specs.Borrow.{GName}
 use Rattle.std.specs.Prelude.{vec_capacity}
+use Rattle.std.specs.List.{All}
+use Rattle.std.proofs.lemmas.List.{get_or_default}
 use Rattle.ob_base.specs.Causes.{Rose}
+use Rattle.ob_base.specs.declared.job.Job.{Job}
+use Rattle.ob_base.specs.Planned.{job_at}
+use Rattle.ob_seal.specs.declared.keys.Keys.{Keys}
 use Rattle.ob_store.specs.declared.event.Event.{Event}
-use Rattle.ob_store.specs.Disk.{Disk}
+use Rattle.ob_store.specs.Disk.{Disk, Image}
 use Rattle.ob_store.specs.Calls.{Notes}
+use Rattle.ob_claims.specs.declared.claims.Claims.{Claims}
+use Rattle.ob_claims.specs.declared.claims.Round.{Round}
+use Rattle.ob_claims.specs.ClaimCalls.{ClaimSeat, HasCome, IsClaimSeat}
 use Rattle.ob_lanes.specs.declared.hand.Hand.{Hand}
+use Rattle.ob_lanes.specs.declared.hand.SealedJobs.{SealedJobs}
 use Rattle.ob_lanes.specs.declared.hand.Slot.{Slot}
-use Rattle.ob_lanes.specs.Hands.{IsSlotRead, IsHandRead, IsPlaceRead, reads_in}
+use Rattle.ob_lanes.specs.Hands.{HasClaimed, IsHandDone, IsHandRead, IsHandReady, IsPlaceRead, IsPlaceReady, IsReadAt, slot_places, reads_of, slot_at}
+use Rattle.ob_lanes.specs.JobReads.{IsJobRead, IsSlotRead}
+use Rattle.ob_lanes.specs.Shares.{RiseFrom}
+use Rattle.ob_lanes.proofs.SlotReads.{slot_rose}
 use Rattle.ob_mirror.specs.declared.lane.MirrorLane.{MirrorLane}
 use Rattle.ob_mirror.specs.declared.lane.SecondLane.{SecondLane}
 use Rattle.ob_mirror.specs.Mirrored.{Agree, mirrored}
-use Rattle.ob_mirror.specs.Reading.{AreMended, IsHandReadOfEither, IsMended, IsParted, IsPlaceMended, IsPlaceReadOfEither}
+use Rattle.ob_mirror.specs.Reading.{AreMended, IsHandReadOfEither, IsMended, IsParted, IsPlaceMended, IsPlaceReadOfEither, HasPlacesOfJobs, is_refused}
 
-rose_more : (a c b d : ℕ) → a ≤ c → Rose b d → Rose (a + b) (c + d)
-rose_more a c b d le rose = omega arith
+abbrev blank : Slot
+blank = record { place = 0; outcome = Ok [] }
+
+rose_second : (a c b d : ℕ) → a ≤ c → Rose b d → Rose (a + b) (c + d)
+rose_second a c b d le rose = omega arith
+
+rose_first : (a c b d : ℕ) → b ≤ d → Rose a c → Rose (a + b) (c + d)
+rose_first a c b d le rose = omega arith
+
+-- slots that stand at the places of others
+same_places : (old new : List Slot) → length new ≡ length old → ((i : ℕ) → i < length old → (slot_at new i).place ≡ (slot_at old i).place) → slot_places new ≡ slot_places old
+same_places [] [] many each = refl
+same_places [] (y ∷ ys) many each = absurd (omega (arith, many))
+same_places (x ∷ xs) [] many each = absurd (omega (arith, many))
+same_places (x ∷ xs) (y ∷ ys) many each =
+    ap (λ (p : ℕ). p ∷ slot_places ys) (each zero (omega arith)) ∙ ap (λ (ps : List ℕ). x.place ∷ ps) (same_places xs ys (omega (arith, many)) (λ i lt. each (suc i) (omega (arith, lt))))
 
 module _ (x y : GName) (together : Type 0) (a b : Disk) (agree : Agree together a b) where
-  slot_by : (cell : ℕ) (one two : Slot) (good : Bool) → one.good ≡ good → IsSlotRead a cell one → IsMended b one two → IsSlotRead (mirrored x y together a b) cell two
-  slot_by cell one two true is read mended =
-      let stays = mended.good is in record {
-        same = ap (λ (s : Slot). s.cell) stays ∙ read.same;
-        bytes = λ tells good. ap (λ (s : Slot). s.bytes) stays ∙ read.bytes tells.1 is;
-      }
-  slot_by cell one two false is read mended =
-      let again = mended.bad is in record {
-        same = again.same ∙ read.same;
-        bytes = λ tells good. again.bytes tells.2 good ∙ ap b.cells read.same ∙ agree tells.0 tells.1 tells.2 cell;
-      }
+  -- what the second half gave of a job is what the mirror's cells give
+  second_read : (keys : Keys) (before now : ℕ) (job : Job) (slot : Slot) → IsSlotRead keys b before now job slot → IsSlotRead keys (mirrored x y together a b) before now job slot
+  second_read keys before now job slot read = record {
+    value = λ tells. subst (λ (image : Image). IsJobRead keys image job slot.outcome) (λ i k. agree tells.0 tells.1 tells.2 k i) (read.value tells.2);
+    faults = read.faults;
+    cause = read.cause;
+  }
 
-  module _ {L M : Type 0} (seen_a : L → Option (List Event)) (faults_a : L → ℕ) (seen_b : M → Option (List Event)) (faults_b : M → ℕ) where
-    hand_read : (old new : Hand (MirrorLane L M)) → IsHandReadOfEither seen_a faults_a seen_b faults_b a b old new
-        → IsHandRead (mirrored x y together a b) (λ (l : MirrorLane L M). seen_a l.first) (λ (l : MirrorLane L M). faults_a l.first + faults_b l.second.lane) old new
+  first_read : (keys : Keys) (before now : ℕ) (job : Job) (slot : Slot) → IsSlotRead keys a before now job slot → IsSlotRead keys (mirrored x y together a b) before now job slot
+  first_read keys before now job slot read = record { value = λ tells. read.value tells.1; faults = read.faults; cause = read.cause }
+
+  slot_by : (asked : SealedJobs) (fa fa' fb fb' : ℕ) (one two : Slot) (refused : Bool) → is_refused one.outcome ≡ refused → fa ≤ fa' → fb ≤ fb' → IsReadAt asked a fa fa' one → IsMended asked b fb fb' one two
+      → IsReadAt asked (mirrored x y together a b) (fa + fb) (fa' + fb') two
+  slot_by asked fa fa' fb fb' one two false is later later' read mended =
+      subst (λ (s : Slot). IsReadAt asked (mirrored x y together a b) (fa + fb) (fa' + fb') s) (sym (mended.good is)) (record {
+        within = read.within;
+        read = slot_rose asked.sealer.now.keys (mirrored x y together a b) fa fa' (fa + fb) (fa' + fb') (job_at asked.jobs.now one.place) one (rose_first fa fa' fb fb' later')
+            (first_read asked.sealer.now.keys fa fa' (job_at asked.jobs.now one.place) one read.read);
+      })
+  slot_by asked fa fa' fb fb' one two true is later later' read mended = record {
+    within = (let at = mended.place in let lt = read.within in omega (arith, at, lt));
+    read = subst (λ (p : ℕ). IsSlotRead asked.sealer.now.keys (mirrored x y together a b) (fa + fb) (fa' + fb') (job_at asked.jobs.now p) two) (sym mended.place)
+        (slot_rose asked.sealer.now.keys (mirrored x y together a b) fb fb' (fa + fb) (fa' + fb') (job_at asked.jobs.now one.place) two (rose_second fa fa' fb fb' later)
+        (second_read asked.sealer.now.keys fb fb' (job_at asked.jobs.now one.place) two (mended.bad is)));
+  }
+
+  module _ {L M : Type 0} (seen_a : L → Option (List Event)) (faults_a : L → ℕ) (seen_b : M → Option (List Event)) (faults_b : M → ℕ) (claims : Claims) (round : Round) (asked : SealedJobs) where
+    -- the seat that a hand read with, and the places that it had claimed
+    claimed_so : (tried : Hand L) (new : Hand (MirrorLane L M)) → new.seat ≡ tried.seat → slot_places new.part.items ≡ slot_places tried.part.items → HasClaimed claims round tried → HasClaimed claims round new
+    claimed_so tried new seat places was =
+        let beyond = was.beyond in record {
+          own = subst (IsClaimSeat claims) (sym seat) was.own;
+          come = subst (λ (s : ClaimSeat). HasCome s round) (sym seat) was.come;
+          beyond = beyond;
+          behind = was.behind;
+          claimed = ap (λ (s : ClaimSeat). s.me.0.claimed) seat ∙ was.claimed ∙ ap (λ (ps : List ℕ). ps ++ beyond) (sym places);
+          rising = subst (RiseFrom 0) (sym places) was.rising;
+          reached = subst (λ (ps : List ℕ). All (λ x. x < new.seat.me.0.reached) ps) (sym places) (subst (λ (n : ℕ). All (λ x. x < n) (slot_places tried.part.items)) (sym (ap (λ (s : ClaimSeat). s.me.0.reached) seat)) was.reached);
+        }
+
+    hand_read : (old new : Hand (MirrorLane L M)) → IsHandReadOfEither seen_a faults_a seen_b faults_b a b claims round asked old new
+        → IsHandRead (mirrored x y together a b) (λ (l : MirrorLane L M). seen_a l.first) (λ (l : MirrorLane L M). faults_a l.first + faults_b l.second.lane) claims round asked old new
     hand_read old new by =
-        let lane = sym by.lane in record {
-          read = record {
-            many = by.second.many ∙ by.first.read.many;
-            each = λ i lt. slot_by _ _ _ _ refl (by.first.read.each i lt) (by.second.each i (let many = by.first.read.many in omega (arith, lt, many)));
-          };
-          seen = subst (λ (l : L). Notes (reads_in old.part.items) (seen_a old.lane.first) (seen_a l)) lane by.first.seen;
-          later = subst (λ (l : L). faults_a old.lane.first + faults_b old.lane.second.lane ≤ faults_a l + faults_b new.lane.second.lane) lane (let one = by.first.later in let two = by.second.later in omega arith);
-          cause = λ i lt bad. subst (λ (l : L). Rose (faults_a old.lane.first + faults_b old.lane.second.lane) (faults_a l + faults_b new.lane.second.lane)) lane (rose_more _ _ _ _ by.first.later (by.second.cause i lt bad));
+        let lane = sym by.lane in
+        let many = by.second.many in
+        let places : slot_places new.part.items ≡ slot_places by.tried.part.items = same_places by.tried.part.items new.part.items many (λ i lt. (by.second.each i lt).place) in record {
+          seat = claimed_so by.tried new by.seat places by.first.seat;
+          parts = ap (λ (s : ClaimSeat). s.me.0.parts) by.seat ∙ by.first.parts;
+          read = subst (λ (l : L). All (IsReadAt asked (mirrored x y together a b) (faults_a old.lane.first + faults_b old.lane.second.lane) (faults_a l + faults_b new.lane.second.lane)) new.part.items) lane
+              (λ k d lt. let lt' : k < length by.tried.part.items = omega (arith, lt, many) in
+              subst (λ (s : Slot). IsReadAt asked (mirrored x y together a b) (faults_a old.lane.first + faults_b old.lane.second.lane) (faults_a by.tried.lane + faults_b new.lane.second.lane) s) (get_or_default new.part.items k blank d lt)
+              (slot_by asked (faults_a old.lane.first) (faults_a by.tried.lane) (faults_b old.lane.second.lane) (faults_b new.lane.second.lane) (slot_at by.tried.part.items k) (slot_at new.part.items k) (is_refused (slot_at by.tried.part.items k).outcome) refl by.first.later by.second.later
+              (by.first.read k blank lt') (by.second.each k lt')));
+          seen = subst (λ (ps : List ℕ). Notes (reads_of asked ps) (seen_a old.lane.first) (seen_a new.lane.first)) (sym places) (subst (λ (l : L). Notes (reads_of asked (slot_places by.tried.part.items)) (seen_a old.lane.first) (seen_a l)) lane by.first.seen);
+          later = subst (λ (l : L). faults_a old.lane.first + faults_b old.lane.second.lane ≤ faults_a l + faults_b new.lane.second.lane) lane (let one = by.first.later in let two = by.second.later in omega (arith, one, two));
           room = by.room;
         }
 
-    pub place_read : (old new : Option (Hand (MirrorLane L M))) → IsPlaceReadOfEither seen_a faults_a seen_b faults_b a b old new
-        → IsPlaceRead (mirrored x y together a b) (λ (l : MirrorLane L M). seen_a l.first) (λ (l : MirrorLane L M). faults_a l.first + faults_b l.second.lane) old new
-    place_read (Some old) (Some new) by = hand_read old new by
+    hand_done : (old new : Hand (MirrorLane L M)) → IsHandReadOfEither seen_a faults_a seen_b faults_b a b claims round asked old new → IsHandDone round new
+    hand_done old new by =
+        let full = by.room in
+        let whole = by.first.room in
+        let many = by.second.many in
+        let reached : new.seat.me.0.reached ≡ by.tried.seat.me.0.reached = ap (λ (s : ClaimSeat). s.me.0.reached) by.seat in
+        ⊎_elim (λ le. inl (omega (arith, le, full, whole, many))) (λ le. inr (omega (arith, le, reached))) by.done
+
+    pub place_read : (old new : Option (Hand (MirrorLane L M))) → IsPlaceReadOfEither seen_a faults_a seen_b faults_b a b claims round asked old new
+        → IsPlaceRead (mirrored x y together a b) (λ (l : MirrorLane L M). seen_a l.first) (λ (l : MirrorLane L M). faults_a l.first + faults_b l.second.lane) claims round asked old new
+    place_read (Some old) (Some new) by = (hand_read old new by, hand_done old new by)
     place_read (Some old) None by = by
     place_read None (Some new) by = by
     place_read None None by = by
 
-module _ {L M : Type 0} (seen_a : L → Option (List Event)) (faults_a : L → ℕ) (seen_b : M → Option (List Event)) (faults_b : M → ℕ) (a b : Disk) where
-  -- a hand was parted, read by the first half, and put together again
-  pub place_by : (old : Option (Hand (MirrorLane L M))) (out back : Option (Hand L)) (second : Option (SecondLane M)) (new : Option (Hand (MirrorLane L M)))
-      → IsParted old out second → IsPlaceRead a seen_a faults_a out back → IsPlaceMended b seen_b faults_b back second new → IsPlaceReadOfEither seen_a faults_a seen_b faults_b a b old new
-  place_by (Some old) (Some out) (Some back) (Some second) (Some new) parted read mended = record {
-    tried = back;
-    first = subst (λ (h : Hand L). IsHandRead a seen_a faults_a h back) parted.0 read;
-    second = subst (λ (s : SecondLane M). AreMended b seen_b faults_b back.part.items new.part.items s new.lane.second) parted.1 mended.mended;
-    lane = mended.lane;
-    room = mended.room ∙ read.room ∙ ap (λ (h : Hand L). vec_capacity h.part) parted.0;
-  }
-  place_by (Some old) (Some out) (Some back) (Some second) None parted read mended = mended
-  place_by (Some old) (Some out) None (Some second) new parted read mended = absurd read
-  place_by (Some old) (Some out) back None new parted read mended = absurd parted
-  place_by (Some old) None back second new parted read mended = absurd parted
-  place_by None (Some out) back second new parted read mended = absurd parted
-  place_by None None (Some back) second new parted read mended = absurd read
-  place_by None None None (Some second) new parted read mended = absurd parted
-  place_by None None None None (Some new) parted read mended = absurd (let wrong : Some new ≡ None = mended in cc)
-  place_by None None None None None parted read mended = tt
+-- what a hand has read are jobs
+pub read_within : {L : Type 0} (claims : Claims) (round : Round) (asked : SealedJobs) (a : Disk) (seen : L → Option (List Event)) (faults : L → ℕ) (out back : Option (Hand L)) → IsPlaceRead a seen faults claims round asked out back → HasPlacesOfJobs asked back
+read_within claims round asked a seen faults (Some out) (Some back) read = λ i lt. (read.0.read i blank lt).within
+read_within claims round asked a seen faults (Some out) None read = absurd read
+read_within claims round asked a seen faults None (Some back) read = absurd read
+read_within claims round asked a seen faults None None read = tt
+
+module _ {L M : Type 0} (claims : Claims) (round : Round) (asked : SealedJobs) where
+  -- a hand that was parted is as ready as it was
+  pub parted_ready : (old : Option (Hand (MirrorLane L M))) (out : Option (Hand L)) (second : Option (SecondLane M)) → IsPlaceReady claims round old → IsParted old out second → IsPlaceReady claims round out
+  parted_ready (Some old) (Some out) (Some second) ready parted = subst (IsHandReady claims round) (sym parted.0) (record { own = ready.own; come = ready.come; start = ready.start; unclaimed = ready.unclaimed; empty = ready.empty })
+  parted_ready (Some old) (Some out) None ready parted = absurd parted
+  parted_ready (Some old) None second ready parted = absurd parted
+  parted_ready None (Some out) second ready parted = absurd parted
+  parted_ready None None second ready parted = tt
+
+  module _ (seen_a : L → Option (List Event)) (faults_a : L → ℕ) (seen_b : M → Option (List Event)) (faults_b : M → ℕ) (a b : Disk) where
+    -- a hand was parted, read by the first half, and put together again
+    pub place_by : (old : Option (Hand (MirrorLane L M))) (out back : Option (Hand L)) (second : Option (SecondLane M)) (new : Option (Hand (MirrorLane L M)))
+        → IsParted old out second → IsPlaceRead a seen_a faults_a claims round asked out back → IsPlaceMended asked b seen_b faults_b back second new → IsPlaceReadOfEither seen_a faults_a seen_b faults_b a b claims round asked old new
+    place_by (Some old) (Some out) (Some back) (Some second) (Some new) parted read mended = record {
+      tried = back;
+      first = subst (λ (h : Hand L). IsHandRead a seen_a faults_a claims round asked h back) parted.0 read.0;
+      done = read.1;
+      second = subst (λ (s : SecondLane M). AreMended asked b seen_b faults_b back.part.items new.part.items s new.lane.second) parted.1 mended.mended;
+      lane = mended.lane;
+      seat = mended.seat;
+      room = mended.room ∙ read.0.room ∙ ap (λ (h : Hand L). vec_capacity h.part) parted.0;
+    }
+    place_by (Some old) (Some out) (Some back) (Some second) None parted read mended = mended
+    place_by (Some old) (Some out) None (Some second) new parted read mended = absurd read
+    place_by (Some old) (Some out) back None new parted read mended = absurd parted
+    place_by (Some old) None back second new parted read mended = absurd parted
+    place_by None (Some out) back second new parted read mended = absurd parted
+    place_by None None (Some back) second new parted read mended = absurd read
+    place_by None None None (Some second) new parted read mended = absurd parted
+    place_by None None None None (Some new) parted read mended = absurd (let wrong : Some new ≡ None = mended in cc)
+    place_by None None None None None parted read mended = tt

@@ -2,7 +2,7 @@
 
 ghost use Rattle.std.specs.Prelude.{◌≡◌, ◌≤◌, ◌<◌, ◌+◌, ◌-◌, ℕ, length, false};
 ghost use denote.Param.Send.{IsSync};
-ghost use Rattle.ob_lanes.specs.Hands.{IsPlaceRead, hand_at};
+ghost use Rattle.ob_lanes.specs.Hands.{IsPlaceRead, IsPlaceReady, hand_at};
 ghost use Rattle.ob_mirror.specs.Laws.{counts_now_of_either, only_now_of_either, includes_reads_of_first};
 ghost use Rattle.ob_mirror.specs.Asked.{IsLaneMade, IsLaneRead, IsAbsorbed, IsCellWritten, IsMadeSure};
 ghost use Rattle.ob_mirror.specs.Both.{AreAsked, saturating_sum, with_refusal};
@@ -11,9 +11,10 @@ ghost use Rattle.ob_mirror.specs.Reading.{IsPlaceReadOfEither};
 
 use crate::halves::Halves;
 use crate::lane::MirrorLane;
-use crate::places::{Places, read_both};
+use crate::places::{Phase, Places, read_both};
 use ob_base::Failed;
-use ob_lanes::{Hand, Lanes};
+use ob_claims::{Claims, Round};
+use ob_lanes::{Hand, Lanes, SealedJobs};
 use ob_store::Store;
 use std::thread::Threads;
 
@@ -154,26 +155,38 @@ impl<'a, A: Lanes, B: Store> Lanes for Mirror<'a, A, B> {
         &self,
         rt: &R,
         hands: &mut [Option<Hand<MirrorLane<A::Lane, B::Lane>>>],
+        claims: &Claims,
+        round: &Round,
+        asked: &SealedJobs,
     )
         requires sync { IsSync R.row }
         requires few { length hands.old ≤ 16 }
+        requires ready { (i : ℕ) → i < length hands.old
+            → IsPlaceReady claims.now round.now (hand_at hands.old i) }
+        requires jobs { round.now.count ≡ length asked.now.jobs.now }
         ensures many { length hands.new ≡ length hands.old }
         ensures each { (i : ℕ) → i < length hands.old
             → IsPlaceRead (⟦<Halves<'a, A, B> as Store>⟧.disk self.now.halves)
             (λ lane. A.lane_seen lane.first)
-            (λ lane. A.lane_faults lane.first + B.lane_faults lane.second.lane)
-            (hand_at hands.old i) (hand_at hands.new i) }
+            (λ lane. A.lane_faults lane.first + B.lane_faults lane.second.lane) claims.now
+            round.now asked.now (hand_at hands.old i) (hand_at hands.new i) }
         ensures halves { (i : ℕ) → i < length hands.old
             → IsPlaceReadOfEither A.lane_seen A.lane_faults B.lane_seen B.lane_faults
-            (A.disk self.now.halves.first.now) (B.disk self.now.halves.second.now)
-            (hand_at hands.old i) (hand_at hands.new i) }
+            (A.disk self.now.halves.first.now) (B.disk self.now.halves.second.now) claims.now
+            round.now asked.now (hand_at hands.old i) (hand_at hands.new i) }
     {
+        let phase = Phase {
+            claims,
+            round,
+            asked,
+        };
         read_both(
             rt,
             &self.places,
             &*self.halves.first,
             &*self.halves.second,
             hands,
+            &phase,
         );
     }
 }

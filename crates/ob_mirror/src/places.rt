@@ -1,14 +1,15 @@
-//! Hands of a mirror, read by the first half and, where that failed, by the second.
+//! Hands of a mirror, whose jobs are read by the first half and, where that failed, by the second.
 
-ghost use Rattle.std.specs.Prelude.{◌≡◌, ◌≢◌, ◌≤◌, ◌<◌, ◌+◌, ◌∷◌, [], ◌++◌, ℕ, length, take, false};
-ghost use Rattle.ob_base.specs.Causes.{Rose};
+ghost use Rattle.std.specs.Prelude.{◌≡◌, ◌≢◌, ◌≤◌, ◌<◌, ◌+◌, ◌∷◌, [], ◌++◌, ℕ, length, take, if◌then◌else◌};
 ghost use Rattle.ob_store.specs.Calls.{Notes};
-ghost use Rattle.ob_lanes.specs.Hands.{hand_at, reads_in, slot_at};
-ghost use Rattle.ob_mirror.specs.Reading.{AreMended, IsMended, IsParted, IsPlaceMended, IsPlaceReadOfEither, failed_in, lane_at, with_refusals};
+ghost use Rattle.ob_lanes.specs.Hands.{IsPlaceReady, hand_at, slot_places, reads_of, slot_at};
+ghost use Rattle.ob_mirror.specs.Both.{saturating_sum};
+ghost use Rattle.ob_mirror.specs.Reading.{AreMended, IsMended, IsParted, IsPlaceMended, IsPlaceReadOfEither, HasPlacesOfJobs, failed_in, is_refused, lane_at, with_refusals};
 
 use crate::lane::{MirrorLane, SecondLane};
-use ob_base::Failed;
-use ob_lanes::{Hand, Lanes, Slot};
+use ob_base::Fault;
+use ob_claims::{Claims, Round};
+use ob_lanes::{Hand, Lanes, Outcome, SealedJobs, Slot, read_slot};
 use ob_store::Store;
 use std::thread::Threads;
 
@@ -29,63 +30,93 @@ impl<L, M> Places<L, M> {
     }
 }
 
-// Reads again what isn't good.
-fn read_slot_again<B: Store>(store: &B, second: &mut SecondLane<B::Lane>, slot: Slot) -> Slot
-    ensures mended { IsMended (B.disk store.now) slot result }
-    ensures reads { Notes (reads_in (failed_in (slot ∷ []))) (B.lane_seen second.old.lane)
-        (B.lane_seen second.new.lane) }
+/// What the hands of a phase claim from, and the jobs.
+#[derive(Drop)]
+pub struct Phase<'a, 'j> {
+    pub claims: &'a Claims,
+    pub round: &'a Round,
+    pub asked: &'a SealedJobs<'j>,
+}
+
+// Whether the read of a job was refused.
+fn was_refused(outcome: &Outcome) -> bool
+    ensures { result ≡ is_refused outcome.now }
+{
+    matches!(outcome, Err(Fault::StoreFault { .. }))
+}
+
+// How many reads failed, with one more where it did.
+fn counted(failed: u64, refused: bool) -> u64
+    ensures { result ≡ (if refused then saturating_sum failed 1 else failed) }
+{
+    if refused {
+        failed.saturating_add(1)
+    } else {
+        failed
+    }
+}
+
+// Reads the job again whose read was refused.
+fn read_slot_again<B: Store>(
+    store: &B,
+    second: &mut SecondLane<B::Lane>,
+    asked: &SealedJobs,
+    slot: Slot,
+) -> Slot
+    requires within { slot.place < length asked.now.jobs.now }
+    ensures mended { IsMended asked.now (B.disk store.now) (B.lane_faults second.old.lane)
+        (B.lane_faults second.new.lane) slot result }
+    ensures reads { Notes (reads_of asked.now (slot_places (failed_in (slot ∷ []))))
+        (B.lane_seen second.old.lane) (B.lane_seen second.new.lane) }
     ensures later { B.lane_faults second.old.lane ≤ B.lane_faults second.new.lane }
-    ensures cause { result.good ≡ false
-        → Rose (B.lane_faults second.old.lane) (B.lane_faults second.new.lane) }
     ensures failed { second.new.failed ≡ with_refusals (result ∷ []) second.old.failed }
 {
-    if slot.good {
+    if !was_refused(&slot.outcome) {
         return slot;
     }
-    let cell = slot.cell;
-    let mut bytes = [0; 128];
-    match store.read(&mut second.lane, cell, &mut bytes) {
-        Ok(()) => Slot {
-            cell,
-            bytes,
-            good: true,
-        },
-        Err(Failed) => {
-            second.failed = second.failed.saturating_add(1);
-            Slot {
-                cell,
-                bytes,
-                good: false,
-            }
-        }
-    }
+    let again = read_slot(store, &mut second.lane, asked, slot.place);
+    second.failed = counted(second.failed, was_refused(&again.outcome));
+    again
 }
 
 // The same at a place of a part.
-fn again_at<B: Store>(store: &B, second: &mut SecondLane<B::Lane>, part: &mut [Slot], i: usize)
-    requires { i < length part.old }
+fn again_at<B: Store>(
+    store: &B,
+    second: &mut SecondLane<B::Lane>,
+    asked: &SealedJobs,
+    part: &mut [Slot],
+    i: usize,
+)
+    requires here { i < length part.old }
+    requires within { (slot_at part.old i).place < length asked.now.jobs.now }
     ensures many { length part.new ≡ length part.old }
-    ensures mended { IsMended (B.disk store.now) (slot_at part.old i) (slot_at part.new i) }
+    ensures mended { IsMended asked.now (B.disk store.now) (B.lane_faults second.old.lane)
+        (B.lane_faults second.new.lane) (slot_at part.old i) (slot_at part.new i) }
     ensures others { (j : ℕ) → j ≢ i → slot_at part.new j ≡ slot_at part.old j }
     ensures front { take (i + 1) part.new ≡ take i part.old ++ slot_at part.new i ∷ [] }
-    ensures reads { Notes (reads_in (failed_in (slot_at part.old i ∷ [])))
+    ensures reads { Notes (reads_of asked.now (slot_places (failed_in (slot_at part.old i ∷ []))))
         (B.lane_seen second.old.lane) (B.lane_seen second.new.lane) }
     ensures later { B.lane_faults second.old.lane ≤ B.lane_faults second.new.lane }
-    ensures cause { (slot_at part.new i).good ≡ false
-        → Rose (B.lane_faults second.old.lane) (B.lane_faults second.new.lane) }
     ensures failed { second.new.failed
         ≡ with_refusals (slot_at part.new i ∷ []) second.old.failed }
 {
-    part[i] = read_slot_again(store, second, part[i]);
+    part[i] = read_slot_again(store, second, asked, part[i]);
 }
 
 // The same in a whole part.
-fn read_again<B: Store>(store: &B, second: &mut SecondLane<B::Lane>, part: &mut [Slot])
-    ensures { AreMended (B.disk store.now) B.lane_seen B.lane_faults part.old part.new second.old
-        second.new }
+fn read_again<B: Store>(
+    store: &B,
+    second: &mut SecondLane<B::Lane>,
+    asked: &SealedJobs,
+    part: &mut [Slot],
+)
+    requires within { (i : ℕ) → i < length part.old
+        → (slot_at part.old i).place < length asked.now.jobs.now }
+    ensures { AreMended asked.now (B.disk store.now) B.lane_seen B.lane_faults part.old part.new
+        second.old second.new }
 {
     for i in 0..part.len() {
-        again_at(store, second, part, i);
+        again_at(store, second, asked, part, i);
     }
 }
 
@@ -96,9 +127,10 @@ fn part_place<L, M>(
 {
     match place.take() {
         Some(hand) => {
-            let Hand { lane, part } = hand;
+            let Hand { lane, seat, part } = hand;
             let MirrorLane { first, second } = lane;
-            (Some(Hand { lane: first, part }), Some(second))
+            let lane = first;
+            (Some(Hand { lane, seat, part }), Some(second))
         }
         None => (None, None),
     }
@@ -108,21 +140,25 @@ fn join_place<L: Drop, B: Store>(
     store: &B,
     first: Option<Hand<L>>,
     second: Option<SecondLane<B::Lane>>,
+    asked: &SealedJobs,
 ) -> Option<Hand<MirrorLane<L, B::Lane>>>
-    ensures joined { IsPlaceMended (B.disk store.now) B.lane_seen B.lane_faults first second
-        result }
+    requires within { HasPlacesOfJobs asked.now first }
+    ensures joined { IsPlaceMended asked.now (B.disk store.now) B.lane_seen B.lane_faults first
+        second result }
 {
     match (first, second) {
         (Some(hand), Some(mut second)) => {
-            let Hand { lane, mut part } = hand;
-            read_again(store, &mut second, part.as_mut_slice());
-            Some(Hand {
-                lane: MirrorLane {
-                    first: lane,
-                    second,
-                },
-                part,
-            })
+            let Hand {
+                lane,
+                seat,
+                mut part,
+            } = hand;
+            read_again(store, &mut second, asked, part.as_mut_slice());
+            let lane = MirrorLane {
+                first: lane,
+                second,
+            };
+            Some(Hand { lane, seat, part })
         }
         _ => None,
     }
@@ -157,10 +193,10 @@ fn part_all<L: Drop, M: Drop>(
     firsts: &mut [Option<Hand<L>>],
     seconds: &mut [Option<SecondLane<M>>],
 )
-    requires firsts { length hands.old ≤ length firsts.old }
+    requires firsts { length firsts.old ≡ length hands.old }
     requires seconds { length hands.old ≤ length seconds.old }
     ensures many { length hands.new ≡ length hands.old }
-    ensures many_firsts { length firsts.new ≡ length firsts.old }
+    ensures many_firsts { length firsts.new ≡ length hands.old }
     ensures many_seconds { length seconds.new ≡ length seconds.old }
     ensures parted { (i : ℕ) → i < length hands.old → IsParted (hand_at hands.old i)
         (hand_at firsts.new i) (lane_at seconds.new i) }
@@ -176,21 +212,23 @@ fn join_at<L: Drop, B: Store>(
     firsts: &mut [Option<Hand<L>>],
     seconds: &mut [Option<SecondLane<B::Lane>>],
     hands: &mut [Option<Hand<MirrorLane<L, B::Lane>>>],
+    asked: &SealedJobs,
     i: usize,
 )
     requires hand { i < length hands.old }
     requires first { i < length firsts.old }
     requires second { i < length seconds.old }
+    requires within { HasPlacesOfJobs asked.now (hand_at firsts.old i) }
     ensures many { length hands.new ≡ length hands.old }
     ensures many_firsts { length firsts.new ≡ length firsts.old }
     ensures many_seconds { length seconds.new ≡ length seconds.old }
-    ensures joined { IsPlaceMended (B.disk store.now) B.lane_seen B.lane_faults
+    ensures joined { IsPlaceMended asked.now (B.disk store.now) B.lane_seen B.lane_faults
         (hand_at firsts.old i) (lane_at seconds.old i) (hand_at hands.new i) }
     ensures hands { (j : ℕ) → j ≢ i → hand_at hands.new j ≡ hand_at hands.old j }
     ensures firsts { (j : ℕ) → j ≢ i → hand_at firsts.new j ≡ hand_at firsts.old j }
     ensures seconds { (j : ℕ) → j ≢ i → lane_at seconds.new j ≡ lane_at seconds.old j }
 {
-    hands[i] = join_place(store, firsts[i].take(), seconds[i].take());
+    hands[i] = join_place(store, firsts[i].take(), seconds[i].take(), asked);
 }
 
 // Moves them back.
@@ -199,35 +237,45 @@ fn join_all<L: Drop, B: Store>(
     firsts: &mut [Option<Hand<L>>],
     seconds: &mut [Option<SecondLane<B::Lane>>],
     hands: &mut [Option<Hand<MirrorLane<L, B::Lane>>>],
+    asked: &SealedJobs,
 )
     requires firsts { length hands.old ≤ length firsts.old }
     requires seconds { length hands.old ≤ length seconds.old }
+    requires within { (i : ℕ) → i < length hands.old → HasPlacesOfJobs asked.now (hand_at firsts.old i) }
     ensures many { length hands.new ≡ length hands.old }
-    ensures joined { (i : ℕ) → i < length hands.old → IsPlaceMended (B.disk store.now) B.lane_seen
-        B.lane_faults (hand_at firsts.old i) (lane_at seconds.old i) (hand_at hands.new i) }
+    ensures joined { (i : ℕ) → i < length hands.old → IsPlaceMended asked.now (B.disk store.now)
+        B.lane_seen B.lane_faults (hand_at firsts.old i) (lane_at seconds.old i)
+        (hand_at hands.new i) }
 {
     for i in 0..hands.len() {
-        join_at(store, firsts, seconds, hands, i);
+        join_at(store, firsts, seconds, hands, asked, i);
     }
 }
 
-/// Each hand reads its cells: the first half's lanes all of them, in threads where these can be
-/// started, and then the second half's on this thread those that failed.
+/// Each hand claims jobs and reads them: the first half's lanes all of them, in threads where these
+/// can be started, and then the second half's on this thread those that failed.
 pub fn read_both<A: Lanes, B: Store, R: Threads + Sync>(
     rt: &R,
     _places: &Places<A::Lane, B::Lane>,
     first: &A,
     second: &B,
     hands: &mut [Option<Hand<MirrorLane<A::Lane, B::Lane>>>],
+    phase: &Phase,
 )
     requires few { length hands.old ≤ 16 }
+    requires ready { (i : ℕ) → i < length hands.old
+        → IsPlaceReady phase.now.claims.now phase.now.round.now (hand_at hands.old i) }
+    requires jobs { phase.now.round.now.count ≡ length phase.now.asked.now.jobs.now }
     ensures many { length hands.new ≡ length hands.old }
     ensures each { (i : ℕ) → i < length hands.old → IsPlaceReadOfEither A.lane_seen A.lane_faults
-        B.lane_seen B.lane_faults (A.disk first.now) (B.disk second.now) (hand_at hands.old i)
-        (hand_at hands.new i) }
+        B.lane_seen B.lane_faults (A.disk first.now) (B.disk second.now) phase.now.claims.now
+        phase.now.round.now phase.now.asked.now (hand_at hands.old i) (hand_at hands.new i) }
 {
     let mut places: Places<A::Lane, B::Lane> = Places::new();
-    part_all(hands, &mut places.firsts, &mut places.seconds);
-    first.read_parts(rt, &mut places.firsts);
-    join_all(second, &mut places.firsts, &mut places.seconds, hands);
+    let many = hands.len();
+    let firsts = &mut places.firsts[..many];
+    let seconds = &mut places.seconds[..many];
+    part_all(hands, firsts, seconds);
+    first.read_parts(rt, firsts, phase.claims, phase.round, phase.asked);
+    join_all(second, firsts, seconds, hands, phase.asked);
 }

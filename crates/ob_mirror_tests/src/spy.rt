@@ -6,7 +6,8 @@ ghost use Rattle.ob_mem.specs.Memory.{disk_of_store};
 ghost use Rattle.ob_mem.specs.Laws.{counts_now, only_now, includes_reads};
 
 use ob_base::Failed;
-use ob_lanes::{Hand, Lanes, read_hands};
+use ob_claims::{Claims, Round};
+use ob_lanes::{Hand, Lanes, SealedJobs, read_hands};
 use ob_mem::{MemLane, MemStore};
 use ob_store::Store;
 use std::alloc::Global;
@@ -102,7 +103,14 @@ impl Store for Spy {
 }
 
 impl Lanes for Spy {
-    fn read_parts<R: Threads + Sync>(&self, rt: &R, hands: &mut [Option<Hand<SpyLane>>]) {
-        read_hands(rt, self, hands);
+    fn read_parts<R: Threads + Sync>(
+        &self,
+        rt: &R,
+        hands: &mut [Option<Hand<SpyLane>>],
+        claims: &Claims,
+        round: &Round,
+        asked: &SealedJobs,
+    ) {
+        read_hands(rt, self, hands, claims, round, asked);
     }
 }

@@ -29,7 +29,7 @@ static BY_LANES: [&str; 5] = [
 const TOLD: &str = "\
     0 epoch 1/txn 1 client 1 committed/put 5 hi/epoch 2/txn 1 client 1 committed/get 5 = hi/";
 
-// What is asked of the store.
+// What is asked of the store where one lane reads: of several, any may make a phase's next read.
 const ASKED: &str = "opening record batch second lifts refill register next";
 
 // What a read of each cell gives.
@@ -51,10 +51,11 @@ fn any_number_of_lanes_does_the_same(rt: HostRuntime) {
     for &call in &BY_LANES {
         let mut store = play(&rt, CELLS, &[], NEW);
         expect(&rt, &mut store, &[], WIDE, call, TOLD);
-        expect_asked(&rt, &store, ASKED);
         let cells = cells_of(&rt, &mut store.store);
         if let Some(first) = &first {
             assert!(&rt; cells.as_slice() == first.as_slice(), "{call}");
+        } else {
+            expect_asked(&rt, &store, ASKED);
         }
         first = Some(cells);
     }

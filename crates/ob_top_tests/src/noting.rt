@@ -10,7 +10,8 @@ ghost use Rattle.ob_mem.specs.Memory.{disk_of_store};
 ghost use Rattle.ob_mem.specs.Laws.{counts_now, only_now, includes_reads};
 
 use ob_base::Failed;
-use ob_lanes::{Hand, Lanes, read_hands};
+use ob_claims::{Claims, Round};
+use ob_lanes::{Hand, Lanes, SealedJobs, read_hands};
 use ob_mem::{MemLane, MemSink, MemStore};
 use ob_store::{Event, Note, SinkWatch, Store, Watch};
 use std::process::Abort;
@@ -89,7 +90,14 @@ impl Store for Noting {
 }
 
 impl Lanes for Noting {
-    fn read_parts<R: Threads + Sync>(&self, rt: &R, hands: &mut [Option<Hand<MemLane>>]) {
-        read_hands(rt, self, hands);
+    fn read_parts<R: Threads + Sync>(
+        &self,
+        rt: &R,
+        hands: &mut [Option<Hand<MemLane>>],
+        claims: &Claims,
+        round: &Round,
+        asked: &SealedJobs,
+    ) {
+        read_hands(rt, self, hands, claims, round, asked);
     }
 }

@@ -1,5 +1,5 @@
 //! What calls do to their store, event by event: on new stores, behind crashes, and where they are
-//! refused.
+//! refused. One lane reads: which of several makes a read isn't fixed.
 
 use crate::playing::{
     CELLS, WIDE, expect, expect_asked, go_on_behind, number_of, parted, play, play_all,
@@ -17,13 +17,13 @@ const FORMATTED: &str = "\
 const RUN: &str = "\
     format S K 8 2 2 3 2 2 2 2 8 <  -> 0 store of 109 cells/\n\
     crash\n\
-    run S K < client 1/begin/commit -> 0 epoch 1/txn 1 client 1 committed/\n\
+    run S K --lanes 1 < client 1/begin/commit -> 0 epoch 1/txn 1 client 1 committed/\n\
     asked opening record batch second lifts refill register";
 
 const TWO_EPOCHS: &str = "\
     format S K 8 2 2 3 2 2 2 2 8 <  -> 0 store of 109 cells/\n\
     crash\n\
-    run S K < client 1/begin/put 5 hi/commit/begin/get 5/commit/ -> \
+    run S K --lanes 1 < client 1/begin/put 5 hi/commit/begin/get 5/commit/ -> \
     0 epoch 1/txn 1 client 1 committed/put 5 hi/epoch 2/txn 1 client 1 committed/get 5 = hi/\n\
     asked opening record batch second lifts refill register next";
 
@@ -41,7 +41,7 @@ fn a_run_does_to_its_store_what_another_implementation_does(rt: HostRuntime) {
         &mut store,
         &[0, 0, 0, 0, 1],
         WIDE,
-        "run S K < client 1/begin/put 5 hi/commit/begin/get 5/commit/",
+        "run S K --lanes 1 < client 1/begin/put 5 hi/commit/begin/get 5/commit/",
         "0 epoch 1/txn 1 client 1 committed/put 5 hi/epoch 2/txn 1 client 1 committed/get 5 = hi/",
     );
     let asked = "opening record batch second lifts refill register leaf";
@@ -50,15 +50,15 @@ fn a_run_does_to_its_store_what_another_implementation_does(rt: HostRuntime) {
 
 // What a run shows that found no record, the first batch's, and both.
 const FOUND_NONE: &str = "\
-    run S K < client 1/begin/commit -> 0 epoch 1/txn 1 client 1 committed/\n\
+    run S K --lanes 1 < client 1/begin/commit -> 0 epoch 1/txn 1 client 1 committed/\n\
     asked again record batch second lifts refill register";
 
 const FOUND_ONE: &str = "\
-    run S K < client 1/begin/commit -> 0 epoch 1/txn 1 client 1 committed/\n\
+    run S K --lanes 1 < client 1/begin/commit -> 0 epoch 1/txn 1 client 1 committed/\n\
     asked again batch second lifts refill register";
 
 const FOUND_BOTH: &str = "\
-    run S K < client 1/begin/get 5/commit/ -> \
+    run S K --lanes 1 < client 1/begin/get 5/commit/ -> \
     0 epoch 1/txn 1 client 1 aborted reads full queued 0 left 0/\n\
     asked again batch lifts refill register";
 
@@ -113,7 +113,7 @@ fn expect_refused<R: AllocGlobal + Threads + Wait + Sync + Abort>(rt: &R, row: &
     let (call, row) = parted(rt, row, ": ");
     let (wanted, names) = parted(rt, row, " -> ");
     let mut store = play(rt, CELLS, &[fail_of(rt, call)], FORMATTED);
-    let run = "run S K < client 1/begin/commit";
+    let run = "run S K --lanes 1 < client 1/begin/commit";
     expect(rt, &mut store, &[], WIDE, run, wanted);
     expect_asked(rt, &store, names);
 }
@@ -129,13 +129,13 @@ fn a_refused_run_shows_what_its_fault_allows(rt: HostRuntime) {
 const DAMAGED: &str = "\
     format S K 8 2 2 3 2 2 2 2 8 <  -> 0 store of 109 cells/\n\
     flip 41\n\
-    run S K < client 1/begin/commit -> 4 fault: damaged cell 41 tag/\n\
+    run S K --lanes 1 < client 1/begin/commit -> 4 fault: damaged cell 41 tag/\n\
     asked format opening record batch";
 
 const DAMAGED_LIFT: &str = "\
     format S K 8 2 2 3 2 2 2 2 8 <  -> 0 store of 109 cells/\n\
     flip 49\n\
-    run S K < client 1/begin/commit -> 4 fault: damaged cell 49 tag/\n\
+    run S K --lanes 1 < client 1/begin/commit -> 4 fault: damaged cell 49 tag/\n\
     asked format opening record batch second lifts";
 
 #[test]

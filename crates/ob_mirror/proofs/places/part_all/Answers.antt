@@ -21,3 +21,6 @@ loop-i-preserved g c =
           (subst (λ h. IsParted h (hand_at firsts i) (lane_at seconds i)) (so_far.left i (omega arith)) step.parted);
       left = λ j from. step.hands j (λ is. omega arith) ∙ so_far.left j (omega arith);
     }
+
+pub returns-clause-many_firsts : goal.returns-clause-many_firsts
+returns-clause-many_firsts g c = c.loop-i.invariant.many_firsts ∙ c.requires.firsts

@@ -1,5 +1,0 @@
-use Rattle.std.proofs.Common.{length}
-use Rattle.ob_cells.proofs.dealing.+slot_in.Given as goal
-
-abbrev pub decreases-slot_in : goal.decreases-slot_in
-decreases-slot_in l = length l.parts.now
