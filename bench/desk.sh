@@ -2,6 +2,8 @@
 # Measures what a call on the transaction manager takes in an epoch of 64 clients with 1,024 gets and
 # puts in 128 transactions, and in one with twice as many of both.
 # Each client makes eight calls and then aborts, so that it may begin again in the same epoch.
+# Then what a call takes where each client gets one key of its own and puts or deletes four, without shares
+# and with just these shares: it fails where the latter takes more than 1.3 times as long.
 # Then what a look takes in an epoch of 64 aborted transactions, and in one of 64,000. It fails where
 # the latter takes more than twice as long.
 # It needs rt, and writes only to a temporary folder. Times are of the processor.
@@ -12,22 +14,26 @@ trap 'rm -rf "$work"' EXIT
 epochs=200
 looks=2000000
 mkdir -p "$work/crates/desk_bench/src"
-for crate in ob_base ob_io ob_store ob_serial ob_order ob_queue ob_key_versions ob_versions ob_desk; do
+for crate in ob_base ob_io ob_store ob_serial ob_order ob_queue ob_key_versions ob_versions ob_shares ob_desk; do
     cp -r "$top/crates/$crate" "$work/crates/"
     rm -rf "$work/crates/$crate/must-fail"
 done
-{ grep -E '^(ob_base|ob_io|ob_store|ob_serial|ob_order|ob_queue|ob_key_versions|ob_versions|ob_desk):' "$top/crates.txt"; echo 'desk_bench: ob_base ob_order ob_versions ob_serial ob_desk'; } >"$work/crates.txt"
+{ grep -E '^(ob_base|ob_io|ob_store|ob_serial|ob_order|ob_queue|ob_key_versions|ob_versions|ob_shares|ob_desk):' "$top/crates.txt"; echo 'desk_bench: ob_base ob_order ob_versions ob_serial ob_shares ob_desk'; } >"$work/crates.txt"
 git -C "$work" init -q
 # The questions whether a call may be made, which tests ask, are asked here too.
 sed -i 's/^#\[cfg(test)\]$/ /' "$work/crates/ob_desk/src/desk.rt"
 cat >"$work/crates/desk_bench/src/main.rt" <<'PROGRAM'
 //! Epochs of gets and puts: the first byte of the input, 1 or 2, says how many times sixteen calls each
-//! client makes. Or looks in an epoch of 64 aborted transactions (f) or of 64,000 (m); or the latter
+//! client makes. Or as with 1, but each client names keys of its own, without shares (o) or with
+//! shares that are just enough (s). Or looks in an epoch of 64 aborted transactions (f) or of 64,000 (m); or the latter
 //! epoch with no look (n).
 #![tactic(auto)]
 
+ghost use Rattle.std.specs.Prelude.{◌≡◌, ◌≤◌, ℕ, Some};
+
 use ob_base::{Memory, Params, Value};
 use ob_desk::{Begun, Desk, Got, Txn};
+use ob_shares::{NO_SHARES, Shares};
 use std::alloc::Global;
 use std::hint;
 use std::io;
@@ -36,19 +42,41 @@ use std::io::Read;
 const EPOCHS: u32 = 200;
 const LOOKS: u32 = 2000000;
 
+// One key for the gets of each client, and four for its puts.
+const ENOUGH: Shares = Shares {
+    reads: Some(1),
+    writes: Some(4),
+};
+
+// Which keys are named, and under which shares.
+#[derive(Clone, Copy)]
+struct Kind {
+    own: bool,
+    shared: bool,
+}
+
 // 1,024 keys, 16 read batches of 64 places, 256 write places, 64 clients.
-fn open(alloc: Global) -> Result<Option<Desk>, Memory> {
+fn open(alloc: Global, shares: Shares) -> Result<Option<Desk>, Memory>
+    requires reads { (n : ℕ) → shares.reads ≡ Some n → n ≤ 1 }
+    requires writes { (n : ℕ) → shares.writes ≡ Some n → n ≤ 4 }
+{
     let Ok(p) = Params::new(1024, 8, 16, 16, 16, 64, 256, 8, 64) else {
         return Ok(None);
     };
     if p.batches < 16 {
         return Ok(None);
     }
+    if p.places < 64 {
+        return Ok(None);
+    }
+    if p.writes < 256 {
+        return Ok(None);
+    }
     let desk = Desk::new(alloc, &p, 1, 16, &[
         1, 2, 3, 4, 5, 6, 7, 8, 9, 10, 11, 12, 13, 14, 15, 16, 17, 18, 19, 20, 21, 22, 23, 24, 25,
         26, 27, 28, 29, 30, 31, 32, 33, 34, 35, 36, 37, 38, 39, 40, 41, 42, 43, 44, 45, 46, 47, 48,
         49, 50, 51, 52, 53, 54, 55, 56, 57, 58, 59, 60, 61, 62, 63, 64,
-    ])?;
+    ], shares)?;
     Ok(Some(desk))
 }
 
@@ -78,9 +106,19 @@ fn begin(desk: &mut Desk, client: u32) -> Result<Option<Txn>, Memory> {
     }
 }
 
+// The key of a get or a put: any of 256, or one of the client's own.
+fn key_of(kind: Kind, txn: &Txn, word: u32) -> u32 {
+    let any = word / 65536 % 256;
+    if !kind.own {
+        return any;
+    }
+    let first = txn.client % 64 * 4;
+    if word / 4096 % 2 == 0 { first } else { first + any % 4 }
+}
+
 // One get, put or poll: whether it was made.
-fn access(desk: &mut Desk, txn: &Txn, word: u32) -> Result<bool, Memory> {
-    let key = word / 65536 % 256;
+fn access(desk: &mut Desk, kind: Kind, txn: &Txn, word: u32) -> Result<bool, Memory> {
+    let key = key_of(kind, txn, word);
     if desk.may_poll(txn) {
         let _got: Got = desk.poll(txn);
         return Ok(true);
@@ -107,7 +145,7 @@ fn leave(desk: &mut Desk, txn: &Txn) {
 
 // Each client makes a call in turn, eight times, in transactions that begin now and are aborted:
 // how many were made.
-fn turns(desk: &mut Desk, alloc: Global, seed: u32) -> Result<u64, Memory> {
+fn turns(desk: &mut Desk, alloc: Global, kind: Kind, seed: u32) -> Result<u64, Memory> {
     let mut txns: Vec<Txn> = Vec::new(alloc);
     for client in 1..65 {
         if let Some(txn) = begin(desk, client)? {
@@ -119,7 +157,7 @@ fn turns(desk: &mut Desk, alloc: Global, seed: u32) -> Result<u64, Memory> {
     for _ in 0..8 {
         for txn in &txns {
             word = next(word);
-            made = made.wrapping_add(u64::from(access(desk, txn, word)?));
+            made = made.wrapping_add(u64::from(access(desk, kind, txn, word)?));
         }
         round(desk);
     }
@@ -129,21 +167,23 @@ fn turns(desk: &mut Desk, alloc: Global, seed: u32) -> Result<u64, Memory> {
     Ok(made)
 }
 
-fn epoch(alloc: Global, times: u32, seed: u32) -> Result<u64, Memory> {
-    let Some(mut desk) = open(alloc)? else {
+fn epoch(alloc: Global, kind: Kind, times: u32, seed: u32) -> Result<u64, Memory> {
+    let opened = if kind.shared { open(alloc, ENOUGH)? } else { open(alloc, NO_SHARES)? };
+    let Some(mut desk) = opened else {
         return Ok(0);
     };
     let mut made: u64 = 0;
     for i in 0..times {
-        made = made.wrapping_add(turns(&mut desk, alloc, seed.wrapping_add(i))?);
+        made = made.wrapping_add(turns(&mut desk, alloc, kind, seed.wrapping_add(i))?);
     }
     Ok(made)
 }
 
-fn all(alloc: Global, times: u32) -> Result<u64, Memory> {
+fn all(alloc: Global, own: bool, shared: bool, times: u32) -> Result<u64, Memory> {
+    let kind = Kind { own, shared };
     let mut made: u64 = 0;
     for n in 0..EPOCHS {
-        made = made.wrapping_add(epoch(alloc, times, next(n))?);
+        made = made.wrapping_add(epoch(alloc, kind, times, next(n))?);
     }
     Ok(made)
 }
@@ -171,7 +211,7 @@ fn look_often(desk: &Desk, times: u32) -> u64 {
 
 // So many looks in an epoch of so many times 64 aborted transactions: how many were made.
 fn look_behind(alloc: Global, times: u32, looks: u32) -> Result<u64, Memory> {
-    let Some(mut desk) = open(alloc)? else {
+    let Some(mut desk) = open(alloc, NO_SHARES)? else {
         return Ok(0);
     };
     for _ in 0..times {
@@ -187,8 +227,10 @@ fn main(rt: HostRuntime) -> io::Result<()> {
         b'f' => look_behind(rt.alloc(), 1, LOOKS),
         b'm' => look_behind(rt.alloc(), 1000, LOOKS),
         b'n' => look_behind(rt.alloc(), 1000, 0),
-        b'2' => all(rt.alloc(), 4),
-        _ => all(rt.alloc(), 2),
+        b'2' => all(rt.alloc(), false, false, 4),
+        b'o' => all(rt.alloc(), true, false, 2),
+        b's' => all(rt.alloc(), true, true, 2),
+        _ => all(rt.alloc(), false, false, 2),
     };
     match made {
         Ok(made) => println!(rt; "{made}"),
@@ -218,7 +260,16 @@ named k d l =
     (omega (arith, a), omega (arith, a, l, n))
 
 pub new-requires-2 : goal.new-requires-2
-new-requires-2 c = record { few_left = omega (arith, c.if-p-lt16.false); low_epoch = omega arith; named = named; rising = rising }
+new-requires-2 c = record {
+  few_left = omega (arith, c.if-p-lt16.false);
+  low_epoch = omega arith;
+  named = named;
+  rising = rising;
+  fit = record {
+    reads = λ n is. let few = c.requires.reads n is in omega (arith, few, c.if-p-lt64.false);
+    writes = λ n is. let few = c.requires.writes n is in omega (arith, few, c.if-p-lt256.false);
+  };
+}
 PROOF
 cd "$work/crates/desk_bench"
 rt run </dev/null >"$work/log" 2>&1 || { tail -30 "$work/log"; exit 1; }
@@ -236,6 +287,13 @@ fastest() {
 }
 echo "once:  $(fastest 1)"
 echo "twice: $(fastest 2)"
+own=$(fastest o)
+shared=$(fastest s)
+echo "own keys: $own"
+awk -v o="${own%% *}" -v s="${shared%% *}" -v told="$shared" 'BEGIN {
+    printf "shared:   %s (%.2f of it; at most 1.3)\n", told, s / o
+    exit !(s <= 1.3 * o)
+}'
 # The fewest seconds of five runs of this kind, which has to tell so many looks.
 fewest() {
     local best= t

@@ -16,7 +16,7 @@ program=${1:+$(realpath "$1")}
 keep=${KEEP:+$(realpath "$KEEP")}
 source "$top/bench/common.sh"
 bench_crate threads_bench ob_base ob_pads ob_io ob_script ob_report ob_store ob_lanes ob_bare ob_mem ob_seal \
-    ob_twin ob_cells ob_start ob_flat ob_serial ob_order ob_queue ob_key_versions ob_versions ob_desk \
+    ob_twin ob_cells ob_start ob_flat ob_serial ob_order ob_queue ob_key_versions ob_versions ob_shares ob_desk \
     ob_turn ob_session ob_hall ob_threads ob_runner ob_conduct ob_driver ob_run <<'PROGRAM'
 //! Serves the script that comes in, over a plain vault in memory. The first byte of the input says how:
 //! t by threads, h by hand, s by threads where a fetch takes a second, n not at all.
@@ -27,6 +27,7 @@ ghost use Rattle.ob_script.specs.Script.{AreSound};
 
 use ob_bare::BareStore;
 use ob_base::{Fault, Key, Params, Value, Write};
+use ob_conduct::RunErr;
 use ob_desk::{Desk, Eager};
 use ob_flat::{FlatVault, cells, format, prepare};
 use ob_mem::MemSink;
@@ -35,6 +36,7 @@ use ob_runner::runners;
 use ob_script::{Scripts, parse};
 use ob_seal::Keys;
 use ob_serial::{EndErr, Vault};
+use ob_shares::NO_SHARES;
 use ob_store::{Blind, Watch};
 use std::alloc::Global;
 use std::io;
@@ -108,6 +110,14 @@ impl<'r, R: Clock, V: Vault> Vault for Slow<'r, R, V> {
     ghost rests = { λ v s image h may. V.rests v.vault s image h may };
 }
 
+// The fault that a run ended with, if any.
+fn fault_of(ended: Result<(), RunErr>) -> Result<(), Fault> {
+    match ended {
+        Ok(()) => Ok(()),
+        Err(err) => Err(err.fault()),
+    }
+}
+
 // Runs the script over a vault.
 fn conduct<R: Threads + Wait + Sync, V: Vault>(
     rt: &R,
@@ -126,8 +136,8 @@ fn conduct<R: Threads + Wait + Sync, V: Vault>(
 {
     let mut runners = runners(alloc, scripts)?;
     let clients = scripts.clients();
-    let desk = Desk::new(alloc, params, vault.epoch() + 1, vault.left(), clients)?;
-    run(
+    let desk = Desk::new(alloc, params, vault.epoch() + 1, vault.left(), clients, NO_SHARES)?;
+    let ended = run(
         rt,
         alloc,
         params,
@@ -139,7 +149,8 @@ fn conduct<R: Threads + Wait + Sync, V: Vault>(
         &mut Eager,
         output,
         threads,
-    )
+    );
+    fault_of(ended)
 }
 
 // How many bytes the report has.
@@ -186,8 +197,8 @@ use Rattle.std.proofs.Common.{suc, arith}
 use Rattle.ob_run.proofs.Scripts.{may_open, opens_all}
 use Rattle.threads_bench.proofs.conduct.Goals as goal
 
-pub run-requires-clause-opens : goal.run-requires-clause-opens
-run-requires-clause-opens g c κs within =
+pub run-ended-requires-clause-opens : goal.run-ended-requires-clause-opens
+run-ended-requires-clause-opens g c κs within =
     opens_all c.args.scripts.now c.in_ok-runners.runners.items c.in_ok-runners.ensures c.args.params.now (suc (g.V.Vault.counts c.args.vault.now).epoch) (g.V.Vault.counts c.args.vault.now).left
     (may_open c.args.params.now (suc (g.V.Vault.counts c.args.vault.now).epoch) (g.V.Vault.counts c.args.vault.now).left c.args.scripts.now (let e = c.epoch.ensures.epoch in let few = c.epoch.ensures.few in omega (arith, e, few)) c.requires.few c.requires.sound)
 PROOF

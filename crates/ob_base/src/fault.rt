@@ -34,6 +34,8 @@ pub enum Field {
     LANES,
     COUNT,
     KEYS,
+    READS,
+    WRITES,
 }
 
 /// A cell that holds other bytes than it must: what it keeps at the failed check, and what was

@@ -17,7 +17,7 @@ use Rattle.ob_serial.specs.VaultViews.{IsEndFault}
 use Rattle.ob_serial.specs.VaultKinds.{Kind, ended_of}
 use Rattle.ob_serial.proofs.Runs.{goes_on}
 use Rattle.ob_serial.specs.declared.vault.EndErr.{EndErr}
-use Rattle.ob_desk.specs.Desk.{DeskState, Setup, Call, Reply, Run, MayOpen, new_desk, published, record_of}
+use Rattle.ob_desk.specs.Desk.{DeskState, Setup, Call, Reply, Run, MayOpen, new_desk, published, record_of, setup_of}
 use Rattle.ob_desk.specs.Replay.{map_after}
 use Rattle.ob_desk.specs.Beats.{BeatKind}
 use Rattle.ob_desk.proofs.Runs.{desk_is_serial, committed_append, good_run, good_new}
@@ -87,7 +87,7 @@ tells_on from mid next acts more so then = subst (λ (ws : List (List (ℕ × Op
 
 -- ---- a new desk
 
-pub ready_new : (p : Params) (d : DeskState) (c : VaultCounts) (clients : List ℕ) → d ≡ new_desk (record { params = p }) (suc c.epoch) c.left clients → c.spent ≡ false → IsBetweenActs p d c
+pub ready_new : (p : Params) (d : DeskState) (c : VaultCounts) (clients : List ℕ) → d ≡ new_desk (setup_of p) (suc c.epoch) c.left clients → c.spent ≡ false → IsBetweenActs p d c
 ready_new p d c clients is serves = subst (λ (x : DeskState). IsBetweenActs p x c) (sym is) (record {
   params = refl;
   none_closed = refl;

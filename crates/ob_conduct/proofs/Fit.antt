@@ -19,6 +19,7 @@ use Rattle.ob_order.proofs.Newest.{Thinned, version-with_op}
 use Rattle.ob_order.proofs.Falls.{fallen_waits, fallen_aborted, thinned_from_fallen, length-aborted}
 use Rattle.ob_order.proofs.Counts.{none_stopped, other_written}
 use Rattle.ob_order.proofs.Keeps.{kept_none, kept_begun, kept_got, kept_waits, kept_wrote, kept_aborted, kept_stopped}
+use Rattle.ob_shares.specs.Shares.{Uses}
 use Rattle.ob_desk.specs.Desk.{Part, new_part, with_order, with_holder, end_of, asked_at, close_to, closing, stop_holder, stop_part}
 use Rattle.ob_desk.specs.declared.clients.Holder.{Holder}
 use Rattle.ob_conduct.specs.Ready.{IsDistinct, AreAllBelow, AreWithin, IsFit}
@@ -91,6 +92,10 @@ below_push n queue k lt h i key at = ⊎_elim
 
 pub fit_new : (p : Params) (epoch left : ℕ) → IsFit p (new_part epoch left)
 fit_new p epoch left = record { distinct = λ i j key at too. absurd (none-some key at); below = λ i key at. absurd (none-some key at); kept = kept_none p; within = within_none p.keys; even = refl }
+
+-- what clients named changes nothing
+pub fit_used : (p : Params) (part : Part) (u : Uses) → IsFit p part → IsFit p (record part { uses = u })
+fit_used p part u f = record { distinct = f.distinct; below = f.below; kept = f.kept; within = f.within; even = f.even }
 
 pub fit_begun : (p : Params) (part : Part) (h : Holder) → IsFit p part → IsFit p (record part { order = after_begin part.order; holders = part.holders ++ h ∷ [] })
 fit_begun p part h f = record {

@@ -10,6 +10,7 @@ use Rattle.ob_base.specs.declared.fault.Fault.TheVariants.{Memory}
 use Rattle.ob_serial.specs.declared.records.Why.{Why}
 use Rattle.ob_serial.specs.declared.records.Outcome.{Outcome}
 use Rattle.ob_serial.specs.declared.records.Outcome.TheVariants.{Aborted as AbortedBy}
+use Rattle.ob_shares.specs.Shares.{AreFitting}
 use Rattle.ob_desk.specs.Desk as desk
 use Rattle.ob_desk.specs.Desk.{DeskState, Call, Reply, MayCall, DeskStep, IsLive, IsLast, HasNotAsked, Setup, MayOpen, client_at, outcome_at, asked_at}
 use Rattle.ob_desk.specs.declared.calls.Txn.{Txn}
@@ -179,10 +180,11 @@ both P x y px py = All-cons P x (y ∷ []) px (All-cons P y [] py (All-nil P))
 one_two : IsStrictlyIncreasing (1 ∷ 2 ∷ [])
 one_two = rises_cons 1 (2 ∷ []) (All-cons (λ k. 1 < k) 2 [] (omega arith) (All-nil _)) (rises_cons 2 [] (All-nil _) (λ k within. absurd (omega (arith, within))))
 
-pub two_open : (setup : Setup) (epoch left a b : ℕ) → left ≤ setup.params.batches → epoch ≤ 2 ^ 62 → a ≡ 1 → b ≡ 2 → MayOpen setup epoch left (a ∷ b ∷ [])
-two_open setup epoch left a b few low first second = subst (λ x. MayOpen setup epoch left (x ∷ b ∷ [])) (sym first) (subst (λ x. MayOpen setup epoch left (1 ∷ x ∷ [])) (sym second) (record {
+pub two_open : (setup : Setup) (epoch left a b : ℕ) → left ≤ setup.params.batches → epoch ≤ 2 ^ 62 → a ≡ 1 → b ≡ 2 → AreFitting setup.shares 2 setup.params.places setup.params.writes → MayOpen setup epoch left (a ∷ b ∷ [])
+two_open setup epoch left a b few low first second fit = subst (λ x. MayOpen setup epoch left (x ∷ b ∷ [])) (sym first) (subst (λ x. MayOpen setup epoch left (1 ∷ x ∷ [])) (sym second) (record {
   few_left = few;
   low_epoch = low;
   named = both (λ c. (1 ≤ c) × (c ≤ 64)) 1 2 (omega arith, omega arith) (omega arith, omega arith);
   rising = one_two;
+  fit = fit;
 }))

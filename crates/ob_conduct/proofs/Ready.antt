@@ -10,12 +10,12 @@ use Rattle.ob_serial.specs.Vaults.{VaultCounts}
 use Rattle.ob_serial.specs.declared.records.Why.TheVariants.{Asked}
 use Rattle.ob_order.specs.Order.{OrderState, asked, is_asked_for, write_reply, after_write}
 use Rattle.ob_order.specs.declared.answers.Wrote.TheVariants.{Yes}
-use Rattle.ob_desk.specs.Desk.{DeskState, Part, with_order, stopped_by, Call, Begin, GetKey, Poll, Write, Commit, Abort, Settled, Looks, SignOff, Stop, Unsure, IsStopped, TakeBatch, Deliver, Close}
+use Rattle.ob_desk.specs.Desk.{DeskState, Part, with_order, reading, writing, stopped_by, Call, Begin, GetKey, Poll, Write, Commit, Abort, Settled, Looks, SignOff, Stop, Unsure, IsStopped, TakeBatch, Deliver, Close}
 use Rattle.ob_desk.specs.Desk.{Publish, Reply, Begun, Refused, Value, Waits, Aborted, Done, IsSettled, StoppedBy, DeskStep, MayCall, IsFed, map_next, Run}
 use Rattle.ob_desk.proofs.Fine.{read_found, again_found}
 use Rattle.ob_session.specs.Steps.{Leads, IsOwn}
 use Rattle.ob_conduct.specs.Ready.{IsFit, IsBetweenActs}
-use Rattle.ob_conduct.proofs.Fit.{fit_begun, fit_got, fit_waits, fit_wrote, fit_end, fit_holder, fit_stopped}
+use Rattle.ob_conduct.proofs.Fit.{fit_begun, fit_got, fit_waits, fit_wrote, fit_end, fit_holder, fit_stopped, fit_used}
 
 same : (p : Params) (c : VaultCounts) (d new : DeskState) → new ≡ d → IsBetweenActs p d c → IsBetweenActs p new c
 same p c d new e r = subst (λ (x : DeskState). IsBetweenActs p x c) (sym e) r
@@ -83,16 +83,18 @@ own_ready p c client d (Begin number) (Begun x) new r own may step = subst (λ (
   fit = fit_begun p d.running _ r.fit;
 })
 own_ready p c client d (Begin number) (Refused f) new r own may step = same p c d new step.same r
-own_ready p c client d (GetKey x k) (Value value) new r own may step = in_running p c d new _ step.state refl refl refl (fit_got p d.running x.ticket k (record { source = step.source; value = value }) r.fit (read_found d.setup.params d.running.order x.ticket k value step.source step.reply)) r
-own_ready p c client d (GetKey x k) Waits new r own may step = in_running p c d new _ step.state refl (asked_left d.running.order k) (asked_flying d.running.order k) (fit_waits p d.running x.ticket k (in_range p c d k r may.2) r.fit) r
+own_ready p c client d (GetKey x k) (Value value) new r own may step = in_running p c d new _ step.state refl refl refl (fit_got p (reading d x k).running x.ticket k (record { source = step.source; value = value }) (fit_used p d.running _ r.fit) (read_found d.setup.params d.running.order x.ticket k value step.source step.reply)) r
+own_ready p c client d (GetKey x k) Waits new r own may step = in_running p c d new _ step.state refl (asked_left d.running.order k) (asked_flying d.running.order k) (fit_waits p (reading d x k).running x.ticket k (in_range p c d k r may.2) (fit_used p d.running _ r.fit)) r
 own_ready p c client d (GetKey x k) (Aborted why) new r own may (inl step) = same p c d new step.same r
-own_ready p c client d (GetKey x k) (Aborted why) new r own may (inr step) = in_running p c d new _ step.state refl refl refl (fit_end p d.running x.ticket why r.fit) r
+own_ready p c client d (GetKey x k) (Aborted why) new r own may (inr (inl step)) = in_running p c d new _ step.state refl refl refl (fit_end p (reading d x k).running x.ticket why (fit_used p d.running _ r.fit)) r
+own_ready p c client d (GetKey x k) (Aborted why) new r own may (inr (inr step)) = in_running p c d new _ step.state refl refl refl (fit_end p d.running x.ticket why r.fit) r
 own_ready p c client d (Poll x) (Value value) new r own may step = in_running p c d new _ step.state refl refl refl (fit_got p d.running x.ticket step.key (record { source = step.source; value = value }) r.fit (again_found d.running.order x.ticket step.key value step.source step.reply)) r
 own_ready p c client d (Poll x) Waits new r own may step = same p c d new step.same r
 own_ready p c client d (Poll x) (Aborted why) new r own may step = same p c d new step.same r
-own_ready p c client d (Write x k value) Done new r own may step = in_running p c d new _ step.state refl refl refl (wrote p d.setup.params d.running x.ticket k value r.params r.fit step.reply may.2) r
+own_ready p c client d (Write x k value) Done new r own may step = in_running p c d new _ step.state refl refl refl (wrote p d.setup.params (writing d x k).running x.ticket k value r.params (fit_used p d.running _ r.fit) step.reply may.2) r
 own_ready p c client d (Write x k value) (Aborted why) new r own may (inl step) = same p c d new step.same r
-own_ready p c client d (Write x k value) (Aborted why) new r own may (inr step) = in_running p c d new _ step.state refl refl refl (fit_end p d.running x.ticket why r.fit) r
+own_ready p c client d (Write x k value) (Aborted why) new r own may (inr (inl step)) = in_running p c d new _ step.state refl refl refl (fit_end p (writing d x k).running x.ticket why (fit_used p d.running _ r.fit)) r
+own_ready p c client d (Write x k value) (Aborted why) new r own may (inr (inr step)) = in_running p c d new _ step.state refl refl refl (fit_end p d.running x.ticket why r.fit) r
 own_ready p c client d (Commit x) Done new r own may step = in_running p c d new _ step.state refl refl refl (fit_holder p _ d.running x.ticket r.fit) r
 own_ready p c client d (Commit x) (Aborted why) new r own may step = same p c d new step.same r
 own_ready p c client d (Abort x) (Aborted why) new r own may (inl step) = same p c d new step.same r

@@ -5,13 +5,13 @@ use Rattle.std.proofs.lemmas.Option.{none-some, same_Some}
 use Rattle.ob_order.specs.Works.{Work, is_going, at_ticket, edit, goes_on, fate_at, end_work, least_source, aborted_since, fall, cascade, aborted}
 use Rattle.ob_order.specs.declared.fate.Fate.{Fate}
 use Rattle.ob_order.specs.declared.fate.Fate.TheVariants.{Going, Ended, Fell}
-use Rattle.ob_order.specs.Order.{write_reply, again_reply}
+use Rattle.ob_order.specs.Order.{read_reply, write_reply, again_reply}
 use Rattle.ob_order.specs.declared.answers.Wrote.{Wrote}
 use Rattle.ob_order.specs.declared.answers.Wrote.TheVariants.{Yes, Conflict as Conflicts, Full as WritesAreFull}
 use Rattle.ob_order.proofs.Steps.{goes_on_range}
 use Rattle.ob_order.proofs.Edits.{at_edit_same, at_edit_other}
 use Rattle.ob_desk.specs.Desk.{Holder, Part, DeskState, Txn, Begin, GetKey, Poll, Write, Commit, Abort, Settled, Looks, SignOff, Stop, Unsure, IsStopped, TakeBatch, Deliver, Close, Publish, Value}
-use Rattle.ob_desk.specs.Desk.{Waits, Aborted, Done, Why, Depends, EpochEnd, AbortedBy, why_refused, outcome_at, aborted_why, waiting_at, asked_at, why_of, cause_at, why_at, note_cause, end_of}
+use Rattle.ob_desk.specs.Desk.{Waits, Aborted, Done, Why, Depends, EpochEnd, AbortedBy, why_refused, ShareReads, ShareWrites, read_past, write_past, outcome_at, aborted_why, waiting_at, asked_at, why_of, cause_at, why_at, note_cause, end_of}
 use Rattle.ob_desk.specs.Desk.{close_to}
 use Rattle.ob_desk.specs.Causes.{read_as, written_as, reply_to, RepliesAreExact, AbortedAreTold, EndsUnasked, AskedStay, UnaskedEnd}
 
@@ -28,17 +28,32 @@ refused_as (WritesAreFull keys) why e = ap Aborted (sym (same_Some _ why e))
 polled : (d : DeskState) (x : Txn) (key : ℕ) → waiting_at d.running x.ticket ≡ Some key → reply_to d (Poll x) ≡ read_as (again_reply d.running.order x.ticket key)
 polled d x key e = ap (λ o. unwrap_or (option_map (λ k. read_as (again_reply d.running.order x.ticket k)) o) Waits) e
 
+-- a get and a write that keep to the share, and those that don't
+kept_get : (d : DeskState) (x : Txn) (k : ℕ) → read_past d x k ≡ None → reply_to d (GetKey x k) ≡ read_as (read_reply d.setup.params d.running.order x.ticket k)
+kept_get d x k e = ap (λ o. unwrap_or (option_map (λ keys. Aborted (ShareReads keys)) o) (read_as (read_reply d.setup.params d.running.order x.ticket k))) e
+
+past_get : (d : DeskState) (x : Txn) (k keys : ℕ) → read_past d x k ≡ Some keys → reply_to d (GetKey x k) ≡ Aborted (ShareReads keys)
+past_get d x k keys e = ap (λ o. unwrap_or (option_map (λ q. Aborted (ShareReads q)) o) (read_as (read_reply d.setup.params d.running.order x.ticket k))) e
+
+kept_write : (d : DeskState) (x : Txn) (k : ℕ) (value : Option (List ℕ)) → write_past d x k ≡ None → reply_to d (Write x k value) ≡ written_as (write_reply d.setup.params d.running.order x.ticket k)
+kept_write d x k value e = ap (λ o. unwrap_or (option_map (λ keys. Aborted (ShareWrites keys)) o) (written_as (write_reply d.setup.params d.running.order x.ticket k))) e
+
+past_write : (d : DeskState) (x : Txn) (k keys : ℕ) (value : Option (List ℕ)) → write_past d x k ≡ Some keys → reply_to d (Write x k value) ≡ Aborted (ShareWrites keys)
+past_write d x k keys value e = ap (λ o. unwrap_or (option_map (λ q. Aborted (ShareWrites q)) o) (written_as (write_reply d.setup.params d.running.order x.ticket k))) e
+
 pub replies_are_exact : RepliesAreExact
-replies_are_exact d (GetKey x k) y (Value value) new e none step = sym (ap read_as step.reply)
-replies_are_exact d (GetKey x k) y Waits new e none step = sym (ap read_as step.reply)
+replies_are_exact d (GetKey x k) y (Value value) new e none step = sym (kept_get d x k step.within ∙ ap read_as step.reply)
+replies_are_exact d (GetKey x k) y Waits new e none step = sym (kept_get d x k step.within ∙ ap read_as step.reply)
 replies_are_exact d (GetKey x k) y (Aborted why) new e none (inl step) = not_aborted d y x why e none step.earlier
-replies_are_exact d (GetKey x k) y (Aborted why) new e none (inr step) = ap Aborted step.cause ∙ sym (ap read_as step.reply)
+replies_are_exact d (GetKey x k) y (Aborted why) new e none (inr (inl step)) = ap Aborted step.cause ∙ sym (kept_get d x k step.within ∙ ap read_as step.reply)
+replies_are_exact d (GetKey x k) y (Aborted why) new e none (inr (inr step)) = ap Aborted step.cause ∙ sym (past_get d x k step.keys step.passes)
 replies_are_exact d (Poll x) y (Value value) new e none step = sym (polled d x step.key step.waited ∙ ap read_as step.reply)
 replies_are_exact d (Poll x) y Waits new e none step = sym (polled d x step.key step.waited ∙ ap read_as step.reply)
 replies_are_exact d (Poll x) y (Aborted why) new e none step = not_aborted d y x why e none step.earlier
-replies_are_exact d (Write x k value) y Done new e none step = sym (ap written_as step.reply)
+replies_are_exact d (Write x k value) y Done new e none step = sym (kept_write d x k value step.within ∙ ap written_as step.reply)
 replies_are_exact d (Write x k value) y (Aborted why) new e none (inl step) = not_aborted d y x why e none step.earlier
-replies_are_exact d (Write x k value) y (Aborted why) new e none (inr step) = refused_as (write_reply d.setup.params d.running.order x.ticket k) why step.cause
+replies_are_exact d (Write x k value) y (Aborted why) new e none (inr (inl step)) = refused_as (write_reply d.setup.params d.running.order x.ticket k) why step.cause ∙ sym (kept_write d x k value step.within)
+replies_are_exact d (Write x k value) y (Aborted why) new e none (inr (inr step)) = ap Aborted step.cause ∙ sym (past_write d x k step.keys value step.passes)
 replies_are_exact d (Commit x) y Done new e none step = refl
 replies_are_exact d (Commit x) y (Aborted why) new e none step = not_aborted d y x why e none step.earlier
 replies_are_exact d (Abort x) y (Aborted why) new e none (inl step) = not_aborted d y x why e none step.earlier
@@ -67,13 +82,15 @@ pub aborted_are_told : AbortedAreTold
 aborted_are_told d (GetKey x k) y (Value value) new e off step = idle d y x e off step.live.goes
 aborted_are_told d (GetKey x k) y Waits new e off step = idle d y x e off step.live.goes
 aborted_are_told d (GetKey x k) y (Aborted why) new e off (inl step) = told d y x why new e step.earlier step.same
-aborted_are_told d (GetKey x k) y (Aborted why) new e off (inr step) = idle d y x e off step.live.goes
+aborted_are_told d (GetKey x k) y (Aborted why) new e off (inr (inl step)) = idle d y x e off step.live.goes
+aborted_are_told d (GetKey x k) y (Aborted why) new e off (inr (inr step)) = idle d y x e off step.live.goes
 aborted_are_told d (Poll x) y (Value value) new e off step = idle d y x e off step.live.goes
 aborted_are_told d (Poll x) y Waits new e off step = idle d y x e off step.live.goes
 aborted_are_told d (Poll x) y (Aborted why) new e off step = told d y x why new e step.earlier step.same
 aborted_are_told d (Write x k value) y Done new e off step = idle d y x e off step.live.goes
 aborted_are_told d (Write x k value) y (Aborted why) new e off (inl step) = told d y x why new e step.earlier step.same
-aborted_are_told d (Write x k value) y (Aborted why) new e off (inr step) = idle d y x e off step.live.goes
+aborted_are_told d (Write x k value) y (Aborted why) new e off (inr (inl step)) = idle d y x e off step.live.goes
+aborted_are_told d (Write x k value) y (Aborted why) new e off (inr (inr step)) = idle d y x e off step.live.goes
 aborted_are_told d (Commit x) y Done new e off step = idle d y x e off step.live.goes
 aborted_are_told d (Commit x) y (Aborted why) new e off step = told d y x why new e step.earlier step.same
 aborted_are_told d (Abort x) y (Aborted why) new e off (inl step) = told d y x why new e step.earlier step.same

@@ -7,7 +7,8 @@ use Rattle.ob_serial.specs.Serial.{EpochRecord}
 use Rattle.ob_base.specs.declared.params.Params.{Params}
 use Rattle.ob_order.specs.Works.{goes_on, last_writes}
 use Rattle.ob_desk.specs.declared.part.Part.{Part as CodePart}
-use Rattle.ob_desk.specs.Desk.{Part, DeskState, Client, Fault, EpochEnd, Committed, UnsureOf, new_part, end_of, close_to, closing, asked_at, settle, stop_part, record_of, MayCall, Close, CloseStep, PublishStep, UnsureStep}
+use Rattle.ob_desk.specs.Desk.{Part, DeskState, Client, Fault, EpochEnd, Committed, UnsureOf, new_part, end_of, close_to, closing, asked_at, settle, stop_part, record_of, MayCall, Close, CloseStep, PublishStep, UnsureStep, setup_with}
+use Rattle.ob_shares.specs.declared.shares.Shares.{Shares}
 use Rattle.ob_desk.specs.Parts.{part_of, desk_of, ArePartsKept, KeepsRoom}
 
 -- what a flag says of the closed part
@@ -34,15 +35,15 @@ closing-epoch part = closed_epoch part (length part.order.works)
 pub closing_epoch : (old new : CodePart) → part_of new ≡ closing (part_of old) → new.epoch ≡ old.epoch
 closing_epoch old new e = ap (λ (p : Part). p.epoch) e ∙ closed_epoch (part_of old) (length old.order.state.works)
 
-module _ (clients : List Client) (stop : Option Fault) (running other : CodePart) (is_closed : Bool) where
-  pub low_epoch : ArePartsKept running other is_closed stop → MayCall (desk_of clients stop running is_closed other) Close → running.epoch ≤ 2 ^ 62
+module _ (shares : Shares) (clients : List Client) (stop : Option Fault) (running other : CodePart) (is_closed : Bool) where
+  pub low_epoch : ArePartsKept running other is_closed stop → MayCall (desk_of shares clients stop running is_closed other) Close → running.epoch ≤ 2 ^ 62
   low_epoch kept may = kept.low (none_closed is_closed (part_of other) may.0) may.3
 
   pub close_step : (writes : List (ℕ × Option (List ℕ))) (ended next : CodePart) → ArePartsKept running other is_closed stop
       → part_of ended ≡ closing (part_of running) → KeepsRoom running ended
       → part_of next ≡ new_part (ended.epoch + 1) other.order.params.batches → next.order.params ≡ other.order.params
       → writes ≡ last_writes ended.order.params.keys ended.order.state.works
-      → CloseStep (desk_of clients stop running is_closed other) writes (desk_of clients stop next true ended)
+      → CloseStep (desk_of shares clients stop running is_closed other) writes (desk_of shares clients stop next true ended)
   close_step writes ended next kept ended_is room next_is next_params writes_are = record {
     batch = writes_are ∙ ap₂ (λ (p : Params) (q : Part). last_writes p.keys q.order.works) room.params ended_is;
     state = ap (λ (p : Params). made p (part_of next) (part_of ended)) (next_params ∙ kept.alike)
@@ -50,16 +51,16 @@ module _ (clients : List Client) (stop : Option Fault) (running other : CodePart
   }
     where
       made : Params → Part → Part → DeskState
-      made p a b = record { setup = record { params = p }; clients = clients; stop = stop; running = a; closed = Some b }
+      made p a b = record { setup = setup_with p shares; clients = clients; stop = stop; running = a; closed = Some b }
 
-  pub publish_step : (told : EpochRecord ℕ) (settled : List Client) (left : CodePart) → is_some (desk_of clients stop running is_closed other).closed ≡ true
+  pub publish_step : (told : EpochRecord ℕ) (settled : List Client) (left : CodePart) → is_some (desk_of shares clients stop running is_closed other).closed ≡ true
       → told ≡ record_of (part_of other) → settled ≡ settle (part_of other) Committed clients
-      → PublishStep (desk_of clients stop running is_closed other) told (desk_of settled stop running false left)
+      → PublishStep (desk_of shares clients stop running is_closed other) told (desk_of shares settled stop running false left)
   publish_step told settled left was told_is settled_is = record {
     part = part_of other;
     is_closed = some_closed is_closed (part_of other) _ refl was;
     record_is = told_is;
-    state = ap (λ (cs : List Client). let q : DeskState = record { setup = record { params = running.order.params }; clients = cs; stop = stop; running = part_of running; closed = None } in q) settled_is;
+    state = ap (λ (cs : List Client). let q : DeskState = record { setup = setup_with running.order.params shares; clients = cs; stop = stop; running = part_of running; closed = None } in q) settled_is;
   }
 
 -- a desk in doubt

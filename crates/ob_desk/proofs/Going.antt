@@ -16,6 +16,7 @@ use Rattle.ob_order.specs.declared.answers.Wrote.TheVariants.{Yes, Conflict as C
 use Rattle.ob_order.proofs.Edits.{length-edit, slice_get-push}
 use Rattle.ob_order.proofs.Falls.{fallen_waits, fallen_aborted, length-aborted, goes_on-edit}
 use Rattle.ob_order.proofs.Counts.{stopped_at}
+use Rattle.ob_shares.specs.declared.uses.Uses.{Uses as CodeUses}
 use Rattle.ob_desk.specs.declared.part.Part.{Part as CodePart}
 use Rattle.ob_desk.specs.Desk.{Part, Fault, waits}
 use Rattle.ob_desk.specs.Parts.{HasGoing, ArePartsKept}
@@ -139,10 +140,10 @@ begun_listed ws tickets h = record {
 
 -- ---- the two epochs
 
--- the running one with its order changed
-pub kept_order : (running other : CodePart) (is_closed : Bool) (stop : Option Fault) (o : OrderModel) → ArePartsKept running other is_closed stop → o.params ≡ running.order.params → HasGoing o.state.works running.going.items
-    → ArePartsKept (record running { order = o }) other is_closed stop
-kept_order running other is_closed stop o kept same going = record {
+-- the running one with its order changed, and what calls named
+pub kept_order : (running other : CodePart) (is_closed : Bool) (stop : Option Fault) (o : OrderModel) (uses : CodeUses) → ArePartsKept running other is_closed stop → o.params ≡ running.order.params → HasGoing o.state.works running.going.items
+    → ArePartsKept (record running { order = o; uses = uses }) other is_closed stop
+kept_order running other is_closed stop o uses kept same going = record {
   alike = kept.alike ∙ sym same;
   running_room = record { none_yet = kept.running_room.none_yet; fits = kept.running_room.fits };
   other_room = kept.other_room;

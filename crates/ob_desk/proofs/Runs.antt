@@ -15,7 +15,7 @@ use Rattle.ob_desk.specs.Desk.{Fault, Why, Asked}
 use Rattle.ob_order.specs.Works.{last_writes}
 use Rattle.ob_desk.specs.Replay.{map_after}
 use Rattle.ob_order.specs.Order.{after_take}
-use Rattle.ob_desk.specs.Desk.{Part, DeskState, new_desk, Setup, is_memory, stop_closed, end_of, closing, stop_part, Call, Begin, GetKey, Poll, Write, Commit, Abort, Settled, Looks, SignOff, Stop}
+use Rattle.ob_desk.specs.Desk.{Part, DeskState, Txn, new_desk, Setup, reading, writing, is_memory, stop_closed, end_of, closing, stop_part, Call, Begin, GetKey, Poll, Write, Commit, Abort, Settled, Looks, SignOff, Stop}
 use Rattle.ob_desk.specs.Desk.{Unsure, IsStopped, TakeBatch, Deliver, Close, Publish, Reply, Begun, Refused, Value, Waits, Aborted, Done, IsSettled, Seen, StoppedBy, Batch, Writes, Published, DeskStep}
 use Rattle.ob_desk.specs.Desk.{MayCall, IsFed, base_map, map_next, Run, published, records_told, record_of, DeskReplays, DeskIsSerial, stopped_by}
 use Rattle.ob_order.proofs.Newest.{by_option}
@@ -75,6 +75,13 @@ stopped m d f h = step (is_memory f)
       unfed = λ c is. absurd (none-some c is);
     }
 
+-- what calls named is none of a good desk's
+read_good : (m : Map nat_cmp) (d : DeskState) (x : Txn) (k : ℕ) → Good m d → Good m (reading d x k)
+read_good m d x k h = record { running = record { reads = h.running.reads; based = h.running.based; within = h.running.within; even = h.running.even }; closed = h.closed; unfed = h.unfed }
+
+written_good : (m : Map nat_cmp) (d : DeskState) (x : Txn) (k : ℕ) → Good m d → Good m (writing d x k)
+written_good m d x k h = record { running = record { reads = h.running.reads; based = h.running.based; within = h.running.within; even = h.running.even }; closed = h.closed; unfed = h.unfed }
+
 pub good_step : (m : Map nat_cmp) (d : DeskState) (call : Call) (reply : Reply) (new : DeskState) → MayCall d call → DeskStep d call reply new → IsFed m call → Good m d → Good (map_next m d call) new
 good_step m d (Begin client) (Begun x) new may step fed h = subst (Good m) (sym step.state) (record {
   running = fine_begun (base_map m d) d.setup.params.keys d.running _ h.running;
@@ -82,18 +89,26 @@ good_step m d (Begin client) (Begun x) new may step fed h = subst (Good m) (sym 
   unfed = h.unfed;
 })
 good_step m d (Begin client) (Refused f) new may step fed h = same m d new step.same h
-good_step m d (GetKey x k) (Value value) new may step fed h = in_running m d new _ step.state
-    (fine_got (base_map m d) d.setup.params.keys d.running x.ticket k (record { source = step.source; value = value }) h.running (read_found d.setup.params d.running.order x.ticket k value step.source step.reply)) refl h
-good_step m d (GetKey x k) Waits new may step fed h = in_running m d new _ step.state (fine_waits (base_map m d) d.setup.params.keys d.running x.ticket k h.running) (asked_bases d.running.order k) h
+good_step m d (GetKey x k) (Value value) new may step fed h =
+    let r = read_good m d x k h in
+    in_running m (reading d x k) new _ step.state
+    (fine_got (base_map m d) d.setup.params.keys (reading d x k).running x.ticket k (record { source = step.source; value = value }) r.running (read_found d.setup.params d.running.order x.ticket k value step.source step.reply)) refl r
+good_step m d (GetKey x k) Waits new may step fed h =
+    let r = read_good m d x k h in
+    in_running m (reading d x k) new _ step.state (fine_waits (base_map m d) d.setup.params.keys (reading d x k).running x.ticket k r.running) (asked_bases d.running.order k) r
 good_step m d (GetKey x k) (Aborted why) new may (inl step) fed h = same m d new step.same h
-good_step m d (GetKey x k) (Aborted why) new may (inr step) fed h = ended m d new x.ticket why step.state h
+good_step m d (GetKey x k) (Aborted why) new may (inr (inl step)) fed h = ended m (reading d x k) new x.ticket why step.state (read_good m d x k h)
+good_step m d (GetKey x k) (Aborted why) new may (inr (inr step)) fed h = ended m d new x.ticket why step.state h
 good_step m d (Poll x) (Value value) new may step fed h = in_running m d new _ step.state
     (fine_got (base_map m d) d.setup.params.keys d.running x.ticket step.key (record { source = step.source; value = value }) h.running (again_found d.running.order x.ticket step.key value step.source step.reply)) refl h
 good_step m d (Poll x) Waits new may step fed h = same m d new step.same h
 good_step m d (Poll x) (Aborted why) new may step fed h = same m d new step.same h
-good_step m d (Write x k value) Done new may step fed h = in_running m d new _ step.state (fine_wrote (base_map m d) d.setup.params.keys d.setup.params d.running x.ticket k value h.running step.reply may.2) refl h
+good_step m d (Write x k value) Done new may step fed h =
+    let w = written_good m d x k h in
+    in_running m (writing d x k) new _ step.state (fine_wrote (base_map m d) d.setup.params.keys d.setup.params (writing d x k).running x.ticket k value w.running step.reply may.2) refl w
 good_step m d (Write x k value) (Aborted why) new may (inl step) fed h = same m d new step.same h
-good_step m d (Write x k value) (Aborted why) new may (inr step) fed h = ended m d new x.ticket why step.state h
+good_step m d (Write x k value) (Aborted why) new may (inr (inl step)) fed h = ended m (writing d x k) new x.ticket why step.state (written_good m d x k h)
+good_step m d (Write x k value) (Aborted why) new may (inr (inr step)) fed h = ended m d new x.ticket why step.state h
 good_step m d (Commit x) Done new may step fed h = in_running m d new _ step.state (fine_holder (base_map m d) d.setup.params.keys _ d.running x.ticket h.running) refl h
 good_step m d (Commit x) (Aborted why) new may step fed h = same m d new step.same h
 good_step m d (Abort x) (Aborted why) new may (inl step) fed h = same m d new step.same h

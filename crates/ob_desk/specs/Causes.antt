@@ -9,7 +9,7 @@ use Rattle.ob_order.specs.declared.answers.Read.{Read}
 use Rattle.ob_order.specs.declared.answers.Read.TheVariants.{Value as Found, Queued, Full as ReadsAreFull}
 use Rattle.ob_order.specs.declared.answers.Wrote.{Wrote}
 use Rattle.ob_order.specs.declared.answers.Wrote.TheVariants.{Yes, Conflict as Conflicts, Full as WritesAreFull}
-use Rattle.ob_desk.specs.Desk.{DeskState, Part, Txn, Call, GetKey, Poll, Write, Commit, Abort, Reply, Value, Waits, Aborted, Done, Conflict, ReadsFull, WritesFull, Depends, EpochEnd, Asked, Why, AbortedBy, DeskStep, outcome_at, aborted_why, waiting_at, asked_at, why_at, closing}
+use Rattle.ob_desk.specs.Desk.{DeskState, Part, Txn, Call, GetKey, Poll, Write, Commit, Abort, Reply, Value, Waits, Aborted, Done, Conflict, ReadsFull, WritesFull, ShareReads, ShareWrites, Depends, EpochEnd, Asked, Why, AbortedBy, DeskStep, outcome_at, aborted_why, waiting_at, asked_at, why_at, closing, read_past, write_past}
 
 -- a get's reply: a value, or the key waits, or no batch has a place for it
 abbrev pub read_as : Read → Reply
@@ -34,14 +34,14 @@ called_txn _ = None
 
 -- the reply to a call on a transaction that isn't aborted
 abbrev pub reply_to : DeskState → Call → Reply
-reply_to d (GetKey x k) = read_as (read_reply d.setup.params d.running.order x.ticket k)
+reply_to d (GetKey x k) = unwrap_or (option_map (λ keys. Aborted (ShareReads keys)) (read_past d x k)) (read_as (read_reply d.setup.params d.running.order x.ticket k))
 reply_to d (Poll x) = unwrap_or (option_map (λ k. read_as (again_reply d.running.order x.ticket k)) (waiting_at d.running x.ticket)) Waits
-reply_to d (Write x k value) = written_as (write_reply d.setup.params d.running.order x.ticket k)
+reply_to d (Write x k value) = unwrap_or (option_map (λ keys. Aborted (ShareWrites keys)) (write_past d x k)) (written_as (write_reply d.setup.params d.running.order x.ticket k))
 reply_to d (Commit x) = Done
 reply_to d (Abort x) = Aborted Asked
 reply_to d _ = Done
 
--- Conflict, ReadsFull, WritesFull, Asked and Queued come exactly where the function says
+-- Conflict, ReadsFull, WritesFull, ShareReads, ShareWrites, Asked and Queued come exactly where the function says
 abbrev pub RepliesAreExact : Type 0
 RepliesAreExact = (d : DeskState) (call : Call) (x : Txn) (reply : Reply) (new : DeskState) → called_txn call ≡ Some x → aborted_why (outcome_at d x) ≡ None → DeskStep d call reply new → reply ≡ reply_to d call
 

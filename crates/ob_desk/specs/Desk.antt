@@ -19,10 +19,12 @@ use Rattle.ob_base.specs.declared.params.Params.{Params}
 use Rattle.ob_order.specs.declared.answers.Read.TheVariants.{Value as Found, Queued, Full as ReadsAreFull}
 use Rattle.ob_order.specs.declared.answers.Wrote.{Wrote}
 use Rattle.ob_order.specs.declared.answers.Wrote.TheVariants.{Yes, Conflict as Conflicts, Full as WritesAreFull}
+use Rattle.ob_shares.specs.declared.shares.Shares.{Shares}
+use Rattle.ob_shares.specs.Shares.{no_shares, Uses, none_used, past, with_name, AreFitting}
 pub use Rattle.ob_base.specs.declared.fault.Fault.{Fault}
 pub use Rattle.ob_base.specs.declared.fault.Fault.TheVariants.{Memory}
 pub use Rattle.ob_serial.specs.declared.records.Why.{Why}
-pub use Rattle.ob_serial.specs.declared.records.Why.TheVariants.{Conflict, Depends, ReadsFull, WritesFull, EpochEnd, Asked, Stopped}
+pub use Rattle.ob_serial.specs.declared.records.Why.TheVariants.{Conflict, Depends, ReadsFull, WritesFull, ShareReads, ShareWrites, EpochEnd, Asked, Stopped}
 pub use Rattle.ob_serial.specs.declared.records.Outcome.{Outcome}
 pub use Rattle.ob_serial.specs.declared.records.Outcome.TheVariants.{Committed, Aborted as AbortedBy, Unsure as UnsureOf}
 pub use Rattle.ob_desk.specs.declared.calls.Txn.{Txn}
@@ -30,15 +32,25 @@ pub use Rattle.ob_desk.specs.declared.calls.Look.{Look}
 pub use Rattle.ob_desk.specs.declared.clients.Holder.{Holder}
 pub use Rattle.ob_desk.specs.declared.clients.Client.{Client}
 
--- one epoch: by ticket, works (in order) and holders
+-- one epoch: by ticket, works (in order) and holders; and what clients' calls named
 pub record Part : Type 0 where
   pub epoch : ℕ
   pub order : OrderState
   pub holders : List Holder
+  pub uses : Uses
 
 -- what a desk keeps for life
 pub record Setup : Type 0 where
   pub params : Params
+  pub shares : Shares
+
+-- a desk's with these parameters and client shares
+abbrev pub setup_with : Params → Shares → Setup
+setup_with params shares = record { params = params; shares = shares }
+
+-- a desk's with these parameters and no shares
+abbrev pub setup_of : Params → Setup
+setup_of params = setup_with params no_shares
 
 -- The running epoch, and beside it a closed one until it is published, stopped or in doubt.
 pub record DeskState : Type 0 where
@@ -50,7 +62,7 @@ pub record DeskState : Type 0 where
 
 -- an epoch that begins
 abbrev pub new_part : ℕ → ℕ → Part
-new_part epoch left = record { epoch = epoch; order = new_order left; holders = [] }
+new_part epoch left = record { epoch = epoch; order = new_order left; holders = []; uses = none_used }
 
 -- a client that has begun nothing
 abbrev pub new_client : ℕ → Client
@@ -246,6 +258,22 @@ pub record IsLive (d : DeskState) (x : Txn) : Type 0 where
   pub runs : x.epoch ≡ d.running.epoch
   pub goes : goes_on d.running.order.works x.ticket ≡ true
 
+-- the share that a get of this key would go past, where it would
+abbrev pub read_past : DeskState → Txn → ℕ → Option ℕ
+read_past d x k = past d.setup.shares.reads d.running.uses.reads x.client k
+
+-- the share that a put or del of this key would go past, where it would
+abbrev pub write_past : DeskState → Txn → ℕ → Option ℕ
+write_past d x k = past d.setup.shares.writes d.running.uses.writes x.client k
+
+-- a get of the transaction's client named the key
+abbrev pub reading : DeskState → Txn → ℕ → DeskState
+reading d x k = record d { running = record d.running { uses = record d.running.uses { reads = with_name d.setup.shares.reads d.running.uses.reads x.client k } } }
+
+-- a put or del of the transaction's client named the key
+abbrev pub writing : DeskState → Txn → ℕ → DeskState
+writing d x k = record d { running = record d.running { uses = record d.running.uses { writes = with_name d.setup.shares.writes d.running.uses.writes x.client k } } }
+
 -- nothing happens
 pub record Stays (d new : DeskState) : Type 0 where
   pub same : new ≡ d
@@ -269,27 +297,38 @@ pub record RefusedStep (d : DeskState) (f : Fault) (new : DeskState) : Type 0 wh
   pub stopped : d.stop ≡ Some f
   pub same : new ≡ d
 
+-- the get goes past its client's share, and the transaction is aborted: nothing is named
+pub record ShareReadStep (d : DeskState) (x : Txn) (k : ℕ) (why : Why ℕ) (new : DeskState) : Type 0 where
+  pub live : IsLive d x
+  pub keys : ℕ
+  pub passes : read_past d x k ≡ Some keys
+  pub cause : why ≡ ShareReads keys
+  pub state : new ≡ record d { running = end_of d.running x.ticket why }
+
 -- a get is answered with a value
 pub record GetStep (d : DeskState) (x : Txn) (k : ℕ) (value : Option (List ℕ)) (new : DeskState) : Type 0 where
   pub live : IsLive d x
+  pub within : read_past d x k ≡ None
   pub source : ℕ
   pub reply : read_reply d.setup.params d.running.order x.ticket k ≡ Found value source
-  pub state : new ≡ record d { running = with_order d.running (after_read d.running.order x.ticket k (Found value source)) }
+  pub state : new ≡ record d { running = with_order (reading d x k).running (after_read d.running.order x.ticket k (Found value source)) }
 
 -- a get has to wait for its key
 pub record QueuedStep (d : DeskState) (x : Txn) (k : ℕ) (new : DeskState) : Type 0 where
   pub live : IsLive d x
+  pub within : read_past d x k ≡ None
   pub reply : read_reply d.setup.params d.running.order x.ticket k ≡ Queued
-  pub state : new ≡ record d { running = with_order d.running (after_read d.running.order x.ticket k Queued) }
+  pub state : new ≡ record d { running = with_order (reading d x k).running (after_read d.running.order x.ticket k Queued) }
 
 -- the batches that are left have no place for the key, and the transaction is aborted
 pub record ReadsFullStep (d : DeskState) (x : Txn) (k : ℕ) (why : Why ℕ) (new : DeskState) : Type 0 where
   pub live : IsLive d x
+  pub within : read_past d x k ≡ None
   pub queued : ℕ
   pub left : ℕ
   pub reply : read_reply d.setup.params d.running.order x.ticket k ≡ ReadsAreFull queued left
   pub cause : why ≡ ReadsFull queued left
-  pub state : new ≡ record d { running = end_of d.running x.ticket why }
+  pub state : new ≡ record d { running = end_of (reading d x k).running x.ticket why }
 
 -- the get is answered now
 pub record PollStep (d : DeskState) (x : Txn) (value : Option (List ℕ)) (new : DeskState) : Type 0 where
@@ -308,11 +347,20 @@ pub record StillQueuedStep (d : DeskState) (x : Txn) (new : DeskState) : Type 0 
   pub reply : again_reply d.running.order x.ticket key ≡ Queued
   pub same : new ≡ d
 
+-- the put or del goes past its client's share, and the transaction is aborted: nothing is named
+pub record ShareWriteStep (d : DeskState) (x : Txn) (k : ℕ) (why : Why ℕ) (new : DeskState) : Type 0 where
+  pub live : IsLive d x
+  pub keys : ℕ
+  pub passes : write_past d x k ≡ Some keys
+  pub cause : why ≡ ShareWrites keys
+  pub state : new ≡ record d { running = end_of d.running x.ticket why }
+
 -- the key has the version
 pub record WriteStep (d : DeskState) (x : Txn) (k : ℕ) (value : Option (List ℕ)) (new : DeskState) : Type 0 where
   pub live : IsLive d x
+  pub within : write_past d x k ≡ None
   pub reply : write_reply d.setup.params d.running.order x.ticket k ≡ Yes
-  pub state : new ≡ record d { running = with_order d.running (after_write d.running.order x.ticket k value Yes) }
+  pub state : new ≡ record d { running = with_order (writing d x k).running (after_write d.running.order x.ticket k value Yes) }
 
 -- why a write aborts its transaction
 abbrev pub why_refused : Wrote → Option (Why ℕ)
@@ -323,8 +371,9 @@ why_refused (WritesAreFull keys) = Some (WritesFull keys)
 -- the write covers what a later ticket has read, or has no place, and the transaction is aborted
 pub record WriteRefusedStep (d : DeskState) (x : Txn) (k : ℕ) (why : Why ℕ) (new : DeskState) : Type 0 where
   pub live : IsLive d x
+  pub within : write_past d x k ≡ None
   pub cause : why_refused (write_reply d.setup.params d.running.order x.ticket k) ≡ Some why
-  pub state : new ≡ record d { running = end_of d.running x.ticket why }
+  pub state : new ≡ record d { running = end_of (writing d x k).running x.ticket why }
 
 -- it has asked to commit
 pub record CommitStep (d : DeskState) (x : Txn) (new : DeskState) : Type 0 where
@@ -396,12 +445,12 @@ DeskStep d (Begin client) (Begun x) new = BeginStep d client x new
 DeskStep d (Begin client) (Refused f) new = RefusedStep d f new
 DeskStep d (GetKey x k) (Value value) new = GetStep d x k value new
 DeskStep d (GetKey x k) Waits new = QueuedStep d x k new
-DeskStep d (GetKey x k) (Aborted why) new = WasAborted d x why new ⊎ ReadsFullStep d x k why new
+DeskStep d (GetKey x k) (Aborted why) new = WasAborted d x why new ⊎ (ReadsFullStep d x k why new ⊎ ShareReadStep d x k why new)
 DeskStep d (Poll x) (Value value) new = PollStep d x value new
 DeskStep d (Poll x) Waits new = StillQueuedStep d x new
 DeskStep d (Poll x) (Aborted why) new = WasAborted d x why new
 DeskStep d (Write x k value) Done new = WriteStep d x k value new
-DeskStep d (Write x k value) (Aborted why) new = WasAborted d x why new ⊎ WriteRefusedStep d x k why new
+DeskStep d (Write x k value) (Aborted why) new = WasAborted d x why new ⊎ (WriteRefusedStep d x k why new ⊎ ShareWriteStep d x k why new)
 DeskStep d (Commit x) Done new = CommitStep d x new
 DeskStep d (Commit x) (Aborted why) new = WasAborted d x why new
 DeskStep d (Abort x) (Aborted why) new = WasAborted d x why new ⊎ AbortStep d x why new
@@ -417,12 +466,13 @@ DeskStep d Close (Writes writes) new = CloseStep d writes new
 DeskStep d (Publish epoch left) (Published told) new = PublishStep d told new
 DeskStep d _ _ new = ⊥
 
--- What a desk may be made with: no more batches left than an epoch has, an epoch with room to count on, and rising clients' numbers from 1 to 64.
+-- What a desk may be made with: no more batches left than an epoch has, an epoch with room to count on, rising clients' numbers from 1 to 64, and shares with places for all of them.
 pub record MayOpen (setup : Setup) (epoch left : ℕ) (clients : List ℕ) : Type 0 where
   pub few_left : left ≤ setup.params.batches
   pub low_epoch : epoch ≤ 2 ^ 62
   pub named : All IsClientNumber clients
   pub rising : IsStrictlyIncreasing clients
+  pub fit : AreFitting setup.shares (length clients) setup.params.places setup.params.writes
 
 -- the client is one of the desk's and hasn't signed off
 pub record IsHere (d : DeskState) (number : ℕ) : Type 0 where

@@ -6,11 +6,13 @@ use Rattle.std.specs.declared.option.Option.{Option}
 use Rattle.std.specs.declared.option.Option.TheVariants.{None, Some}
 use Rattle.ob_serial.specs.Serial.{TxnRecord}
 use Rattle.ob_order.specs.Works.{Work, goes_on}
+use Rattle.ob_shares.specs.declared.shares.Shares.{Shares}
+use Rattle.ob_shares.specs.Seen.{uses_of}
 use Rattle.ob_desk.specs.declared.part.Part.{Part as CodePart}
-use Rattle.ob_desk.specs.Desk.{Part, DeskState, Holder, Client, Fault, Committed, AbortedBy, why_of}
+use Rattle.ob_desk.specs.Desk.{Part, DeskState, Holder, Client, Fault, Committed, AbortedBy, why_of, setup_with}
 
 abbrev pub part_of : CodePart → Part
-part_of p = record { epoch = p.epoch; order = p.order.state; holders = p.holders.items }
+part_of p = record { epoch = p.epoch; order = p.order.state; holders = p.holders.items; uses = uses_of p.uses }
 
 -- there is room for the record of each transaction
 pub record HasRecordRoom (p : CodePart) : Type 0 where
@@ -41,9 +43,9 @@ pub record ArePartsKept (running other : CodePart) (is_closed : Bool) (stop : Op
   pub low : is_closed ≡ false → stop ≡ None → running.epoch ≤ 2 ^ 62
 
 -- what is seen of a desk
-abbrev pub desk_of : List Client → Option Fault → CodePart → Bool → CodePart → DeskState
-desk_of clients stop running is_closed other = record {
-  setup = record { params = running.order.params };
+abbrev pub desk_of : Shares → List Client → Option Fault → CodePart → Bool → CodePart → DeskState
+desk_of shares clients stop running is_closed other = record {
+  setup = setup_with running.order.params shares;
   clients = clients;
   stop = stop;
   running = part_of running;

@@ -21,6 +21,7 @@ use crate::roll::{begin_client, client_in, count_here, enrol, settle, sign_off};
 use ob_base::{Fault, Key, Memory, Params, Value, Write};
 use ob_order::{EpochOrder, Read, Wrote};
 use ob_serial::{EpochRecord, Outcome, Why};
+use ob_shares::{Shares, add_name, make_room, new_uses, past};
 use ob_versions::Order;
 use std::alloc::Global;
 use std::marker::Model;
@@ -31,6 +32,7 @@ use std::mem;
 #[derive(Drop)]
 pub struct Desk {
     alloc: Global,
+    shares: Shares,
     running: Part,
     other: Part,
     is_closed: bool,
@@ -49,14 +51,14 @@ impl Model for Desk {
 
     ghost use Rattle.ob_desk.specs.Parts.{desk_of, ArePartsKept};
 
-    ghost view = { λ d. desk_of d.clients.items d.stopped d.running d.is_closed d.other };
+    ghost view = { λ d. desk_of d.shares d.clients.items d.stopped d.running d.is_closed d.other };
 
     ghost invariant = { λ d. ArePartsKept d.running d.other d.is_closed d.stopped };
 }
 
 impl Desk {
     /// A desk whose first epoch is this one, with so many batches left to take, for the clients of
-    /// these numbers.
+    /// these numbers, each of which has these shares.
     ///
     /// # Errors
     /// Memory was wanting.
@@ -66,19 +68,23 @@ impl Desk {
         epoch: u64,
         left: u32,
         clients: &[u32],
+        shares: Shares,
     ) -> Result<Desk, Memory>
-        requires { desks.MayOpen (record { params = params.now }) epoch left clients.now }
+        requires { desks.MayOpen (desks.setup_with params.now shares) epoch left clients.now }
         ensures { IfOk result (λ d. d
-            ≡ desks.new_desk (record { params = params.now }) epoch left clients.now) }
+            ≡ desks.new_desk (desks.setup_with params.now shares) epoch left clients.now) }
     {
         // Made first: a want of memory then leaves no part to drop.
         let clients = enrol(alloc, clients)?;
+        let uses = new_uses(alloc, params, &shares)?;
+        let other_uses = new_uses(alloc, params, &shares)?;
         let order = Order::new(alloc, params, left)?;
         let other = Order::new(alloc, params, left)?;
         Ok(Desk {
             alloc,
-            running: new_part(alloc, epoch, order),
-            other: new_part(alloc, epoch, other),
+            shares,
+            running: new_part(alloc, epoch, order, uses),
+            other: new_part(alloc, epoch, other, other_uses),
             is_closed: false,
             clients,
             stopped: None,
@@ -179,8 +185,8 @@ impl Desk {
         end(&mut self.running, t, why);
     }
 
-    /// A get: the value, or the key waits for a batch. Where the batches that are left have no
-    /// place for it, the transaction is aborted.
+    /// A get: the value, or the key waits for a batch. Where it goes past its client's share, or
+    /// the batches that are left have no place for it, the transaction is aborted.
     ///
     /// # Errors
     /// Memory was wanting. All is as before.
@@ -193,7 +199,20 @@ impl Desk {
         if let Some(why) = self.why_aborted(txn) {
             return Ok(Got::Aborted { why });
         }
-        match self.running.order.read(txn.ticket, key)? {
+        if let Some(keys) = past(self.shares.reads, &self.running.uses.reads, txn.client, key) {
+            let why = Why::ShareReads { keys };
+            self.end(txn.ticket, why);
+            return Ok(Got::Aborted { why });
+        }
+        make_room(self.shares.reads, &mut self.running.uses.reads)?;
+        let read = self.running.order.read(txn.ticket, key)?;
+        add_name(
+            self.shares.reads,
+            &mut self.running.uses.reads,
+            txn.client,
+            key,
+        );
+        match read {
             Read::Value { value, .. } => Ok(Got::Value { value }),
             Read::Queued => Ok(Got::Queued),
             Read::Full { queued, left } => {
@@ -223,8 +242,8 @@ impl Desk {
         }
     }
 
-    /// A put. Where a later ticket has read what it would cover, or the write batch has no place
-    /// for the key, the transaction is aborted.
+    /// A put. Where it goes past its client's share, a later ticket has read what it would cover,
+    /// or the write batch has no place for the key, the transaction is aborted.
     ///
     /// # Errors
     /// Memory was wanting. All is as before.
@@ -263,7 +282,25 @@ impl Desk {
         if let Some(why) = self.why_aborted(txn) {
             return Ok(Done::Aborted { why });
         }
-        let why = match self.running.order.write(txn.ticket, key, value)? {
+        if let Some(keys) = past(
+            self.shares.writes,
+            &self.running.uses.writes,
+            txn.client,
+            key,
+        ) {
+            let why = Why::ShareWrites { keys };
+            self.end(txn.ticket, why);
+            return Ok(Done::Aborted { why });
+        }
+        make_room(self.shares.writes, &mut self.running.uses.writes)?;
+        let wrote = self.running.order.write(txn.ticket, key, value)?;
+        add_name(
+            self.shares.writes,
+            &mut self.running.uses.writes,
+            txn.client,
+            key,
+        );
+        let why = match wrote {
             Wrote::Yes => return Ok(Done::Yes),
             Wrote::Conflict { key, reader } => Why::Conflict { key, reader },
             Wrote::Full { keys } => Why::WritesFull { keys },

@@ -13,13 +13,14 @@ use crate::clients::Holder;
 use ob_base::{Fault, Key, Memory, Op, Params, Value};
 use ob_order::{EpochOrder, Fate, Work};
 use ob_serial::{EpochRecord, Outcome, TxnRecord, Why};
+use ob_shares::{Uses, clear_uses};
 use ob_versions::Order;
 use std::alloc::Global;
 use std::mem;
 
 /// One epoch: the order of its transactions and, by ticket, who holds each. `going` lists the
 /// tickets that go on, beside some that were aborted since the last begin. `told` is empty, with
-/// room for the record of each.
+/// room for the record of each. `uses` has what clients' calls named, where they have a share.
 #[derive(Drop)]
 pub struct Part {
     pub epoch: u64,
@@ -27,6 +28,7 @@ pub struct Part {
     pub holders: Vec<Holder>,
     pub going: Vec<u64>,
     pub told: Vec<TxnRecord<Key>>,
+    pub uses: Uses,
 }
 
 fn cause_at(holders: &[Holder], t: u64) -> Option<Why<Key>>
@@ -233,9 +235,10 @@ pub fn stop(part: &mut Part, fault: Fault)
     stop_holders(&mut part.holders, fault);
 }
 
-/// A part whose order this is.
-pub fn new_part(alloc: Global, epoch: u64, order: Order) -> Part
+/// A part whose order this is, and whose calls named this.
+pub fn new_part(alloc: Global, epoch: u64, order: Order, uses: Uses) -> Part
     ensures order { result.order ≡ order }
+    ensures uses { result.uses ≡ uses }
     ensures epoch { result.epoch ≡ epoch }
     ensures none { result.holders.items ≡ [] }
     ensures none_going { result.going.items ≡ [] }
@@ -249,6 +252,7 @@ pub fn new_part(alloc: Global, epoch: u64, order: Order) -> Part
         holders: Vec::new(alloc),
         going: Vec::new(alloc),
         told: Vec::new(alloc),
+        uses,
     }
 }
 
@@ -299,6 +303,7 @@ pub fn restart(part: &mut Part, epoch: u64)
     part.order.clear(batches);
     part.holders.clear();
     part.going.clear();
+    clear_uses(&mut part.uses);
 }
 
 // How a transaction of a part that is published ended.

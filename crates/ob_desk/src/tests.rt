@@ -3,13 +3,17 @@
 // They stand here, and not in a crate of tests: whether a call may be made depends on who has asked
 // to commit and on the key that a get waits for, and no public call tells of these.
 
+mod beside;
+
 use crate::{Beat, Begun, Desk, Done, Eager, Got, Hasty, Look, Txn};
 use ob_base::{Fault, Key, Memory, Params, Value, Write};
 use ob_serial::{EpochRecord, Outcome, Why};
+use ob_shares::NO_SHARES;
 use std::alloc::Global;
 use std::test::Fail;
 
-// A call. The transaction of number n is the first epoch's of ticket n, which client n began.
+// A call. The transaction of number n is the first epoch's of ticket n, which client n began; that
+// of number 20 + n is the second epoch's of ticket n, which client n + 1 began.
 #[derive(Clone, Copy)]
 enum Call {
     // Another desk from here on, on which clients 1 to n have begun.
@@ -332,6 +336,14 @@ const LOOKS: [(Call, Answer); 9] = [
 ];
 
 fn txn(number: u32) -> Txn {
+    if number > 20 {
+        let ticket = number - 20;
+        return Txn {
+            client: ticket + 1,
+            epoch: 2,
+            ticket: u64::from(ticket),
+        };
+    }
     Txn {
         client: number,
         epoch: 1,
@@ -374,7 +386,7 @@ fn desk(alloc: Global, begun: u32) -> Result<Option<Desk>, Memory> {
     let Ok(p) = Params::new(8, 2, 2, 3, 2, 2, 2, 2, 6) else {
         return Ok(None);
     };
-    let mut desk = Desk::new(alloc, &p, 1, 2, &[1, 2, 3, 4, 5, 6])?;
+    let mut desk = Desk::new(alloc, &p, 1, 2, &[1, 2, 3, 4, 5, 6], NO_SHARES)?;
     for n in 0..begun {
         let _begun = begin(&mut desk, n + 1)?;
     }

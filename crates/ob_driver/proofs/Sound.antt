@@ -10,7 +10,7 @@ use Rattle.ob_serial.specs.declared.records.Why.TheVariants.{Asked}
 use Rattle.ob_order.specs.Order.{write_reply, after_write}
 use Rattle.ob_order.specs.declared.answers.Wrote.TheVariants.{Yes}
 use Rattle.ob_desk.specs.Desk as desk
-use Rattle.ob_desk.specs.Desk.{DeskState, Part, Call, Reply, DeskStep, MayCall, with_order, stopped_by, stop_part, stop_closed, is_memory}
+use Rattle.ob_desk.specs.Desk.{DeskState, Part, Call, Reply, DeskStep, MayCall, with_order, reading, writing, stopped_by, stop_part, stop_closed, is_memory}
 use Rattle.ob_desk.proofs.Fine.{read_found, again_found}
 use Rattle.ob_session.specs.Steps.{Leads, IsOwn}
 use Rattle.ob_turn.specs.declared.turn.Entry.{Entry}
@@ -19,7 +19,7 @@ use Rattle.ob_hall.specs.Turns.{IsTurn}
 use Rattle.ob_hall.specs.Passes.{Steps, IsNew, calls_in}
 use Rattle.ob_hall.proofs.Histories.{noted_calls, history_leads}
 use Rattle.ob_conduct.specs.Ready.{IsFit}
-use Rattle.ob_conduct.proofs.Fit.{fit_new, fit_begun, fit_got, fit_waits, fit_wrote, fit_end, fit_holder, fit_stopped, fit_taken, fit_delivered}
+use Rattle.ob_conduct.proofs.Fit.{fit_new, fit_begun, fit_got, fit_waits, fit_wrote, fit_end, fit_holder, fit_stopped, fit_taken, fit_delivered, fit_used}
 use Rattle.ob_desk.specs.declared.calls.Look.{Look}
 use Rattle.ob_conduct.specs.Acts.{look_calls}
 use Rattle.ob_driver.specs.Resting.{IsMild}
@@ -53,16 +53,18 @@ stopped p d new f is e s = subst (IsSound p) (sym (e ∙ ap (λ (g : Fault). sto
 step_sound : (p : Params) (d : DeskState) (call : Call) (reply : Reply) (new : DeskState) → IsSound p d → IsMild (call, reply) → MayCall d call → DeskStep d call reply new → IsSound p new
 step_sound p d (desk.Begin number) (desk.Begun x) new s mild may step = subst (IsSound p) (sym step.state) (record { params = s.params; stop = s.stop; fit = fit_begun p d.running _ s.fit })
 step_sound p d (desk.Begin number) (desk.Refused f) new s mild may step = same p d new step.same s
-step_sound p d (desk.GetKey x k) (desk.Value value) new s mild may step = in_running p d new _ step.state (fit_got p d.running x.ticket k (record { source = step.source; value = value }) s.fit (read_found d.setup.params d.running.order x.ticket k value step.source step.reply)) s
-step_sound p d (desk.GetKey x k) desk.Waits new s mild may step = in_running p d new _ step.state (fit_waits p d.running x.ticket k (in_range p d k s may.2) s.fit) s
+step_sound p d (desk.GetKey x k) (desk.Value value) new s mild may step = in_running p d new _ step.state (fit_got p (reading d x k).running x.ticket k (record { source = step.source; value = value }) (fit_used p d.running _ s.fit) (read_found d.setup.params d.running.order x.ticket k value step.source step.reply)) s
+step_sound p d (desk.GetKey x k) desk.Waits new s mild may step = in_running p d new _ step.state (fit_waits p (reading d x k).running x.ticket k (in_range p d k s may.2) (fit_used p d.running _ s.fit)) s
 step_sound p d (desk.GetKey x k) (desk.Aborted why) new s mild may (inl step) = same p d new step.same s
-step_sound p d (desk.GetKey x k) (desk.Aborted why) new s mild may (inr step) = in_running p d new _ step.state (fit_end p d.running x.ticket why s.fit) s
+step_sound p d (desk.GetKey x k) (desk.Aborted why) new s mild may (inr (inl step)) = in_running p d new _ step.state (fit_end p (reading d x k).running x.ticket why (fit_used p d.running _ s.fit)) s
+step_sound p d (desk.GetKey x k) (desk.Aborted why) new s mild may (inr (inr step)) = in_running p d new _ step.state (fit_end p d.running x.ticket why s.fit) s
 step_sound p d (desk.Poll x) (desk.Value value) new s mild may step = in_running p d new _ step.state (fit_got p d.running x.ticket step.key (record { source = step.source; value = value }) s.fit (again_found d.running.order x.ticket step.key value step.source step.reply)) s
 step_sound p d (desk.Poll x) desk.Waits new s mild may step = same p d new step.same s
 step_sound p d (desk.Poll x) (desk.Aborted why) new s mild may step = same p d new step.same s
-step_sound p d (desk.Write x k value) desk.Done new s mild may step = in_running p d new _ step.state (wrote p d.setup.params d.running x.ticket k value s.params s.fit step.reply may.2) s
+step_sound p d (desk.Write x k value) desk.Done new s mild may step = in_running p d new _ step.state (wrote p d.setup.params (writing d x k).running x.ticket k value s.params (fit_used p d.running _ s.fit) step.reply may.2) s
 step_sound p d (desk.Write x k value) (desk.Aborted why) new s mild may (inl step) = same p d new step.same s
-step_sound p d (desk.Write x k value) (desk.Aborted why) new s mild may (inr step) = in_running p d new _ step.state (fit_end p d.running x.ticket why s.fit) s
+step_sound p d (desk.Write x k value) (desk.Aborted why) new s mild may (inr (inl step)) = in_running p d new _ step.state (fit_end p (writing d x k).running x.ticket why (fit_used p d.running _ s.fit)) s
+step_sound p d (desk.Write x k value) (desk.Aborted why) new s mild may (inr (inr step)) = in_running p d new _ step.state (fit_end p d.running x.ticket why s.fit) s
 step_sound p d (desk.Commit x) desk.Done new s mild may step = in_running p d new _ step.state (fit_holder p _ d.running x.ticket s.fit) s
 step_sound p d (desk.Commit x) (desk.Aborted why) new s mild may step = same p d new step.same s
 step_sound p d (desk.Abort x) (desk.Aborted why) new s mild may (inl step) = same p d new step.same s

@@ -3,7 +3,7 @@ use Rattle.std.proofs.Common.{◌≡◌, ◌∙◌, ◌+◌, ℕ, suc, false, Li
 use Rattle.std.proofs.lemmas.List.Elements.{All-head, All-tail}
 use Rattle.ob_base.specs.declared.params.Params.{Params}
 use Rattle.ob_serial.specs.Vaults.{VaultCounts}
-use Rattle.ob_desk.specs.Desk.{DeskState, new_desk}
+use Rattle.ob_desk.specs.Desk.{DeskState, new_desk, setup_of}
 use Rattle.ob_session.specs.Clients.{said_by}
 use Rattle.ob_turn.specs.declared.turn.Entry.{Entry}
 use Rattle.ob_hall.specs.Passes.{Steps, Hall, Pass, opening_of, may_raise, calls_in}
@@ -12,7 +12,7 @@ use Rattle.ob_hall.specs.Calling.{IsReady, IsBetween}
 use Rattle.ob_driver.specs.Drives.{IsFirstPass}
 use Rattle.ob_driver.specs.Testing.{two_clients, IsNewClient, AreTwoPasses}
 
-new_client : (hall : Hall) (p : Params) (epoch left at number : ℕ) (pass : Pass) → opening_of hall ≡ new_desk (record { params = p }) epoch left two_clients → IsFreshPass hall at pass → pass.client ≡ number → IsReady hall pass → IsNewClient hall number pass p.keys
+new_client : (hall : Hall) (p : Params) (epoch left at number : ℕ) (pass : Pass) → opening_of hall ≡ new_desk (setup_of p) epoch left two_clients → IsFreshPass hall at pass → pass.client ≡ number → IsReady hall pass → IsNewClient hall number pass p.keys
 new_client hall p epoch left at number pass opening fresh client ready = record {
   ready = ready;
   client = client;
@@ -20,7 +20,7 @@ new_client hall p epoch left at number pass opening fresh client ready = record 
   below = let same : (opening_of hall).setup.params.keys ≡ p.keys = ap (λ (d : DeskState). d.setup.params.keys) opening in omega (arith, same);
 }
 
-module _ (hall : Hall) (p : Params) (epoch left : ℕ) (opening : opening_of hall ≡ new_desk (record { params = p }) epoch left two_clients) where
+module _ (hall : Hall) (p : Params) (epoch left : ℕ) (opening : opening_of hall ≡ new_desk (setup_of p) epoch left two_clients) where
   two_are : (driver : Pass) (others : List Pass) (all : List Pass) → all ≡ driver ∷ others → IsFreshPass hall 0 driver → AreClients hall 0 two_clients others → All (λ q. IsReady hall q × IsBetween q) others → (d a b : Pass) (rest more : List Pass)
       → d ≡ slice_index_or all 0 d → rest ≡ remove all 0 → a ≡ slice_index_or rest 0 a → more ≡ remove rest 0 → b ≡ slice_index_or more 0 b
       → (d ≡ driver) × (IsNewClient hall 1 a p.keys) × (IsNewClient hall 2 b p.keys)
@@ -55,6 +55,6 @@ first_pass hall p c epoch left driver first second two epoch_is left_is serves =
   fresh = two.fresh;
   raises = two.raises;
   clients = two_clients;
-  opening = let at : epoch ≡ suc c.epoch = omega (arith, epoch_is) in two.opening ∙ (ap (λ (n : ℕ). new_desk (record { params = p }) n left two_clients) at ∙ ap (λ (n : ℕ). new_desk (record { params = p }) (suc c.epoch) n two_clients) left_is);
+  opening = let at : epoch ≡ suc c.epoch = omega (arith, epoch_is) in two.opening ∙ (ap (λ (n : ℕ). new_desk (setup_of p) n left two_clients) at ∙ ap (λ (n : ℕ). new_desk (setup_of p) (suc c.epoch) n two_clients) left_is);
   serves = serves;
 }

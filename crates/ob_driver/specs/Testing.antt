@@ -1,7 +1,7 @@
 -- For tests: a hall of two clients, who are made by hand.
 use Rattle.std.specs.Prelude.{◌≡◌, ◌≤◌, ℕ, true, List, [], ◌∷◌}
 use Rattle.ob_base.specs.declared.params.Params.{Params}
-use Rattle.ob_desk.specs.Desk.{new_desk}
+use Rattle.ob_desk.specs.Desk.{new_desk, setup_of}
 use Rattle.ob_hall.specs.Passes.{Hall, Pass, opening_of, may_raise, said_of}
 use Rattle.ob_hall.specs.Opening.{IsFreshPass}
 use Rattle.ob_hall.specs.Calling.{IsReady}
@@ -28,7 +28,7 @@ pub record IsSeated (hall : Hall) (pass : Pass) (runner : ScriptRunner) : Type 0
 
 -- the driver's pass and those of two clients, at a hall whose desk was made so
 pub record AreTwoPasses (hall : Hall) (p : Params) (epoch left : ℕ) (driver first second : Pass) : Type 0 where
-  pub opening : opening_of hall ≡ new_desk (record { params = p }) epoch left two_clients
+  pub opening : opening_of hall ≡ new_desk (setup_of p) epoch left two_clients
   pub fresh : IsFreshPass hall 0 driver
   pub raises : may_raise driver ≡ true
   pub first_is : IsNewClient hall 1 first p.keys

@@ -7,6 +7,7 @@ ghost use Rattle.ob_hall_tests.specs.Halls.{AreStarting, AreDone};
 use ob_base::Params;
 use ob_desk::Desk;
 use ob_hall::{Hall, Pass};
+use ob_shares::NO_SHARES;
 use std::process::Abort;
 
 /// A hall of 64 keys for these clients, with room for 32 written keys an epoch. The driver's pass
@@ -21,7 +22,7 @@ pub fn opened<R: AllocGlobal + Abort>(rt: &R, clients: &[u32]) -> (Hall, Vec<Pas
     let Ok(params) = Params::new(64, 5, 4, 3, 2, 4, 32, 2, 30) else {
         unreachable!()
     };
-    let Ok(desk) = Desk::new(rt.alloc(), &params, 1, 1, clients) else {
+    let Ok(desk) = Desk::new(rt.alloc(), &params, 1, 1, clients, NO_SHARES) else {
         panic!(rt; "no memory")
     };
     let Ok((hall, passes)) = Hall::new(rt.alloc(), desk, clients) else {

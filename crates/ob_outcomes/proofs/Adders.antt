@@ -16,7 +16,7 @@ use Rattle.ob_base.specs.declared.op.Op.TheVariants as op
 use Rattle.ob_serial.specs.Serial.{Map, Replays, after_ops}
 use Rattle.ob_serial.specs.declared.records.Outcome.{Outcome}
 use Rattle.ob_serial.specs.declared.records.Outcome.TheVariants.{Committed, Aborted, Unsure}
-use Rattle.ob_serial.specs.declared.records.Why.TheVariants.{Conflict, Depends, ReadsFull, WritesFull, EpochEnd, Asked, Stopped}
+use Rattle.ob_serial.specs.declared.records.Why.TheVariants.{Conflict, Depends, ReadsFull, WritesFull, ShareReads, ShareWrites, EpochEnd, Asked, Stopped}
 use Rattle.ob_script.specs.declared.line.Ask.{Ask}
 use Rattle.ob_script.specs.declared.line.Ask.TheVariants.{Get, Add}
 use Rattle.ob_script.specs.declared.line.Ending.TheVariants.{Commit, Abort}
@@ -158,6 +158,8 @@ advances m before asked ops (Aborted Asked) holds low replays adder (inr none) l
     absurd (never_no_sum m before adder.read adder.added ops holds (low adder.added) replays (did_no_sum adder.read adder.added ops (subst (λ (l : List Ask). MeetsNoSum l ops) adder.asks_are none)))
 advances m before asked ops (Aborted (ReadsFull queued left)) holds low replays adder ends lonely away = absurd (away tt)
 advances m before asked ops (Aborted (WritesFull keys)) holds low replays adder ends lonely away = absurd (away tt)
+advances m before asked ops (Aborted (ShareReads keys)) holds low replays adder ends lonely away = absurd (away tt)
+advances m before asked ops (Aborted (ShareWrites keys)) holds low replays adder ends lonely away = absurd (away tt)
 advances m before asked ops (Aborted (Conflict key reader)) holds low replays adder ends lonely away = absurd lonely
 advances m before asked ops (Aborted (Depends on)) holds low replays adder ends lonely away = absurd lonely
 advances m before asked ops (Aborted EpochEnd) holds low replays adder ends lonely away = absurd lonely

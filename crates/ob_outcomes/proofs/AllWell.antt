@@ -5,7 +5,7 @@ use Rattle.std.proofs.lemmas.Option.{none-some}
 use Rattle.std.proofs.lemmas.List.Elements.{All-head, All-tail}
 use Rattle.ob_base.specs.declared.params.Params.{Params}
 use Rattle.ob_serial.specs.Serial.{EpochRecord}
-use Rattle.ob_desk.specs.Desk.{DeskState, MayOpen, Call, Reply}
+use Rattle.ob_desk.specs.Desk.{DeskState, MayOpen, Call, Reply, setup_of}
 use Rattle.ob_desk.specs.declared.calls.Look.{Look}
 use Rattle.ob_desk.specs.Beats.{BeatKind}
 use Rattle.ob_session.specs.Steps.{Leads}
@@ -13,7 +13,7 @@ use Rattle.ob_conduct.specs.Acts.{Act, Says, Halts, Rests, Takes, Delivers, Deli
 use Rattle.ob_outcomes.proofs.Walk.{leads_split, leads_on, NotClose, closed_before, act_closes_none}
 use Rattle.ob_outcomes.proofs.EndsWell.{EndsWell, AreWell, EndsAtLook, base, closes_well}
 
-module _ (p : Params) (epoch left : ℕ) (clients : List ℕ) (may : MayOpen (record { params = p }) epoch left clients) (beat : BeatKind) where
+module _ (p : Params) (epoch left : ℕ) (clients : List ℕ) (may : MayOpen (setup_of p) epoch left clients) (beat : BeatKind) where
   -- what an act leaves, and what follows it
   record Behind (h : List (Call × Reply)) (d : DeskState) (act : Act) (acts : List Act) (new : DeskState) : Type 0 where
     pub mid : DeskState

@@ -74,6 +74,8 @@ alone_tale setup c = record {
   falls = λ ws s t on only going going_too other lost. absurd (other (only.at_each t going_too ∙ sym (only.at_each s going)));
   full = λ d x k queued left known none runs may live only e. tt;
   refused = refused_alone setup;
+  past_reads = λ ws t keys given. tt;
+  past_writes = λ ws t keys given. tt;
   empty = record { at_each = λ t e. absurd (none_in_new t e) };
   fewer = λ ws vs len went only. record { at_each = λ t e. only.at_each t (went t e) ∙ sym len };
   begins = λ d client runs may only. last_begun d.running.order.works (none_goes setup c d client runs may);

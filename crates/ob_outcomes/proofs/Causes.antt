@@ -1,5 +1,5 @@
 -- A property of the causes of aborts that every call keeps: over any run each published record has it.
-use Rattle.std.proofs.Common.{◌≡◌, ℕ, zero, suc, ◌+◌, Bool, true, false, not, ◌&&◌, if◌then◌else◌, List, [], ◌∷◌, ◌++◌, length, All, Option, None, Some, option_map, option_and_then, unwrap_or, refl, sym, ap, ap₂, ◌∙◌, subst, inl, inr, ⊎_elim, length-append}
+use Rattle.std.proofs.Common.{◌≡◌, ℕ, zero, suc, ◌+◌, Bool, true, false, not, ◌&&◌, if◌then◌else◌, List, [], ◌∷◌, ◌++◌, length, All, Option, None, Some, option_map, option_and_then, unwrap_or, refl, sym, ap, ap₂, ◌∙◌, subst, inl, inr, ⊎_elim, length-append, ◌==◌}
 use Rattle.std.specs.Option.{option_or}
 use Rattle.std.proofs.lemmas.Bool.{cases_eq, false≢true}
 use Rattle.std.proofs.lemmas.List.{append-nil}
@@ -10,7 +10,7 @@ use Rattle.ob_base.specs.declared.op.Op.{Op}
 use Rattle.ob_base.specs.declared.op.Op.TheVariants.{Get}
 use Rattle.ob_serial.specs.Serial.{EpochRecord}
 use Rattle.ob_serial.specs.declared.records.Why.{Why}
-use Rattle.ob_serial.specs.declared.records.Why.TheVariants.{Depends, ReadsFull, EpochEnd, Asked}
+use Rattle.ob_serial.specs.declared.records.Why.TheVariants.{Depends, ReadsFull, ShareReads, ShareWrites, EpochEnd, Asked}
 use Rattle.ob_order.specs.declared.fate.Fate.{Fate}
 use Rattle.ob_order.specs.declared.fate.Fate.TheVariants.{Fell}
 use Rattle.ob_order.specs.Works.{Work, is_going, at_ticket, edit, goes_on, fate_at, wait_for, add_op, with_op, end_work, aborted, Tidy}
@@ -23,10 +23,12 @@ use Rattle.ob_order.proofs.Tidies.{tidy_none, tidy_begun, tidy_got, tidy_wrote, 
 use Rattle.ob_desk.proofs.Fine.{read_found, again_found}
 use Rattle.ob_desk.specs.declared.calls.Txn.{Txn}
 use Rattle.ob_desk.specs.declared.clients.Holder.{Holder}
-use Rattle.ob_desk.specs.Desk.{Part, DeskState, Setup, new_desk, new_part, is_memory, stop_closed, stopped_by, stop_part, end_of, end_unasked, close_to, closing, record_of, with_order, with_holder}
+use Rattle.ob_desk.specs.Desk.{Part, DeskState, Setup, new_desk, new_part, is_memory, stop_closed, stopped_by, stop_part, end_of, end_unasked, close_to, closing, record_of, with_order, with_holder, reading, writing}
 use Rattle.ob_desk.specs.Desk.{note_cause, note_asked, new_holder, why_of, why_at, cause_at, why_refused, asked_at, published, records_told, Call, Begin, GetKey, Poll, Write, Commit, Abort, Settled}
 use Rattle.ob_desk.specs.Desk.{Looks, SignOff, Stop, Unsure, IsStopped, TakeBatch, Deliver, Close, Publish, Reply, Begun, Refused, Value, Waits, Aborted, Done, IsSettled, Seen, StoppedBy, Batch, Writes}
 use Rattle.ob_desk.specs.Desk.{Published, DeskStep, MayCall, IsLive}
+use Rattle.ob_shares.specs.declared.named.Named.{Named}
+use Rattle.ob_shares.specs.Shares.{Uses, count_named, has_named, past}
 use Rattle.ob_session.specs.Steps.{Leads}
 use Rattle.ob_outcomes.proofs.Grows.{Grows, grows_op, grows_begun, grows_fallen, HasLost, stands_aborted}
 use Rattle.ob_outcomes.proofs.Desks.{Runs, never_none, runs_step}
@@ -41,9 +43,20 @@ pub record IsTale (setup : Setup) (clients : List ℕ) (P : List Work → ℕ �
   pub full : (d : DeskState) (x : Txn) (k queued left : ℕ) → Z d → d.stop ≡ None → Runs setup clients d → MayCall d (GetKey x k) → IsLive d x → Q d.running.order.works
       → read_reply setup.params d.running.order x.ticket k ≡ ReadsAreFull queued left → P d.running.order.works x.ticket (ReadsFull queued left)
   pub refused : (o : OrderState) (t k : ℕ) (why : Why ℕ) → Q o.works → goes_on o.works t ≡ true → why_refused (write_reply setup.params o t k) ≡ Some why → P o.works t why
+  pub past_reads : (ws : List Work) (t keys : ℕ) → setup.shares.reads ≡ Some keys → P ws t (ShareReads keys)
+  pub past_writes : (ws : List Work) (t keys : ℕ) → setup.shares.writes ≡ Some keys → P ws t (ShareWrites keys)
   pub empty : Q []
   pub fewer : (ws vs : List Work) → length vs ≡ length ws → ((t : ℕ) → goes_on vs t ≡ true → goes_on ws t ≡ true) → Q ws → Q vs
   pub begins : (d : DeskState) (client : ℕ) → Runs setup clients d → MayCall d (Begin client) → Q d.running.order.works → Q (d.running.order.works ++ fresh ∷ [])
+
+-- who goes past a share has it
+past_given : (share : Option ℕ) (names : List Named) (client key keys : ℕ) → past share names client key ≡ Some keys → share ≡ Some keys
+past_given None names client key keys e = absurd (none-some keys e)
+past_given (Some most) names client key keys e = by (not (has_named names client key) && (count_named names client == most)) e
+  where
+    by : (b : Bool) → (if b then Some most else None) ≡ Some keys → Some most ≡ Some keys
+    by true is = is
+    by false is = absurd (none-some keys is)
 
 -- ---- fates and causes
 
@@ -87,6 +100,10 @@ module _ (P : List Work → ℕ → Why ℕ → Type 0) (Q : List Work → Type 
     pub closed : (part : Part) → d.closed ≡ Some part → Sound part
 
   module _ (setup : Setup) (clients : List ℕ) (Z : DeskState → Type 0) (tale : IsTale setup clients P Q Z) where
+    -- what clients named changes nothing
+    sound_used : (part : Part) (u : Uses) → Sound part → Sound (record part { uses = u })
+    sound_used part u h = record { told = record { at_each = h.told.at_each }; tidy = h.tidy; even = h.even; more = h.more }
+
     -- nobody's fate or cause changed
     sound_alike : (old new : Part) → Grows old.order.works new.order.works → ((t : ℕ) (why : Why ℕ) → why_at new t ≡ Some why → why_at old t ≡ Some why) → Tidy new.order.works
         → length new.holders ≡ length new.order.works → Q new.order.works → Sound old → Sound new
@@ -249,25 +266,31 @@ module _ (P : List Work → ℕ → Why ℕ → Type 0) (Q : List Work → Type 
     good_step d (Begin client) (Begun x) new may step runs known h = subst Good (sym step.state) (record { running = λ none. sound_begun d client runs may (h.running none); closed = h.closed })
     good_step d (Begin client) (Refused f) new may step runs known h = same d new step.same h
     good_step d (GetKey x k) (Value value) new may step runs known h = in_running d new _ step.state
-        (λ s. sound_op d.running x.ticket (Get k value step.source) (tidy_got d.running.order x.ticket k (version_of value step.source) s.tidy (read_found d.setup.params d.running.order x.ticket k value step.source step.reply)) s) h
-    good_step d (GetKey x k) Waits new may step runs known h = in_running d new _ step.state (sound_waits d.running x.ticket k) h
+        (λ s. sound_op (reading d x k).running x.ticket (Get k value step.source) (tidy_got d.running.order x.ticket k (version_of value step.source) s.tidy (read_found d.setup.params d.running.order x.ticket k value step.source step.reply)) (sound_used d.running _ s)) h
+    good_step d (GetKey x k) Waits new may step runs known h = in_running d new _ step.state (λ s. sound_waits (reading d x k).running x.ticket k (sound_used d.running _ s)) h
     good_step d (GetKey x k) (Aborted why) new may (inl step) runs known h = same d new step.same h
-    good_step d (GetKey x k) (Aborted why) new may (inr step) runs known h = subst Good (sym step.state) (record {
-      running = λ none. sound_ended d.running x.ticket why step.live.goes
+    good_step d (GetKey x k) (Aborted why) new may (inr (inl step)) runs known h = subst Good (sym step.state) (record {
+      running = λ none. sound_ended (reading d x k).running x.ticket why step.live.goes
           (subst (P d.running.order.works x.ticket) (sym step.cause) (tale.full d x k step.queued step.left (known x k refl) none runs may step.live (h.running none).more
           (subst (λ (q : Setup). read_reply q.params d.running.order x.ticket k ≡ ReadsAreFull step.queued step.left) runs.same_setup step.reply)))
-          (h.running none);
+          (sound_used d.running _ (h.running none));
       closed = h.closed;
     })
+    good_step d (GetKey x k) (Aborted why) new may (inr (inr step)) runs known h = in_running d new _ step.state
+        (sound_ended d.running x.ticket why step.live.goes (subst (P d.running.order.works x.ticket) (sym step.cause) (tale.past_reads d.running.order.works x.ticket step.keys
+        (subst (λ (q : Setup). q.shares.reads ≡ Some step.keys) runs.same_setup (past_given _ _ _ _ _ step.passes))))) h
     good_step d (Poll x) (Value value) new may step runs known h = in_running d new _ step.state
         (λ s. sound_op d.running x.ticket (Get step.key value step.source) (tidy_got d.running.order x.ticket step.key (version_of value step.source) s.tidy (again_found d.running.order x.ticket step.key value step.source step.reply)) s) h
     good_step d (Poll x) Waits new may step runs known h = same d new step.same h
     good_step d (Poll x) (Aborted why) new may step runs known h = same d new step.same h
     good_step d (Write x k value) Done new may step runs known h = in_running d new _ step.state
-        (λ s. sound_op d.running x.ticket (write_op k value) (tidy_wrote d.running.order.works x.ticket k value s.tidy) s) h
+        (λ s. sound_op (writing d x k).running x.ticket (write_op k value) (tidy_wrote d.running.order.works x.ticket k value s.tidy) (sound_used d.running _ s)) h
     good_step d (Write x k value) (Aborted why) new may (inl step) runs known h = same d new step.same h
-    good_step d (Write x k value) (Aborted why) new may (inr step) runs known h = in_running d new _ step.state
-        (λ s. sound_ended d.running x.ticket why step.live.goes (tale.refused d.running.order x.ticket k why s.more step.live.goes (subst (λ (q : Setup). why_refused (write_reply q.params d.running.order x.ticket k) ≡ Some why) runs.same_setup step.cause)) s) h
+    good_step d (Write x k value) (Aborted why) new may (inr (inl step)) runs known h = in_running d new _ step.state
+        (λ s. sound_ended (writing d x k).running x.ticket why step.live.goes (tale.refused d.running.order x.ticket k why s.more step.live.goes (subst (λ (q : Setup). why_refused (write_reply q.params d.running.order x.ticket k) ≡ Some why) runs.same_setup step.cause)) (sound_used d.running _ s)) h
+    good_step d (Write x k value) (Aborted why) new may (inr (inr step)) runs known h = in_running d new _ step.state
+        (sound_ended d.running x.ticket why step.live.goes (subst (P d.running.order.works x.ticket) (sym step.cause) (tale.past_writes d.running.order.works x.ticket step.keys
+        (subst (λ (q : Setup). q.shares.writes ≡ Some step.keys) runs.same_setup (past_given _ _ _ _ _ step.passes))))) h
     good_step d (Commit x) Done new may step runs known h = in_running d new _ step.state (sound_asked d.running x.ticket) h
     good_step d (Commit x) (Aborted why) new may step runs known h = same d new step.same h
     good_step d (Abort x) (Aborted why) new may (inl step) runs known h = same d new step.same h

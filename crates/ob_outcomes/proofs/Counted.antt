@@ -8,7 +8,7 @@ use Rattle.std.proofs.lemmas.List.Elements.{All-head, All-tail, All-cons, All-ni
 use Rattle.ob_serial.specs.Serial.{Map, TxnRecord, EpochRecord, Replays, after_ops, is_committed, committed_of}
 use Rattle.ob_serial.specs.declared.records.Outcome.{Outcome}
 use Rattle.ob_serial.specs.declared.records.Outcome.TheVariants.{Committed}
-use Rattle.ob_desk.specs.Desk.{DeskState, Call, Reply, Run, map_next, new_desk}
+use Rattle.ob_desk.specs.Desk.{DeskState, Call, Reply, Run, map_next, new_desk, setup_of}
 use Rattle.ob_session.specs.Steps.{Leads}
 use Rattle.ob_session.specs.Records.{txns_by}
 use Rattle.ob_script.specs.declared.line.Ask.{Ask}
@@ -220,12 +220,12 @@ lone_counts_up beat p epoch left client script acts d m last may allowed run add
     its_txns : txns_by client told ≡ all_txns told
     its_txns = every_txn client (all_txns told) (own_txns client script told own served)
 
-    leads : Leads (new_desk (record { params = p }) epoch left (client ∷ [])) (history acts) d
-    leads = leads_of m (new_desk (record { params = p }) epoch left (client ∷ [])) (history acts) last d run
+    leads : Leads (new_desk (setup_of p) epoch left (client ∷ [])) (history acts) d
+    leads = leads_of m (new_desk (setup_of p) epoch left (client ∷ [])) (history acts) last d run
 
     up : Up m (λ key. 0) script.txns told
     up = counts_up m (λ key. 0) script.txns told (λ key. empty key) (λ key. omega (arith, short)) adders
         (subst (ServedFirst script.txns) its_txns (subst (λ l. ServedFirst l (txns_by client told)) its_asks (served client)))
-        (facts_of told lonely (lone_is_let_in beat p epoch left client script acts d may few allowed leads served) (lone_commits_last (record { params = p }) epoch left client (history acts) d may leads)
-        (records_are_numbered (record { params = p }) epoch left (client ∷ []) (history acts) d may leads).tickets some)
-        (lone_reads_below (record { params = p }) epoch left client m last (history acts) d may run)
+        (facts_of told lonely (lone_is_let_in beat p epoch left client script acts d may few allowed leads served) (lone_commits_last (setup_of p) epoch left client (history acts) d may leads)
+        (records_are_numbered (setup_of p) epoch left (client ∷ []) (history acts) d may leads).tickets some)
+        (lone_reads_below (setup_of p) epoch left client m last (history acts) d may run)

@@ -15,7 +15,7 @@ use Rattle.ob_order.specs.Order.{write_op}
 use Rattle.ob_serial.specs.Serial.{TxnRecord}
 use Rattle.ob_serial.specs.declared.records.Outcome.{Outcome}
 use Rattle.ob_serial.specs.declared.records.Outcome.TheVariants.{Committed, Aborted as AbortedBy, Unsure as UnsureOf}
-use Rattle.ob_serial.specs.declared.records.Why.TheVariants.{Conflict, Depends, ReadsFull, WritesFull, EpochEnd, Asked, Stopped}
+use Rattle.ob_serial.specs.declared.records.Why.TheVariants.{Conflict, Depends, ReadsFull, WritesFull, ShareReads, ShareWrites, EpochEnd, Asked, Stopped}
 use Rattle.ob_serial.specs.declared.vault.EndErr.{EndErr}
 use Rattle.ob_serial.specs.declared.vault.EndErr.TheVariants as refused
 use Rattle.ob_desk.specs.declared.calls.Txn.{Txn}
@@ -80,13 +80,15 @@ own_still c d (desk.Begin client) (desk.Refused f) new own step s = still_same d
 own_still c d (desk.GetKey x k) (desk.Value value) new own step s = absurd (not_live d s x step.live)
 own_still c d (desk.GetKey x k) desk.Waits new own step s = absurd (not_live d s x step.live)
 own_still c d (desk.GetKey x k) (desk.Aborted why) new own (inl step) s = still_same d new step.same s
-own_still c d (desk.GetKey x k) (desk.Aborted why) new own (inr step) s = absurd (not_live d s x step.live)
+own_still c d (desk.GetKey x k) (desk.Aborted why) new own (inr (inl step)) s = absurd (not_live d s x step.live)
+own_still c d (desk.GetKey x k) (desk.Aborted why) new own (inr (inr step)) s = absurd (not_live d s x step.live)
 own_still c d (desk.Poll x) (desk.Value value) new own step s = absurd (not_live d s x step.live)
 own_still c d (desk.Poll x) desk.Waits new own step s = still_same d new step.same s
 own_still c d (desk.Poll x) (desk.Aborted why) new own step s = still_same d new step.same s
 own_still c d (desk.Write x k value) desk.Done new own step s = absurd (not_live d s x step.live)
 own_still c d (desk.Write x k value) (desk.Aborted why) new own (inl step) s = still_same d new step.same s
-own_still c d (desk.Write x k value) (desk.Aborted why) new own (inr step) s = absurd (not_live d s x step.live)
+own_still c d (desk.Write x k value) (desk.Aborted why) new own (inr (inl step)) s = absurd (not_live d s x step.live)
+own_still c d (desk.Write x k value) (desk.Aborted why) new own (inr (inr step)) s = absurd (not_live d s x step.live)
 own_still c d (desk.Commit x) desk.Done new own step s = absurd (not_live d s x step.live)
 own_still c d (desk.Commit x) (desk.Aborted why) new own step s = still_same d new step.same s
 own_still c d (desk.Abort x) (desk.Aborted why) new own (inl step) s = still_same d new step.same s
@@ -155,13 +157,15 @@ module _ (d : DeskState) (number : ℕ) (t : Told) (s : IsStill d) (last : (x : 
   step_on (desk.GetKey x k) (desk.Value value) new own may step = absurd (not_live d s x step.live)
   step_on (desk.GetKey x k) desk.Waits new own may step = absurd (not_live d s x step.live)
   step_on (desk.GetKey x k) (desk.Aborted why) new own may (inl step) = told_over x (AbortedBy why) may.0 (same_Some x.client number own) step.earlier
-  step_on (desk.GetKey x k) (desk.Aborted why) new own may (inr step) = absurd (not_live d s x step.live)
+  step_on (desk.GetKey x k) (desk.Aborted why) new own may (inr (inl step)) = absurd (not_live d s x step.live)
+  step_on (desk.GetKey x k) (desk.Aborted why) new own may (inr (inr step)) = absurd (not_live d s x step.live)
   step_on (desk.Poll x) (desk.Value value) new own may step = absurd (not_live d s x step.live)
   step_on (desk.Poll x) desk.Waits new own may step = absurd (not_live d s x step.live)
   step_on (desk.Poll x) (desk.Aborted why) new own may step = told_over x (AbortedBy why) may.0 (same_Some x.client number own) step.earlier
   step_on (desk.Write x k value) desk.Done new own may step = absurd (not_live d s x step.live)
   step_on (desk.Write x k value) (desk.Aborted why) new own may (inl step) = told_over x (AbortedBy why) may.0 (same_Some x.client number own) step.earlier
-  step_on (desk.Write x k value) (desk.Aborted why) new own may (inr step) = absurd (not_live d s x step.live)
+  step_on (desk.Write x k value) (desk.Aborted why) new own may (inr (inl step)) = absurd (not_live d s x step.live)
+  step_on (desk.Write x k value) (desk.Aborted why) new own may (inr (inr step)) = absurd (not_live d s x step.live)
   step_on (desk.Commit x) desk.Done new own may step = absurd (not_live d s x step.live)
   step_on (desk.Commit x) (desk.Aborted why) new own may step = told_over x (AbortedBy why) may.0 (same_Some x.client number own) step.earlier
   step_on (desk.Abort x) (desk.Aborted why) new own may (inl step) = told_over x (AbortedBy why) may.0 (same_Some x.client number own) step.earlier
@@ -267,6 +271,8 @@ end_on (AbortedBy (Conflict key reader)) one more on is = tt
 end_on (AbortedBy (Depends t)) one more on is = tt
 end_on (AbortedBy (ReadsFull queued left)) one more on is = tt
 end_on (AbortedBy (WritesFull keys)) one more on is = tt
+end_on (AbortedBy (ShareReads keys)) one more on is = tt
+end_on (AbortedBy (ShareWrites keys)) one more on is = tt
 end_on (AbortedBy EpochEnd) one more on is = tt
 end_on (AbortedBy (Stopped fault)) one more on is = tt
 end_on (UnsureOf epoch) one more on is = absurd is

@@ -6,7 +6,7 @@ use Rattle.std.proofs.lemmas.List.Elements.{All-head, All-tail, All-cons, All-ni
 use Rattle.ob_base.specs.declared.op.Op.{Op}
 use Rattle.ob_base.specs.declared.params.Params.{Params}
 use Rattle.ob_serial.specs.Serial.{TxnRecord, EpochRecord}
-use Rattle.ob_serial.specs.declared.records.Why.TheVariants.{Conflict, Depends, ReadsFull, WritesFull, EpochEnd, Asked, Stopped}
+use Rattle.ob_serial.specs.declared.records.Why.TheVariants.{Conflict, Depends, ReadsFull, WritesFull, ShareReads, ShareWrites, EpochEnd, Asked, Stopped}
 use Rattle.ob_serial.specs.declared.records.Outcome.{Outcome}
 use Rattle.ob_serial.specs.declared.records.Outcome.TheVariants.{Committed, Aborted, Unsure}
 use Rattle.ob_session.specs.Records.{txns_by}
@@ -128,6 +128,8 @@ few_reads left p t asked (Aborted (ReadsFull queued l)) few ends used one away =
     let front = of_front asked.asks t.ops ends in let a = front.few_gets in let b = few.gets in let c = used one in omega (arith, a, b, c)
 few_reads left p t asked (Aborted (WritesFull keys)) few ends used one away =
     let front = of_front asked.asks t.ops ends in let a = front.few_writes in let b = few.writes in omega (arith, a, b, used)
+few_reads left p t asked (Aborted (ShareReads keys)) few ends used one away = used
+few_reads left p t asked (Aborted (ShareWrites keys)) few ends used one away = used
 few_reads left p t asked (Aborted (Conflict key reader)) few ends used one away = away
 few_reads left p t asked (Aborted (Depends on)) few ends used one away = away
 few_reads left p t asked (Aborted EpochEnd) few ends used one away = away

@@ -10,7 +10,7 @@ use Rattle.ob_serial.specs.declared.vault.EndErr.{EndErr}
 use Rattle.ob_serial.specs.declared.vault.EndErr.TheVariants as ended
 use Rattle.ob_serial.specs.Serial.{EpochRecord}
 use Rattle.ob_desk.specs.Desk as desk
-use Rattle.ob_desk.specs.Desk.{DeskState, DeskStep, MayCall, MayOpen, Setup, Call, Reply, new_desk, look_at, published, records_told, stopped_by}
+use Rattle.ob_desk.specs.Desk.{DeskState, DeskStep, MayCall, MayOpen, Setup, Call, Reply, new_desk, look_at, published, records_told, stopped_by, setup_of}
 use Rattle.ob_desk.specs.declared.calls.Look.{Look}
 use Rattle.ob_desk.specs.declared.calls.Txn.{Txn}
 use Rattle.ob_desk.specs.Beats.{BeatKind}
@@ -89,10 +89,10 @@ no_get call reply other x k e = subst (λ (q : Call). NotGet (q, reply)) e other
 
 module _ (p : Params) (client batches : ℕ) (low : batches ≤ p.batches) where
   abbrev its : Setup
-  its = record { params = p }
+  its = setup_of p
 
   abbrev Fine : DeskState → Type 0
-  Fine d = Good (UsedPlaces batches p) OnlyLast d
+  Fine d = Good (UsedPlaces batches its) OnlyLast d
 
   abbrev Shown : EpochRecord ℕ → Type 0
   Shown r = All (λ t. HasUsedPlaces batches p t t.outcome) r.txns
@@ -102,12 +102,12 @@ module _ (p : Params) (client batches : ℕ) (low : batches ≤ p.batches) where
     pub fine : Fine d
 
   told : (d : DeskState) (call : Call) (reply : Reply) (new : DeskState) → DeskStep d call reply new → Fine d → All Shown (records_told reply)
-  told d call reply new step fine = told_step (UsedPlaces batches p) OnlyLast its (client ∷ []) (IsRoomy batches) (used_tale its client batches) Shown (record_used batches p) d call reply new step fine
+  told d call reply new step fine = told_step (UsedPlaces batches its) OnlyLast its (client ∷ []) (IsRoomy batches) (used_tale its client batches) Shown (record_used batches p) d call reply new step fine
 
   fine_on : (d : DeskState) (call : Call) (reply : Reply) (new : DeskState) → MayCall d call → DeskStep d call reply new → ((x : Txn) (k : ℕ) → call ≡ desk.GetKey x k → IsRoomy batches d) → Stands d → Stands new
   fine_on d call reply new may step known h = record {
     runs = runs_step its (client ∷ []) d call reply new may step h.runs;
-    fine = good_step (UsedPlaces batches p) OnlyLast its (client ∷ []) (IsRoomy batches) (used_tale its client batches) d call reply new may step h.runs known h.fine;
+    fine = good_step (UsedPlaces batches its) OnlyLast its (client ∷ []) (IsRoomy batches) (used_tale its client batches) d call reply new may step h.runs known h.fine;
   }
 
   -- where the room is kept, and where it isn't but nothing is got
@@ -220,6 +220,6 @@ module _ (p : Params) (client batches : ℕ) (low : batches ≤ p.batches) where
 pub lone_uses_places : LoneUsesPlaces
 lone_uses_places beat p epoch left client acts d batches may allowed run low =
     let few = may.few_left in
-    acts_show p client batches (omega (arith, few, low)) beat acts (new_desk (record { params = p }) epoch left (client ∷ [])) d allowed run
-    (record { runs = runs_new (record { params = p }) epoch left (client ∷ []); fine = good_new (UsedPlaces batches p) OnlyLast (record { params = p }) (client ∷ []) (IsRoomy batches) (used_tale (record { params = p }) client batches) epoch left })
+    acts_show p client batches (omega (arith, few, low)) beat acts (new_desk (setup_of p) epoch left (client ∷ [])) d allowed run
+    (record { runs = runs_new (setup_of p) epoch left (client ∷ []); fine = good_new (UsedPlaces batches (setup_of p)) OnlyLast (setup_of p) (client ∷ []) (IsRoomy batches) (used_tale (setup_of p) client batches) epoch left })
     (record { room = λ none. record { fits = omega (arith, low) } })

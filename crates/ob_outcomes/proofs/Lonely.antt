@@ -9,7 +9,7 @@ use Rattle.ob_base.specs.declared.op.Op.{Op}
 use Rattle.ob_base.specs.declared.params.Params.{Params}
 use Rattle.ob_base.specs.declared.fault.Fault.{Fault}
 use Rattle.ob_serial.specs.declared.records.Why.{Why}
-use Rattle.ob_serial.specs.declared.records.Why.TheVariants.{Conflict, Depends, ReadsFull, WritesFull, EpochEnd, Asked, Stopped}
+use Rattle.ob_serial.specs.declared.records.Why.TheVariants.{Conflict, Depends, ReadsFull, WritesFull, ShareReads, ShareWrites, EpochEnd, Asked, Stopped}
 use Rattle.ob_serial.specs.declared.records.Outcome.TheVariants.{Committed, Aborted as AbortedBy}
 use Rattle.ob_order.specs.Works.{Work, at_ticket, goes_on}
 use Rattle.ob_order.specs.Order.{OrderState, fresh, covered_mark, other_keys, read_reply, write_reply}
@@ -21,7 +21,8 @@ use Rattle.ob_desk.specs.declared.calls.Txn.{Txn}
 use Rattle.ob_desk.specs.Desk.{Part, DeskState, Setup, Call, Begin, GetKey, Poll, Write, Commit, Abort, Settled, Looks, SignOff, Stop, Unsure, IsStopped, TakeBatch, Deliver, Close, Publish}
 use Rattle.ob_desk.specs.Desk.{Reply, Begun, Refused, Value, Waits, Aborted, Done, IsSettled, Seen, StoppedBy, Batch, Writes, Published, DeskStep, MayCall, IsLast, IsFree, IsLive}
 use Rattle.ob_desk.specs.declared.clients.Holder.{Holder}
-use Rattle.ob_desk.specs.Desk.{end_of, outcome_at, waiting_at, why_of, why_refused, record_of, is_memory, stop_part, stop_closed, stopped_by}
+use Rattle.ob_shares.specs.Shares.{Uses}
+use Rattle.ob_desk.specs.Desk.{end_of, outcome_at, waiting_at, why_of, why_refused, record_of, is_memory, stop_part, stop_closed, stopped_by, setup_of}
 use Rattle.ob_outcomes.specs.Lone.{gets_in, writes_in, HasUsedPlaces}
 use Rattle.ob_outcomes.proofs.Rooms.{HasRoom, one_if, made_by, made_in, made_append, its_work, made_got, made_wrote, made_waits, made_aborted, queued_one, asked_left, room_kept, room_queued, room_taken, gets_append, writes_append}
 use Rattle.ob_outcomes.proofs.Writes.{others_few}
@@ -80,7 +81,7 @@ module _ (batches : ℕ) where
   in_running : (d new : DeskState) (part : Part) → new ≡ record d { running = part } → (HasRoom batches d.running.order → HasRoom batches part.order) → IsRoomy batches d → IsRoomy batches new
   in_running d new part e f h = subst (IsRoomy batches) (sym e) (record { room = λ none. f (h.room none) })
 
-  ended : (d new : DeskState) (t : ℕ) (why : Why ℕ) → new ≡ record d { running = end_of d.running t why } → IsRoomy batches d → IsRoomy batches new
+  ended : {u : Uses} (d new : DeskState) (t : ℕ) (why : Why ℕ) → new ≡ record d { running = record (end_of d.running t why) { uses = u } } → IsRoomy batches d → IsRoomy batches new
   ended d new t why e h = in_running d new _ e (room_kept batches d.running.order _ (le_same _) refl (le_of _ _ (made_aborted d.running.order.works t))) h
 
   pub stopped : (d : DeskState) (f : Fault) → IsRoomy batches (stopped_by f d)
@@ -100,7 +101,8 @@ module _ (batches : ℕ) where
   roomy_step setup c d (GetKey x k) Waits new low may step runs due h = in_running d new _ step.state
       (room_queued batches d.running.order _ (queued_one d.running.order k) (asked_left d.running.order k) (made_waits d.running.order.works x.ticket k step.live.goes (lone_free setup c d x runs may.0 may.1 step.live))) h
   roomy_step setup c d (GetKey x k) (Aborted why) new low may (inl step) runs due h = same d new step.same h
-  roomy_step setup c d (GetKey x k) (Aborted why) new low may (inr step) runs due h = ended d new x.ticket why step.state h
+  roomy_step setup c d (GetKey x k) (Aborted why) new low may (inr (inl step)) runs due h = ended d new x.ticket why step.state h
+  roomy_step setup c d (GetKey x k) (Aborted why) new low may (inr (inr step)) runs due h = ended d new x.ticket why step.state h
   roomy_step setup c d (Poll x) (Value value) new low may step runs due h = in_running d new _ step.state
       (room_kept batches d.running.order _ (le_same _) refl (made_got d.running.order.works x.ticket step.key step.source value step.live.goes)) h
   roomy_step setup c d (Poll x) Waits new low may step runs due h = same d new step.same h
@@ -108,7 +110,8 @@ module _ (batches : ℕ) where
   roomy_step setup c d (Write x k value) Done new low may step runs due h = in_running d new _ step.state
       (room_kept batches d.running.order _ (le_same _) refl (made_wrote d.running.order.works x.ticket k value step.live.goes (lone_free setup c d x runs may.0 may.1 step.live))) h
   roomy_step setup c d (Write x k value) (Aborted why) new low may (inl step) runs due h = same d new step.same h
-  roomy_step setup c d (Write x k value) (Aborted why) new low may (inr step) runs due h = ended d new x.ticket why step.state h
+  roomy_step setup c d (Write x k value) (Aborted why) new low may (inr (inl step)) runs due h = ended d new x.ticket why step.state h
+  roomy_step setup c d (Write x k value) (Aborted why) new low may (inr (inr step)) runs due h = ended d new x.ticket why step.state h
   roomy_step setup c d (Commit x) Done new low may step runs due h = in_running d new _ step.state (λ r. r) h
   roomy_step setup c d (Commit x) (Aborted why) new low may step runs due h = same d new step.same h
   roomy_step setup c d (Abort x) (Aborted why) new low may (inl step) runs due h = same d new step.same h
@@ -135,14 +138,16 @@ pub record HasMade (count : List (Op ℕ) → ℕ) (many : ℕ) (ws : List Work)
   pub are : ops_at ws t ≡ Some ops
   pub many_are : many ≤ count ops
 
-abbrev pub UsedPlaces : ℕ → Params → List Work → ℕ → Why ℕ → Type 0
-UsedPlaces batches p ws t (Conflict key reader) = Unit {0}
-UsedPlaces batches p ws t (Depends on) = Unit {0}
-UsedPlaces batches p ws t (ReadsFull queued left) = t ≡ 1 → HasMade gets_in batches ws t
-UsedPlaces batches p ws t (WritesFull keys) = HasMade writes_in p.writes ws t
-UsedPlaces batches p ws t EpochEnd = Unit {0}
-UsedPlaces batches p ws t Asked = Unit {0}
-UsedPlaces batches p ws t (Stopped fault) = Unit {0}
+abbrev pub UsedPlaces : ℕ → Setup → List Work → ℕ → Why ℕ → Type 0
+UsedPlaces batches setup ws t (Conflict key reader) = Unit {0}
+UsedPlaces batches setup ws t (Depends on) = Unit {0}
+UsedPlaces batches setup ws t (ReadsFull queued left) = t ≡ 1 → HasMade gets_in batches ws t
+UsedPlaces batches setup ws t (WritesFull keys) = HasMade writes_in setup.params.writes ws t
+UsedPlaces batches setup ws t (ShareReads keys) = setup.shares.reads ≡ Some keys
+UsedPlaces batches setup ws t (ShareWrites keys) = setup.shares.writes ≡ Some keys
+UsedPlaces batches setup ws t EpochEnd = Unit {0}
+UsedPlaces batches setup ws t Asked = Unit {0}
+UsedPlaces batches setup ws t (Stopped fault) = Unit {0}
 
 made_longer : (count : List (Op ℕ) → ℕ) → ((xs ys : List (Op ℕ)) → count (xs ++ ys) ≡ count xs + count ys) → (many : ℕ) (ws vs : List Work) (t : ℕ) → Grows ws vs → HasMade count many ws t → HasMade count many vs t
 made_longer count adds many ws vs t g h =
@@ -151,14 +156,16 @@ made_longer count adds many ws vs t g h =
     let before = h.many_are in
     record { ops = h.ops ++ more.0; are = more.1; many_are = omega (arith, is, before) }
 
-used_lasts : (batches : ℕ) (p : Params) (ws vs : List Work) (t : ℕ) (why : Why ℕ) → Grows ws vs → UsedPlaces batches p ws t why → UsedPlaces batches p vs t why
-used_lasts batches p ws vs t (Conflict key reader) g h = tt
-used_lasts batches p ws vs t (Depends on) g h = tt
-used_lasts batches p ws vs t (ReadsFull queued left) g h = λ one. made_longer gets_in gets_append batches ws vs t g (h one)
-used_lasts batches p ws vs t (WritesFull keys) g h = made_longer writes_in writes_append p.writes ws vs t g h
-used_lasts batches p ws vs t EpochEnd g h = tt
-used_lasts batches p ws vs t Asked g h = tt
-used_lasts batches p ws vs t (Stopped fault) g h = tt
+used_lasts : (batches : ℕ) (setup : Setup) (ws vs : List Work) (t : ℕ) (why : Why ℕ) → Grows ws vs → UsedPlaces batches setup ws t why → UsedPlaces batches setup vs t why
+used_lasts batches setup ws vs t (Conflict key reader) g h = tt
+used_lasts batches setup ws vs t (Depends on) g h = tt
+used_lasts batches setup ws vs t (ReadsFull queued left) g h = λ one. made_longer gets_in gets_append batches ws vs t g (h one)
+used_lasts batches setup ws vs t (WritesFull keys) g h = made_longer writes_in writes_append setup.params.writes ws vs t g h
+used_lasts batches setup ws vs t (ShareReads keys) g h = h
+used_lasts batches setup ws vs t (ShareWrites keys) g h = h
+used_lasts batches setup ws vs t EpochEnd g h = tt
+used_lasts batches setup ws vs t Asked g h = tt
+used_lasts batches setup ws vs t (Stopped fault) g h = tt
 
 le_times : (p n : ℕ) → 1 ≤ p → n ≤ p * n
 le_times p zero some = omega arith
@@ -181,27 +188,29 @@ used_full setup c batches d x k queued left known none runs may live only e one 
     let wide = le_times setup.params.places d.running.order.left setup.params.in_range.some_places in
     record { ops = w.0.ops; are = ap (option_map (λ (y : Work). y.ops)) w.1; many_are = omega (arith, free, alone, room, full, wide) }
 
-used_refused : (setup : Setup) (batches : ℕ) (o : OrderState) (t k : ℕ) (why : Why ℕ) → OnlyLast o.works → goes_on o.works t ≡ true → why_refused (write_reply setup.params o t k) ≡ Some why → UsedPlaces batches setup.params o.works t why
+used_refused : (setup : Setup) (batches : ℕ) (o : OrderState) (t k : ℕ) (why : Why ℕ) → OnlyLast o.works → goes_on o.works t ≡ true → why_refused (write_reply setup.params o t k) ≡ Some why → UsedPlaces batches setup o.works t why
 used_refused setup batches o t k why only going e = step (nat_lt t (covered_mark o t k)) (other_keys setup.params o k == setup.params.writes) refl e
   where
-    step : (a b : Bool) → (other_keys setup.params o k == setup.params.writes) ≡ b → why_refused (if a then Conflicts k (covered_mark o t k) else (if b then WritesAreFull setup.params.writes else Yes)) ≡ Some why → UsedPlaces batches setup.params o.works t why
-    step true b is f = subst (UsedPlaces batches setup.params o.works t) (same_Some (Conflict k (covered_mark o t k)) why f) tt
+    step : (a b : Bool) → (other_keys setup.params o k == setup.params.writes) ≡ b → why_refused (if a then Conflicts k (covered_mark o t k) else (if b then WritesAreFull setup.params.writes else Yes)) ≡ Some why → UsedPlaces batches setup o.works t why
+    step true b is f = subst (UsedPlaces batches setup o.works t) (same_Some (Conflict k (covered_mark o t k)) why f) tt
     step false true is f =
         let w = its_work o.works t going in
         let few = others_few setup.params o t k w.0 only going w.1 in
         let all = eqb-true (other_keys setup.params o k) setup.params.writes is in
-        subst (UsedPlaces batches setup.params o.works t) (same_Some (WritesFull setup.params.writes) why f)
+        subst (UsedPlaces batches setup o.works t) (same_Some (WritesFull setup.params.writes) why f)
         (record { ops = w.0.ops; are = ap (option_map (λ (y : Work). y.ops)) w.1; many_are = omega (arith, few, all) })
     step false false is f = absurd (none-some why f)
 
-pub used_tale : (setup : Setup) (c batches : ℕ) → IsTale setup (c ∷ []) (UsedPlaces batches setup.params) OnlyLast (IsRoomy batches)
+pub used_tale : (setup : Setup) (c batches : ℕ) → IsTale setup (c ∷ []) (UsedPlaces batches setup) OnlyLast (IsRoomy batches)
 used_tale setup c batches = record {
-  lasts = used_lasts batches setup.params;
+  lasts = used_lasts batches setup;
   asks = λ ws t. tt;
   ends = λ ws t. tt;
   falls = λ ws s t on q going going_too other lost. tt;
   full = used_full setup c batches;
   refused = used_refused setup batches;
+  past_reads = λ ws t keys given. given;
+  past_writes = λ ws t keys given. given;
   empty = record { at_each = λ t e. absurd (none_in_new t e) };
   fewer = λ ws vs len went only. record { at_each = λ t e. only.at_each t (went t e) ∙ sym len };
   begins = λ d client runs may only. last_begun d.running.order.works (none_goes setup c d client runs may);
@@ -209,7 +218,7 @@ used_tale setup c batches = record {
 
 -- ---- and so the record
 
-pub record_used : (batches : ℕ) (p : Params) (part : Part) → Sound (UsedPlaces batches p) OnlyLast part → All (λ t. HasUsedPlaces batches p t t.outcome) (record_of part).txns
+pub record_used : (batches : ℕ) (p : Params) (part : Part) → Sound (UsedPlaces batches (setup_of p)) OnlyLast part → All (λ t. HasUsedPlaces batches p t t.outcome) (record_of part).txns
 record_used batches p part sound = record_all (λ t. HasUsedPlaces batches p t t.outcome) part
     (λ n w h at_work at_holder. by_why n w h at_work (why_of w.fate h.cause) (λ why e. sound.told.at_each (suc n) why (why_told part n w h at_work at_holder ∙ e)))
   where
@@ -218,16 +227,18 @@ record_used batches p part sound = record_all (λ t. HasUsedPlaces batches p t t
         let same : h.ops ≡ w.ops = same_Some h.ops w.ops (sym h.are ∙ ap (option_map (λ (y : Work). y.ops)) at) in
         subst (λ (os : List (Op ℕ)). many ≤ count os) same h.many_are
 
-    shown : (n : ℕ) (w : Work) (h : Holder) → slice_get part.order.works n ≡ Some w → (why : Why ℕ) → UsedPlaces batches p part.order.works (suc n) why → HasUsedPlaces batches p (made part.epoch (suc n) w h) (AbortedBy why)
+    shown : (n : ℕ) (w : Work) (h : Holder) → slice_get part.order.works n ≡ Some w → (why : Why ℕ) → UsedPlaces batches (setup_of p) part.order.works (suc n) why → HasUsedPlaces batches p (made part.epoch (suc n) w h) (AbortedBy why)
     shown n w h at (Conflict key reader) used = tt
     shown n w h at (Depends on) used = tt
     shown n w h at (ReadsFull queued left) used = λ one. its gets_in batches n w at (used one)
     shown n w h at (WritesFull keys) used = its writes_in p.writes n w at used
+    shown n w h at (ShareReads keys) used = none-some keys used
+    shown n w h at (ShareWrites keys) used = none-some keys used
     shown n w h at EpochEnd used = tt
     shown n w h at Asked used = tt
     shown n w h at (Stopped fault) used = tt
 
-    by_why : (n : ℕ) (w : Work) (h : Holder) → slice_get part.order.works n ≡ Some w → (o : Option (Why ℕ)) → ((why : Why ℕ) → o ≡ Some why → UsedPlaces batches p part.order.works (suc n) why)
+    by_why : (n : ℕ) (w : Work) (h : Holder) → slice_get part.order.works n ≡ Some w → (o : Option (Why ℕ)) → ((why : Why ℕ) → o ≡ Some why → UsedPlaces batches (setup_of p) part.order.works (suc n) why)
         → HasUsedPlaces batches p (made part.epoch (suc n) w h) (unwrap_or (option_map AbortedBy o) Committed)
     by_why n w h at None told = tt
     by_why n w h at (Some why) told = shown n w h at why (told why refl)

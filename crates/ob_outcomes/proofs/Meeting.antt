@@ -4,7 +4,7 @@ use Rattle.ob_base.specs.declared.op.Op.{Op}
 use Rattle.ob_base.specs.declared.op.Op.TheVariants as op
 use Rattle.ob_serial.specs.declared.records.Outcome.{Outcome}
 use Rattle.ob_serial.specs.declared.records.Outcome.TheVariants.{Committed, Aborted, Unsure}
-use Rattle.ob_serial.specs.declared.records.Why.TheVariants.{Conflict, Depends, ReadsFull, WritesFull, EpochEnd, Asked, Stopped}
+use Rattle.ob_serial.specs.declared.records.Why.TheVariants.{Conflict, Depends, ReadsFull, WritesFull, ShareReads, ShareWrites, EpochEnd, Asked, Stopped}
 use Rattle.ob_serial.specs.Serial.{TxnRecord}
 use Rattle.ob_session.specs.Clients.{Told}
 use Rattle.ob_session.specs.Records.{unsourced, all_unsourced, IsToldEnd, TellFirst, TellAll}
@@ -162,6 +162,8 @@ ends_as ask ops outcome told same is m = by outcome is
     by (Aborted (Depends on)) is = front
     by (Aborted (ReadsFull queued left)) is = front
     by (Aborted (WritesFull keys)) is = front
+    by (Aborted (ShareReads keys)) is = front
+    by (Aborted (ShareWrites keys)) is = front
     by (Aborted EpochEnd) is = front
     by (Aborted (Stopped fault)) is = front
     by (Unsure epoch) is = absurd is

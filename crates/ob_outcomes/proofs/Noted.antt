@@ -5,7 +5,7 @@ use Rattle.std.proofs.lemmas.Option.{none-some, same_Some, slice_get_within}
 use Rattle.ob_base.specs.declared.params.Params.{Params}
 use Rattle.ob_base.specs.declared.op.Op.TheVariants.{Get}
 use Rattle.ob_serial.specs.declared.records.Why.{Why}
-use Rattle.ob_serial.specs.declared.records.Why.TheVariants.{Conflict, Depends, ReadsFull, WritesFull, EpochEnd, Asked, Stopped}
+use Rattle.ob_serial.specs.declared.records.Why.TheVariants.{Conflict, Depends, ReadsFull, WritesFull, ShareReads, ShareWrites, EpochEnd, Asked, Stopped}
 use Rattle.ob_serial.specs.declared.records.Outcome.TheVariants.{Committed, Aborted as AbortedBy}
 use Rattle.ob_order.specs.declared.answers.Version.{Version}
 use Rattle.ob_order.specs.declared.answers.Read.TheVariants.{Value as Found, Queued, Full as ReadsAreFull}
@@ -30,23 +30,27 @@ pub record HasReader (ws : List Work) (t key reader : ℕ) : Type 0 where
   pub read : has_read ws key source reader ≡ true
 
 -- what the works show of a cause
-abbrev pub IsNoted : Params → List Work → ℕ → Why ℕ → Type 0
-IsNoted p ws t (Conflict key reader) = HasReader ws t key reader
-IsNoted p ws t (Depends on) = HasLost ws t on
-IsNoted p ws t (ReadsFull queued left) = queued ≡ p.places * left
-IsNoted p ws t (WritesFull keys) = keys ≡ p.writes
-IsNoted p ws t EpochEnd = Unit {0}
-IsNoted p ws t Asked = Unit {0}
-IsNoted p ws t (Stopped fault) = ⊥
+abbrev pub IsNoted : Setup → List Work → ℕ → Why ℕ → Type 0
+IsNoted setup ws t (Conflict key reader) = HasReader ws t key reader
+IsNoted setup ws t (Depends on) = HasLost ws t on
+IsNoted setup ws t (ReadsFull queued left) = queued ≡ setup.params.places * left
+IsNoted setup ws t (WritesFull keys) = keys ≡ setup.params.writes
+IsNoted setup ws t (ShareReads keys) = setup.shares.reads ≡ Some keys
+IsNoted setup ws t (ShareWrites keys) = setup.shares.writes ≡ Some keys
+IsNoted setup ws t EpochEnd = Unit {0}
+IsNoted setup ws t Asked = Unit {0}
+IsNoted setup ws t (Stopped fault) = ⊥
 
-noted_lasts : (p : Params) (ws vs : List Work) (t : ℕ) (why : Why ℕ) → Grows ws vs → IsNoted p ws t why → IsNoted p vs t why
-noted_lasts p ws vs t (Conflict key reader) g h = record { later = h.later; source = h.source; at_or_below = h.at_or_below; read = g.reads key h.source reader h.read }
-noted_lasts p ws vs t (Depends on) g h = lost_grows ws vs t on g h
-noted_lasts p ws vs t (ReadsFull queued left) g h = h
-noted_lasts p ws vs t (WritesFull keys) g h = h
-noted_lasts p ws vs t EpochEnd g h = h
-noted_lasts p ws vs t Asked g h = h
-noted_lasts p ws vs t (Stopped fault) g h = h
+noted_lasts : (setup : Setup) (ws vs : List Work) (t : ℕ) (why : Why ℕ) → Grows ws vs → IsNoted setup ws t why → IsNoted setup vs t why
+noted_lasts setup ws vs t (Conflict key reader) g h = record { later = h.later; source = h.source; at_or_below = h.at_or_below; read = g.reads key h.source reader h.read }
+noted_lasts setup ws vs t (Depends on) g h = lost_grows ws vs t on g h
+noted_lasts setup ws vs t (ReadsFull queued left) g h = h
+noted_lasts setup ws vs t (WritesFull keys) g h = h
+noted_lasts setup ws vs t (ShareReads keys) g h = h
+noted_lasts setup ws vs t (ShareWrites keys) g h = h
+noted_lasts setup ws vs t EpochEnd g h = h
+noted_lasts setup ws vs t Asked g h = h
+noted_lasts setup ws vs t (Stopped fault) g h = h
 
 -- ---- what the replies say
 
@@ -105,25 +109,27 @@ refusal p o t k why e = record { either = step (nat_lt t (covered_mark o t k)) (
     step false true above f = inr (sym (same_Some (WritesFull p.writes) why f))
     step false false above f = absurd (none-some why f)
 
-refused_noted : (p : Params) (o : OrderState) (t k : ℕ) (why : Why ℕ) → why_refused (write_reply p o t k) ≡ Some why → IsNoted p o.works t why
-refused_noted p o t k why e = ⊎_elim
-    (λ conflict. subst (IsNoted p o.works t) (sym conflict.0) (record {
+refused_noted : (setup : Setup) (o : OrderState) (t k : ℕ) (why : Why ℕ) → why_refused (write_reply setup.params o t k) ≡ Some why → IsNoted setup o.works t why
+refused_noted setup o t k why e = ⊎_elim
+    (λ conflict. subst (IsNoted setup o.works t) (sym conflict.0) (record {
       later = conflict.1;
       source = source_of (newest o.works t k);
       at_or_below = source_low o.works t k;
       read = greatest_passes (has_read o.works k (source_of (newest o.works t k))) (length o.works) (let l = conflict.1 in omega (arith, l));
     }))
-    (λ full. subst (IsNoted p o.works t) (sym full) refl)
-    (refusal p o t k why e).either
+    (λ full. subst (IsNoted setup o.works t) (sym full) refl)
+    (refusal setup.params o t k why e).either
 
-pub noted_tale : (setup : Setup) (clients : List ℕ) → IsTale setup clients (IsNoted setup.params) (λ ws. Unit {0}) (λ d. Unit {0})
+pub noted_tale : (setup : Setup) (clients : List ℕ) → IsTale setup clients (IsNoted setup) (λ ws. Unit {0}) (λ d. Unit {0})
 noted_tale setup clients = record {
-  lasts = noted_lasts setup.params;
+  lasts = noted_lasts setup;
   asks = λ ws t. tt;
   ends = λ ws t. tt;
   falls = λ ws s t on q going going_too other lost. lost;
   full = λ d x k queued left known none runs may live q e. full_noted setup.params d.running.order x.ticket k queued left e;
-  refused = λ o t k why q going e. refused_noted setup.params o t k why e;
+  refused = λ o t k why q going e. refused_noted setup o t k why e;
+  past_reads = λ ws t keys given. given;
+  past_writes = λ ws t keys given. given;
   empty = tt;
   fewer = λ ws vs len went q. tt;
   begins = λ d client runs may q. tt;
@@ -131,20 +137,22 @@ noted_tale setup clients = record {
 
 -- ---- what the record shows
 
-why_shown : (p : Params) (part : Part) (n : ℕ) (w : Work) (h : Holder) → length part.holders ≡ length part.order.works → slice_get part.order.works n ≡ Some w
-    → (why : Why ℕ) → IsNoted p part.order.works (suc n) why → IsWhy p (record_of part) (made part.epoch (suc n) w h) why
-why_shown p part n w h even at (Conflict key reader) noted =
+why_shown : (setup : Setup) (part : Part) (n : ℕ) (w : Work) (h : Holder) → length part.holders ≡ length part.order.works → slice_get part.order.works n ≡ Some w
+    → (why : Why ℕ) → IsNoted setup part.order.works (suc n) why → IsWhy setup (record_of part) (made part.epoch (suc n) w h) why
+why_shown setup part n w h even at (Conflict key reader) noted =
     let r = reader_of part key noted.source reader even noted.read in
     record { later = noted.later; txn = r.txn; there = r.there; named = r.named; source = noted.source; at_or_below = noted.at_or_below; got = (r.reply, r.got) }
-why_shown p part n w h even at (Depends on) noted =
+why_shown setup part n w h even at (Depends on) noted =
     let g = gone_in part on even noted.gone in
     let r = any_found noted.key on w.ops (sym (ap (λ o. unwrap_or (option_map (λ x. has_get x.ops noted.key on) o) false) at) ∙ noted.read) in
     record { earlier = noted.earlier; key = noted.key; got = (r.1, contains_at w.ops r.0 (Get noted.key r.1 on) r.2); txn = g.txn; there = g.there; named = g.named; not_committed = g.stands }
-why_shown p part n w h even at (ReadsFull queued left) noted = noted
-why_shown p part n w h even at (WritesFull keys) noted = noted
-why_shown p part n w h even at EpochEnd noted = noted
-why_shown p part n w h even at Asked noted = noted
-why_shown p part n w h even at (Stopped fault) noted = noted
+why_shown setup part n w h even at (ReadsFull queued left) noted = noted
+why_shown setup part n w h even at (WritesFull keys) noted = noted
+why_shown setup part n w h even at (ShareReads keys) noted = noted
+why_shown setup part n w h even at (ShareWrites keys) noted = noted
+why_shown setup part n w h even at EpochEnd noted = noted
+why_shown setup part n w h even at Asked noted = noted
+why_shown setup part n w h even at (Stopped fault) noted = noted
 
 -- a ticket that was read from is drawn
 source_drawn : (ws : List Work) (t : ℕ) → 0 < t → t ≤ length ws → is_gone ws t ≡ false → (n : ℕ) × (w : Work) × (t ≡ suc n) × (slice_get ws n ≡ Some w) × (is_going w.fate ≡ true)
@@ -177,15 +185,15 @@ sources_stand part n w h even tidy at going key source got =
     inr (low, record { txn = c.txn; there = c.there; named = c.named ∙ sym d.2; committed = c.stands }))
     (cases_eq source 0)
 
-record_shown : (setup : Setup) (part : Part) → Sound (IsNoted setup.params) (λ ws. Unit {0}) part → All (λ t. IsOutcome setup.params (record_of part) t t.outcome) (record_of part).txns
-record_shown setup part sound = record_all (λ t. IsOutcome setup.params (record_of part) t t.outcome) part (λ n w h at_work at_holder. by_why n w h at_work (why_of w.fate h.cause) refl (λ why e. sound.told.at_each (suc n) why (why_told part n w h at_work at_holder ∙ e)))
+record_shown : (setup : Setup) (part : Part) → Sound (IsNoted setup) (λ ws. Unit {0}) part → All (λ t. IsOutcome setup (record_of part) t t.outcome) (record_of part).txns
+record_shown setup part sound = record_all (λ t. IsOutcome setup (record_of part) t t.outcome) part (λ n w h at_work at_holder. by_why n w h at_work (why_of w.fate h.cause) refl (λ why e. sound.told.at_each (suc n) why (why_told part n w h at_work at_holder ∙ e)))
   where
-    by_why : (n : ℕ) (w : Work) (h : Holder) → slice_get part.order.works n ≡ Some w → (o : Option (Why ℕ)) → why_of w.fate h.cause ≡ o → ((why : Why ℕ) → o ≡ Some why → IsNoted setup.params part.order.works (suc n) why)
-        → IsOutcome setup.params (record_of part) (made part.epoch (suc n) w h) (unwrap_or (option_map AbortedBy o) Committed)
+    by_why : (n : ℕ) (w : Work) (h : Holder) → slice_get part.order.works n ≡ Some w → (o : Option (Why ℕ)) → why_of w.fate h.cause ≡ o → ((why : Why ℕ) → o ≡ Some why → IsNoted setup part.order.works (suc n) why)
+        → IsOutcome setup (record_of part) (made part.epoch (suc n) w h) (unwrap_or (option_map AbortedBy o) Committed)
     by_why n w h at None e noted = sources_stand part n w h sound.even sound.tidy at (why_none w.fate h.cause e)
-    by_why n w h at (Some why) e noted = why_shown setup.params part n w h sound.even at why (noted why refl)
+    by_why n w h at (Some why) e noted = why_shown setup part n w h sound.even at why (noted why refl)
 
 pub outcomes_are_shown : OutcomesAreShown
 outcomes_are_shown setup epoch left clients steps d may run =
-    told_all (IsNoted setup.params) (λ ws. Unit {0}) setup clients (λ d. Unit {0}) (noted_tale setup clients) (λ r. All (λ t. IsOutcome setup.params r t t.outcome) r.txns) (record_shown setup)
-    (λ d. tt) (new_desk setup epoch left clients) steps d run (runs_new setup epoch left clients) (good_new (IsNoted setup.params) (λ ws. Unit {0}) setup clients (λ d. Unit {0}) (noted_tale setup clients) epoch left)
+    told_all (IsNoted setup) (λ ws. Unit {0}) setup clients (λ d. Unit {0}) (noted_tale setup clients) (λ r. All (λ t. IsOutcome setup r t t.outcome) r.txns) (record_shown setup)
+    (λ d. tt) (new_desk setup epoch left clients) steps d run (runs_new setup epoch left clients) (good_new (IsNoted setup) (λ ws. Unit {0}) setup clients (λ d. Unit {0}) (noted_tale setup clients) epoch left)

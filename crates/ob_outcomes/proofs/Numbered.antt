@@ -71,13 +71,15 @@ moves_step d (Begin client) (Refused f) new may step = quiet d new d step.same r
 moves_step d (GetKey x k) (Value value) new may step = quiet d new _ step.state refl refl refl
 moves_step d (GetKey x k) Waits new may step = quiet d new _ step.state refl refl refl
 moves_step d (GetKey x k) (Aborted why) new may (inl step) = quiet d new d step.same refl refl refl
-moves_step d (GetKey x k) (Aborted why) new may (inr step) = quiet d new _ step.state refl refl refl
+moves_step d (GetKey x k) (Aborted why) new may (inr (inl step)) = quiet d new _ step.state refl refl refl
+moves_step d (GetKey x k) (Aborted why) new may (inr (inr step)) = quiet d new _ step.state refl refl refl
 moves_step d (Poll x) (Value value) new may step = quiet d new _ step.state refl refl refl
 moves_step d (Poll x) Waits new may step = quiet d new d step.same refl refl refl
 moves_step d (Poll x) (Aborted why) new may step = quiet d new d step.same refl refl refl
 moves_step d (Write x k value) Done new may step = quiet d new _ step.state refl refl refl
 moves_step d (Write x k value) (Aborted why) new may (inl step) = quiet d new d step.same refl refl refl
-moves_step d (Write x k value) (Aborted why) new may (inr step) = quiet d new _ step.state refl refl refl
+moves_step d (Write x k value) (Aborted why) new may (inr (inl step)) = quiet d new _ step.state refl refl refl
+moves_step d (Write x k value) (Aborted why) new may (inr (inr step)) = quiet d new _ step.state refl refl refl
 moves_step d (Commit x) Done new may step = quiet d new _ step.state refl refl refl
 moves_step d (Commit x) (Aborted why) new may step = quiet d new d step.same refl refl refl
 moves_step d (Abort x) (Aborted why) new may (inl step) = quiet d new d step.same refl refl refl
@@ -144,9 +146,9 @@ record IsNamed (r : EpochRecord ℕ) : Type 0 where
 
 all_named : (setup : Setup) (epoch left : ℕ) (clients : List ℕ) (steps : List (Call × Reply)) (d : DeskState) → Leads (new_desk setup epoch left clients) steps d → All IsNamed (published steps)
 all_named setup epoch left clients steps d run =
-    told_all (IsNoted setup.params) (λ ws. Unit {0}) setup clients (λ d. Unit {0}) (noted_tale setup clients) IsNamed
+    told_all (IsNoted setup) (λ ws. Unit {0}) setup clients (λ d. Unit {0}) (noted_tale setup clients) IsNamed
     (λ part sound. record { tickets = tickets_from part.epoch 1 part.order.works part.holders; named = txns_all (λ (x : TxnRecord ℕ). x.epoch ≡ part.epoch) part.epoch 1 part.order.works part.holders (λ n w h a b. refl) })
-    (λ d. tt) (new_desk setup epoch left clients) steps d run (runs_new setup epoch left clients) (good_new (IsNoted setup.params) (λ ws. Unit {0}) setup clients (λ d. Unit {0}) (noted_tale setup clients) epoch left)
+    (λ d. tt) (new_desk setup epoch left clients) steps d run (runs_new setup epoch left clients) (good_new (IsNoted setup) (λ ws. Unit {0}) setup clients (λ d. Unit {0}) (noted_tale setup clients) epoch left)
 
 -- a row rises
 row_rises : (a n : ℕ) → IsStrictlyIncreasing (range_with_len a n)

@@ -13,6 +13,7 @@ use Rattle.ob_order.specs.Works.{stop_work, wait_for, add_op, with_op, aborted, 
 use Rattle.ob_order.specs.Order.{fresh, after_begin, after_queued, after_take, after_deliver, write_op}
 use Rattle.ob_order.proofs.Edits.{length-edit}
 use Rattle.ob_order.proofs.Falls.{goes_on-edit, fallen_aborted, length-aborted}
+use Rattle.ob_shares.specs.Shares.{Uses}
 use Rattle.ob_desk.specs.declared.calls.Txn.{Txn}
 use Rattle.ob_desk.specs.Desk.{Part, DeskState, Setup, new_desk, is_memory, stop_closed, stopped_by, end_of, closing, stop_part, stop_holder, with_order, with_holder, on_client, begin_client}
 use Rattle.ob_desk.specs.Desk.{note_cause, note_asked, new_holder, Call, Begin, GetKey, Poll, Write, Commit, Abort, Settled, Looks, SignOff, Stop, Unsure, IsStopped, TakeBatch, Deliver, Close, Publish}
@@ -53,24 +54,24 @@ in_running d new part e epoch fits awaited even held h = subst Kept (sym e) (rec
 })
 
 -- an answered operation more
-grown : (d new : DeskState) (t : ℕ) (o : Op ℕ) → new ≡ record d { running = with_order d.running (record d.running.order { works = with_op d.running.order.works t o }) } → Kept d → Kept new
-grown d new t o e h = in_running d new (with_order d.running (record d.running.order { works = with_op d.running.order.works t o })) e refl
+grown : {u : Uses} (d new : DeskState) (t : ℕ) (o : Op ℕ) → new ≡ record d { running = record (with_order d.running (record d.running.order { works = with_op d.running.order.works t o })) { uses = u } } → Kept d → Kept new
+grown d new t o e h = in_running d new _ e refl
     (record { few = h.fits.few })
     (awaited_works d.running.order (with_op d.running.order.works t o) (none_waits_op d.running.order.works t o) h.awaited)
     (h.even ∙ sym (length-edit (add_op o) d.running.order.works t))
     (held_fewer d.clients d.running _ (fewer_works d.running _ refl refl (λ u going. sym (goes_on-edit (add_op o) d.running.order.works t u (λ w. refl)) ∙ going)) h.held)
     h
 
-queued : (d new : DeskState) (t k : ℕ) → new ≡ record d { running = with_order d.running (after_queued d.running.order t k) } → Fits d.setup.params.places (after_queued d.running.order t k) → Kept d → Kept new
-queued d new t k e fits h = in_running d new (with_order d.running (after_queued d.running.order t k)) e refl
+queued : {u : Uses} (d new : DeskState) (t k : ℕ) → new ≡ record d { running = record (with_order d.running (after_queued d.running.order t k)) { uses = u } } → Fits d.setup.params.places (after_queued d.running.order t k) → Kept d → Kept new
+queued d new t k e fits h = in_running d new _ e refl
     fits
     (awaited_queued d.running.order t k h.awaited)
     (h.even ∙ sym (length-edit (wait_for k) d.running.order.works t))
     (held_fewer d.clients d.running _ (fewer_works d.running _ refl refl (λ u going. sym (goes_on-edit (wait_for k) d.running.order.works t u (λ w. refl)) ∙ going)) h.held)
     h
 
-ended : (d new : DeskState) (t : ℕ) (why : Why ℕ) → new ≡ record d { running = end_of d.running t why } → Kept d → Kept new
-ended d new t why e h = in_running d new (end_of d.running t why) e refl
+ended : {u : Uses} (d new : DeskState) (t : ℕ) (why : Why ℕ) → new ≡ record d { running = record (end_of d.running t why) { uses = u } } → Kept d → Kept new
+ended d new t why e h = in_running d new _ e refl
     (record { few = h.fits.few })
     (awaited_works d.running.order (aborted d.running.order.works t) (none_waits_aborted d.running.order.works t) h.awaited)
     (length-edit (note_cause why) d.running.holders t ∙ (h.even ∙ sym (length-aborted d.running.order.works t)))
@@ -119,13 +120,15 @@ kept_step d (Begin client) (Refused f) new may step h = same d new step.same h
 kept_step d (GetKey x k) (Value value) new may step h = grown d new x.ticket (Get k value step.source) step.state h
 kept_step d (GetKey x k) Waits new may step h = queued d new x.ticket k step.state (fits_queued d.setup.params d.running.order x.ticket k step.reply h.fits) h
 kept_step d (GetKey x k) (Aborted why) new may (inl step) h = same d new step.same h
-kept_step d (GetKey x k) (Aborted why) new may (inr step) h = ended d new x.ticket why step.state h
+kept_step d (GetKey x k) (Aborted why) new may (inr (inl step)) h = ended d new x.ticket why step.state h
+kept_step d (GetKey x k) (Aborted why) new may (inr (inr step)) h = ended d new x.ticket why step.state h
 kept_step d (Poll x) (Value value) new may step h = grown d new x.ticket (Get step.key value step.source) step.state h
 kept_step d (Poll x) Waits new may step h = same d new step.same h
 kept_step d (Poll x) (Aborted why) new may step h = same d new step.same h
 kept_step d (Write x k value) Done new may step h = grown d new x.ticket (write_op k value) step.state h
 kept_step d (Write x k value) (Aborted why) new may (inl step) h = same d new step.same h
-kept_step d (Write x k value) (Aborted why) new may (inr step) h = ended d new x.ticket why step.state h
+kept_step d (Write x k value) (Aborted why) new may (inr (inl step)) h = ended d new x.ticket why step.state h
+kept_step d (Write x k value) (Aborted why) new may (inr (inr step)) h = ended d new x.ticket why step.state h
 kept_step d (Commit x) Done new may step h = in_running d new (with_holder note_asked d.running x.ticket) step.state refl h.fits h.awaited
     (length-edit note_asked d.running.holders x.ticket ∙ h.even)
     (held_fewer d.clients d.running _ (fewer_edit note_asked d.running _ x.ticket refl refl (λ q. refl) (λ q e. absurd (no_longer e)) (λ u going. going)) h.held)

@@ -6,7 +6,7 @@ use Rattle.std.proofs.lemmas.List.Elements.{All-nil, All-cons, All-append}
 use Rattle.std.proofs.lemmas.Option.{none-some, same_Some}
 use Rattle.ob_base.specs.declared.fault.Fault.{Fault}
 use Rattle.ob_serial.specs.declared.records.Why.{Why}
-use Rattle.ob_serial.specs.declared.records.Why.TheVariants.{Conflict, Depends, ReadsFull, WritesFull, EpochEnd, Asked, Stopped}
+use Rattle.ob_serial.specs.declared.records.Why.TheVariants.{Conflict, Depends, ReadsFull, WritesFull, ShareReads, ShareWrites, EpochEnd, Asked, Stopped}
 use Rattle.ob_serial.specs.declared.records.Outcome.TheVariants.{Committed, Aborted as AbortedBy}
 use Rattle.ob_serial.specs.Serial.{EpochRecord}
 use Rattle.ob_order.specs.declared.fate.Fate.{Fate}
@@ -85,6 +85,12 @@ spares_note why other = record { each = λ h e. absurd (other (same_Some why Epo
 not_full : (queued left : ℕ) (why : Why ℕ) → why ≡ ReadsFull queued left → why ≡ EpochEnd → ⊥
 not_full queued left why e f = let q : ReadsFull queued left ≡ EpochEnd = sym e ∙ f in cc
 
+not_past_reads : (keys : ℕ) (why : Why ℕ) → why ≡ ShareReads keys → why ≡ EpochEnd → ⊥
+not_past_reads keys why e f = let q : ShareReads keys ≡ EpochEnd = sym e ∙ f in cc
+
+not_past_writes : (keys : ℕ) (why : Why ℕ) → why ≡ ShareWrites keys → why ≡ EpochEnd → ⊥
+not_past_writes keys why e f = let q : ShareWrites keys ≡ EpochEnd = sym e ∙ f in cc
+
 not_refused : (w : Wrote) (why : Why ℕ) → why_refused w ≡ Some why → why ≡ EpochEnd → ⊥
 not_refused Yes why e f = none-some why e
 not_refused (Conflicts key reader) why e f = let q : Conflict key reader ≡ EpochEnd = same_Some _ _ e ∙ f in cc
@@ -103,13 +109,15 @@ unended_step d (Begin client) (Refused f) new step h = holds d new d step.same h
 unended_step d (GetKey x k) (Value value) new step h = holds d new _ step.state h
 unended_step d (GetKey x k) Waits new step h = holds d new _ step.state h
 unended_step d (GetKey x k) (Aborted why) new (inl step) h = holds d new d step.same h
-unended_step d (GetKey x k) (Aborted why) new (inr step) h = holds d new _ step.state (unended_edit (note_cause why) d.running.holders x.ticket (spares_note why (not_full step.queued step.left why step.cause)) h)
+unended_step d (GetKey x k) (Aborted why) new (inr (inl step)) h = holds d new _ step.state (unended_edit (note_cause why) d.running.holders x.ticket (spares_note why (not_full step.queued step.left why step.cause)) h)
+unended_step d (GetKey x k) (Aborted why) new (inr (inr step)) h = holds d new _ step.state (unended_edit (note_cause why) d.running.holders x.ticket (spares_note why (not_past_reads step.keys why step.cause)) h)
 unended_step d (Poll x) (Value value) new step h = holds d new _ step.state h
 unended_step d (Poll x) Waits new step h = holds d new d step.same h
 unended_step d (Poll x) (Aborted why) new step h = holds d new d step.same h
 unended_step d (Write x k value) Done new step h = holds d new _ step.state h
 unended_step d (Write x k value) (Aborted why) new (inl step) h = holds d new d step.same h
-unended_step d (Write x k value) (Aborted why) new (inr step) h = holds d new _ step.state (unended_edit (note_cause why) d.running.holders x.ticket (spares_note why (not_refused (write_reply d.setup.params d.running.order x.ticket k) why step.cause)) h)
+unended_step d (Write x k value) (Aborted why) new (inr (inl step)) h = holds d new _ step.state (unended_edit (note_cause why) d.running.holders x.ticket (spares_note why (not_refused (write_reply d.setup.params d.running.order x.ticket k) why step.cause)) h)
+unended_step d (Write x k value) (Aborted why) new (inr (inr step)) h = holds d new _ step.state (unended_edit (note_cause why) d.running.holders x.ticket (spares_note why (not_past_writes step.keys why step.cause)) h)
 unended_step d (Commit x) Done new step h = holds d new _ step.state (unended_edit note_asked d.running.holders x.ticket (record { each = λ q e. e }) h)
 unended_step d (Commit x) (Aborted why) new step h = holds d new d step.same h
 unended_step d (Abort x) (Aborted why) new (inl step) h = holds d new d step.same h
@@ -169,13 +177,15 @@ closes_step d (Begin client) (Refused f) new step due = kept_closed d new d step
 closes_step d (GetKey x k) (Value value) new step due = kept_closed d new _ step.state refl
 closes_step d (GetKey x k) Waits new step due = kept_closed d new _ step.state refl
 closes_step d (GetKey x k) (Aborted why) new (inl step) due = kept_closed d new d step.same refl
-closes_step d (GetKey x k) (Aborted why) new (inr step) due = kept_closed d new _ step.state refl
+closes_step d (GetKey x k) (Aborted why) new (inr (inl step)) due = kept_closed d new _ step.state refl
+closes_step d (GetKey x k) (Aborted why) new (inr (inr step)) due = kept_closed d new _ step.state refl
 closes_step d (Poll x) (Value value) new step due = kept_closed d new _ step.state refl
 closes_step d (Poll x) Waits new step due = kept_closed d new d step.same refl
 closes_step d (Poll x) (Aborted why) new step due = kept_closed d new d step.same refl
 closes_step d (Write x k value) Done new step due = kept_closed d new _ step.state refl
 closes_step d (Write x k value) (Aborted why) new (inl step) due = kept_closed d new d step.same refl
-closes_step d (Write x k value) (Aborted why) new (inr step) due = kept_closed d new _ step.state refl
+closes_step d (Write x k value) (Aborted why) new (inr (inl step)) due = kept_closed d new _ step.state refl
+closes_step d (Write x k value) (Aborted why) new (inr (inr step)) due = kept_closed d new _ step.state refl
 closes_step d (Commit x) Done new step due = kept_closed d new _ step.state refl
 closes_step d (Commit x) (Aborted why) new step due = kept_closed d new d step.same refl
 closes_step d (Abort x) (Aborted why) new (inl step) due = kept_closed d new d step.same refl

@@ -1,7 +1,7 @@
 -- How the transactions of a lone client end.
 use Rattle.std.specs.Prelude.{ℕ, All, List, [], ◌∷◌}
 use Rattle.ob_serial.specs.declared.records.Why.{Why}
-use Rattle.ob_serial.specs.declared.records.Why.TheVariants.{Conflict, Depends, ReadsFull, WritesFull, EpochEnd, Asked, Stopped}
+use Rattle.ob_serial.specs.declared.records.Why.TheVariants.{Conflict, Depends, ReadsFull, WritesFull, ShareReads, ShareWrites, EpochEnd, Asked, Stopped}
 use Rattle.ob_serial.specs.declared.records.Outcome.{Outcome}
 use Rattle.ob_serial.specs.declared.records.Outcome.TheVariants.{Committed, Aborted, Unsure}
 use Rattle.ob_desk.specs.Desk.{DeskState, Setup, Call, Reply, MayOpen, new_desk, published}
@@ -13,6 +13,8 @@ IsOwnWhy (Conflict key reader) = ⊥
 IsOwnWhy (Depends on) = ⊥
 IsOwnWhy (ReadsFull queued left) = Unit {0}
 IsOwnWhy (WritesFull keys) = Unit {0}
+IsOwnWhy (ShareReads keys) = Unit {0}
+IsOwnWhy (ShareWrites keys) = Unit {0}
 IsOwnWhy EpochEnd = Unit {0}
 IsOwnWhy Asked = Unit {0}
 IsOwnWhy (Stopped fault) = ⊥

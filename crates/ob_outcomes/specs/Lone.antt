@@ -4,10 +4,10 @@ use Rattle.ob_base.specs.declared.params.Params.{Params}
 use Rattle.ob_base.specs.declared.op.Op.{Op}
 use Rattle.ob_base.specs.declared.op.Op.TheVariants.{Get, Put, Del}
 use Rattle.ob_serial.specs.Serial.{TxnRecord, EpochRecord}
-use Rattle.ob_serial.specs.declared.records.Why.TheVariants.{ReadsFull, WritesFull}
+use Rattle.ob_serial.specs.declared.records.Why.TheVariants.{ReadsFull, WritesFull, ShareReads, ShareWrites}
 use Rattle.ob_serial.specs.declared.records.Outcome.{Outcome}
 use Rattle.ob_serial.specs.declared.records.Outcome.TheVariants.{Committed, Aborted}
-use Rattle.ob_desk.specs.Desk.{DeskState, Setup, Call, Reply, MayOpen, new_desk, published}
+use Rattle.ob_desk.specs.Desk.{DeskState, Setup, Call, Reply, MayOpen, new_desk, published, setup_of}
 use Rattle.ob_desk.specs.Beats.{BeatKind}
 use Rattle.ob_session.specs.Steps.{Leads}
 use Rattle.ob_script.specs.declared.line.Ask.{Ask}
@@ -31,16 +31,18 @@ writes_in (Put key value ∷ ops) = suc (writes_in ops)
 writes_in (Del key ∷ ops) = suc (writes_in ops)
 
 -- Who was turned away had used its places: an epoch's first transaction made as many gets as the epoch had batches, and one that was
--- turned away at a write made as many writes as the write batch has places.
+-- turned away at a write made as many writes as the write batch has places. None is turned away for a share, where there is none.
 abbrev pub HasUsedPlaces : ℕ → Params → TxnRecord ℕ → Outcome ℕ → Type 0
 HasUsedPlaces batches p t (Aborted (ReadsFull queued left)) = t.ticket ≡ 1 → batches ≤ gets_in t.ops
 HasUsedPlaces batches p t (Aborted (WritesFull keys)) = p.writes ≤ writes_in t.ops
+HasUsedPlaces batches p t (Aborted (ShareReads keys)) = ⊥
+HasUsedPlaces batches p t (Aborted (ShareWrites keys)) = ⊥
 HasUsedPlaces batches p t _ = Unit {0}
 
 -- Over whatever acts of one client and the driver, from a desk with at least so many batches left on.
 abbrev pub LoneUsesPlaces : Type 0
 LoneUsesPlaces = (beat : BeatKind) (p : Params) (epoch left client : ℕ) (acts : List Act) (d : DeskState) (batches : ℕ)
-    → MayOpen (record { params = p }) epoch left (client ∷ []) → All (IsAllowed beat) acts → Leads (new_desk (record { params = p }) epoch left (client ∷ [])) (history acts) d
+    → MayOpen (setup_of p) epoch left (client ∷ []) → All (IsAllowed beat) acts → Leads (new_desk (setup_of p) epoch left (client ∷ [])) (history acts) d
     → batches ≤ left → All (λ r. All (λ t. HasUsedPlaces batches p t t.outcome) r.txns) (records acts)
 
 -- The committed transaction of a record is its last one.
@@ -78,10 +80,12 @@ pub record AsksFew (batches : ℕ) (p : Params) (asked : ScriptTxn) : Type 0 whe
   pub gets : gets_asked asked.asks < batches
   pub writes : writes_asked asked.asks < p.writes
 
--- it was turned away for want of a place
+-- it was turned away for want of a place, or of one of its client's share
 abbrev pub IsTurnedAway : Outcome ℕ → Type 0
 IsTurnedAway (Aborted (ReadsFull queued left)) = Unit {0}
 IsTurnedAway (Aborted (WritesFull keys)) = Unit {0}
+IsTurnedAway (Aborted (ShareReads keys)) = Unit {0}
+IsTurnedAway (Aborted (ShareWrites keys)) = Unit {0}
 IsTurnedAway _ = ⊥
 
 -- The first transaction of the epoch has its places; and later ones have theirs for writes.
@@ -92,8 +96,8 @@ pub record AreLetIn (r : EpochRecord ℕ) : Type 0 where
 -- A lone client isn't turned away, where each transaction of its script asks for few gets and writes.
 abbrev pub LoneIsLetIn : Type 0
 LoneIsLetIn = (beat : BeatKind) (p : Params) (epoch left client : ℕ) (script : Scripts) (acts : List Act) (d : DeskState)
-    → MayOpen (record { params = p }) epoch left (client ∷ []) → All (AsksFew left p) script.txns
-    → All (IsAllowed beat) acts → Leads (new_desk (record { params = p }) epoch left (client ∷ [])) (history acts) d
+    → MayOpen (setup_of p) epoch left (client ∷ []) → All (AsksFew left p) script.txns
+    → All (IsAllowed beat) acts → Leads (new_desk (setup_of p) epoch left (client ∷ [])) (history acts) d
     → ClientsServed script (records acts) → All AreLetIn (records acts)
 
 -- The record has one transaction, which is committed.

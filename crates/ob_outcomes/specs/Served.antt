@@ -5,9 +5,9 @@ use Rattle.ob_base.specs.declared.params.Params.{Params}
 use Rattle.ob_base.specs.declared.op.Op.{Op}
 use Rattle.ob_serial.specs.declared.records.Outcome.{Outcome}
 use Rattle.ob_serial.specs.declared.records.Outcome.TheVariants.{Committed, Aborted, Unsure}
-use Rattle.ob_serial.specs.declared.records.Why.TheVariants.{ReadsFull, WritesFull, EpochEnd, Asked}
+use Rattle.ob_serial.specs.declared.records.Why.TheVariants.{ReadsFull, WritesFull, ShareReads, ShareWrites, EpochEnd, Asked}
 use Rattle.ob_serial.specs.Serial.{EpochRecord, Map, TxnRecord}
-use Rattle.ob_desk.specs.Desk.{DeskState, Run, new_desk}
+use Rattle.ob_desk.specs.Desk.{DeskState, Run, new_desk, setup_of}
 use Rattle.ob_desk.specs.declared.calls.Look.{Look}
 use Rattle.ob_desk.specs.Beats.{BeatKind}
 use Rattle.ob_session.specs.Steps.{Leads}
@@ -65,11 +65,13 @@ AreDue beat closed (_ ∷ acts) = AreDue beat closed acts
 abbrev pub IsPatient : BeatKind → Type 0
 IsPatient beat = (waiting live queued left : ℕ) → beat.passes waiting live queued left ≡ true → waiting ≡ live
 
--- It is committed, or had no place for a read or a write, or its client asked for its abort.
+-- It is committed, or had no place for a read or a write, or its client's share had none, or its client asked for its abort.
 abbrev pub IsLonely : Outcome ℕ → Type 0
 IsLonely Committed = Unit {0}
 IsLonely (Aborted (ReadsFull queued left)) = Unit {0}
 IsLonely (Aborted (WritesFull keys)) = Unit {0}
+IsLonely (Aborted (ShareReads keys)) = Unit {0}
+IsLonely (Aborted (ShareWrites keys)) = Unit {0}
 IsLonely (Aborted Asked) = Unit {0}
 IsLonely _ = ⊥
 
@@ -87,9 +89,9 @@ pub record Evidence (Shape : List Act → Type 0) (IsMap : Map nat_cmp → Type 
   pub turns : KeepRule (script_rule script) [] acts
   pub rounds : Shape acts
   pub desk : DeskState
-  pub leads : Leads (new_desk (record { params = p }) (suc epoch) left script.clients) (history acts) desk
+  pub leads : Leads (new_desk (setup_of p) (suc epoch) left script.clients) (history acts) desk
   -- What batches delivered is the map's, of each such map, so the acts are a run from it.
-  pub fed : (m : Map nat_cmp) → IsMap m → Run m (new_desk (record { params = p }) (suc epoch) left script.clients) (history acts) (contents m (records acts)) desk
+  pub fed : (m : Map nat_cmp) → IsMap m → Run m (new_desk (setup_of p) (suc epoch) left script.clients) (history acts) (contents m (records acts)) desk
 
 -- A run of a script, of whose acts the records are told.
 pub record IsServed (Shape : List Act → Type 0) (IsMap : Map nat_cmp → Type 0) (beat : BeatKind) (p : Params) (epoch left : ℕ) (script : Scripts) (told : List (EpochRecord ℕ)) : Type 0 where
@@ -98,7 +100,7 @@ pub record IsServed (Shape : List Act → Type 0) (IsMap : Map nat_cmp → Type 
   -- Each client's transactions are a front of its script's, in order, each once, with the operations that it means.
   pub first : ClientsServed script told
   -- How each transaction ended is shown by its record; and for the end of its epoch one is aborted only where the beat was due.
-  pub shown : All (λ r. All (λ t. IsOutcome p r t t.outcome) r.txns) told
+  pub shown : All (λ r. All (λ t. IsOutcome (setup_of p) r t t.outcome) r.txns) told
   pub due : AreDue beat None evidence.acts
   -- epochs and tickets are numbered one by one, and each epoch has a transaction
   pub numbered : AreNumbered (suc epoch) told

@@ -2,10 +2,10 @@
 use Rattle.std.specs.Prelude.{ℕ, ◌≡◌, ◌<◌, ◌≤◌, ◌*◌, ◌⊎◌, true, false, All, Contains, List, map, length}
 use Rattle.std.specs.List.{range_with_len}
 use Rattle.std.specs.declared.option.Option.{Option}
-use Rattle.ob_base.specs.declared.params.Params.{Params}
+use Rattle.std.specs.declared.option.Option.TheVariants.{Some}
 use Rattle.ob_base.specs.declared.op.Op.TheVariants.{Get}
 use Rattle.ob_serial.specs.declared.records.Why.{Why}
-use Rattle.ob_serial.specs.declared.records.Why.TheVariants.{Conflict, Depends, ReadsFull, WritesFull, EpochEnd, Asked, Stopped}
+use Rattle.ob_serial.specs.declared.records.Why.TheVariants.{Conflict, Depends, ReadsFull, WritesFull, ShareReads, ShareWrites, EpochEnd, Asked, Stopped}
 use Rattle.ob_serial.specs.declared.records.Outcome.{Outcome}
 use Rattle.ob_serial.specs.declared.records.Outcome.TheVariants.{Committed, Aborted, Unsure}
 use Rattle.ob_serial.specs.Serial.{TxnRecord, EpochRecord, AreInOrder, is_committed}
@@ -48,25 +48,27 @@ abbrev pub SourcesStand : EpochRecord ℕ → TxnRecord ℕ → Type 0
 SourcesStand r t = (key source : ℕ) → HasGot t key source → (source ≡ 0) ⊎ ((source ≤ t.ticket) × IsCommittedIn r source)
 
 -- why t was aborted, shown by the record
-abbrev pub IsWhy : Params → EpochRecord ℕ → TxnRecord ℕ → Why ℕ → Type 0
-IsWhy p r t (Conflict key reader) = ReaderIsThere r t key reader
-IsWhy p r t (Depends on) = SourceIsGone r t on
-IsWhy p r t (ReadsFull queued left) = queued ≡ p.places * left
-IsWhy p r t (WritesFull keys) = keys ≡ p.writes
-IsWhy p r t EpochEnd = Unit {0}
-IsWhy p r t Asked = Unit {0}
-IsWhy p r t (Stopped fault) = ⊥
+abbrev pub IsWhy : Setup → EpochRecord ℕ → TxnRecord ℕ → Why ℕ → Type 0
+IsWhy setup r t (Conflict key reader) = ReaderIsThere r t key reader
+IsWhy setup r t (Depends on) = SourceIsGone r t on
+IsWhy setup r t (ReadsFull queued left) = queued ≡ setup.params.places * left
+IsWhy setup r t (WritesFull keys) = keys ≡ setup.params.writes
+IsWhy setup r t (ShareReads keys) = setup.shares.reads ≡ Some keys
+IsWhy setup r t (ShareWrites keys) = setup.shares.writes ≡ Some keys
+IsWhy setup r t EpochEnd = Unit {0}
+IsWhy setup r t Asked = Unit {0}
+IsWhy setup r t (Stopped fault) = ⊥
 
 -- how t ended, shown by the record: none was stopped, and of none it is unknown
-abbrev pub IsOutcome : Params → EpochRecord ℕ → TxnRecord ℕ → Outcome ℕ → Type 0
-IsOutcome p r t Committed = SourcesStand r t
-IsOutcome p r t (Aborted why) = IsWhy p r t why
-IsOutcome p r t (Unsure epoch) = ⊥
+abbrev pub IsOutcome : Setup → EpochRecord ℕ → TxnRecord ℕ → Outcome ℕ → Type 0
+IsOutcome setup r t Committed = SourcesStand r t
+IsOutcome setup r t (Aborted why) = IsWhy setup r t why
+IsOutcome setup r t (Unsure epoch) = ⊥
 
 -- whatever calls were made of a new desk, of each published transaction
 abbrev pub OutcomesAreShown : Type 0
 OutcomesAreShown = (setup : Setup) (epoch left : ℕ) (clients : List ℕ) (steps : List (Call × Reply)) (d : DeskState)
-    → MayOpen setup epoch left clients → Leads (new_desk setup epoch left clients) steps d → All (λ r. All (λ t. IsOutcome setup.params r t t.outcome) r.txns) (published steps)
+    → MayOpen setup epoch left clients → Leads (new_desk setup epoch left clients) steps d → All (λ r. All (λ t. IsOutcome setup r t t.outcome) r.txns) (published steps)
 
 -- Epochs count on by one from the first, and an epoch's tickets from 1.
 pub record AreNumbered (epoch : ℕ) (records : List (EpochRecord ℕ)) : Type 0 where

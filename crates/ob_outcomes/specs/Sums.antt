@@ -6,7 +6,7 @@ use Rattle.std.specs.Ordering.{nat_cmp}
 use Rattle.std.specs.FinMap as finite
 use Rattle.ob_base.specs.declared.params.Params.{Params}
 use Rattle.ob_serial.specs.Serial.{EpochRecord, Map, Replays}
-use Rattle.ob_desk.specs.Desk.{DeskState, Setup, Call, Reply, MayOpen, Run, new_desk, published}
+use Rattle.ob_desk.specs.Desk.{DeskState, Setup, Call, Reply, MayOpen, Run, new_desk, published, setup_of}
 use Rattle.ob_desk.specs.Beats.{BeatKind}
 use Rattle.ob_script.specs.declared.line.Ask.{Ask}
 use Rattle.ob_script.specs.declared.line.Ask.TheVariants.{Get, Put, Del, Add}
@@ -68,7 +68,7 @@ pub record CountsAll (m : Map nat_cmp) (script : List ScriptTxn) (told : List (E
 -- Over acts of one client whose script's transactions each add 1 to a key, from a map without keys on.
 abbrev pub LoneCountsUp : Type 0
 LoneCountsUp = (beat : BeatKind) (p : Params) (epoch left client : ℕ) (script : Scripts) (acts : List Act) (d : DeskState) (m last : Map nat_cmp)
-    → MayOpen (record { params = p }) epoch left (client ∷ []) → All (IsAllowed beat) acts → Run m (new_desk (record { params = p }) epoch left (client ∷ [])) (history acts) last d
+    → MayOpen (setup_of p) epoch left (client ∷ []) → All (IsAllowed beat) acts → Run m (new_desk (setup_of p) epoch left (client ∷ [])) (history acts) last d
     → All IsAdder script.txns → All (λ s. s.client ≡ client) script.txns → All (AsksFew left p) script.txns → length script.txns < 2 ^ 62 → ((key : ℕ) → finite.get m key ≡ None)
     → ClientsServed script (records acts) → All (λ r. All (λ t. IsLonely t.outcome) r.txns) (records acts) → All (λ r. 0 < length r.txns) (records acts)
     → CountsUp m script.txns (records acts) × (ClientsServedAll script (records acts) → CountsAll m script.txns (records acts))

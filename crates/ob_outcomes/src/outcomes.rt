@@ -51,7 +51,8 @@ pub fn outcomes_are_shown()
 {}
 
 /// With one client no transaction is aborted because of another: each is committed, or aborted
-/// because its client asked, because a batch has no place, or at the epoch's end.
+/// because its client asked, because a batch or its client's share has no place, or at the epoch's
+/// end.
 pub fn one_client()
     ensures { OneClient }
 {}

@@ -6,7 +6,7 @@ use Rattle.ob_base.specs.declared.fault.Fault.TheVariants.{Memory, Usage, BadScr
 use Rattle.ob_base.specs.declared.fault.Check.{Check}
 use Rattle.ob_base.specs.declared.fault.Check.TheVariants.{Tag, Seal, Epoch, Form}
 use Rattle.ob_base.specs.declared.fault.Field.{Field}
-use Rattle.ob_base.specs.declared.fault.Field.TheVariants.{N, L, Z, S, R, BR, BW, E, T, LANES, COUNT, KEYS}
+use Rattle.ob_base.specs.declared.fault.Field.TheVariants.{N, L, Z, S, R, BR, BW, E, T, LANES, COUNT, KEYS, READS, WRITES}
 use Rattle.ob_report.specs.Report.{line_end}
 
 abbrev pub fault_status : Fault → ℕ
@@ -41,6 +41,8 @@ field_text T = codes "T"
 field_text LANES = codes "LANES"
 field_text COUNT = codes "COUNT"
 field_text KEYS = codes "KEYS"
+field_text READS = codes "READS"
+field_text WRITES = codes "WRITES"
 
 abbrev pub unsure_text : Option ℕ → List ℕ
 unsure_text None = []

@@ -6,7 +6,7 @@ use Rattle.ob_base.specs.declared.op.Op.TheVariants.{Get, Put, Del}
 use Rattle.ob_serial.specs.declared.records.Outcome.{Outcome}
 use Rattle.ob_serial.specs.declared.records.Outcome.TheVariants.{Committed, Aborted, Unsure}
 use Rattle.ob_serial.specs.declared.records.Why.{Why}
-use Rattle.ob_serial.specs.declared.records.Why.TheVariants.{Conflict, Depends, ReadsFull, WritesFull, EpochEnd, Asked, Stopped}
+use Rattle.ob_serial.specs.declared.records.Why.TheVariants.{Conflict, Depends, ReadsFull, WritesFull, ShareReads, ShareWrites, EpochEnd, Asked, Stopped}
 use Rattle.ob_serial.specs.Serial.{TxnRecord, EpochRecord}
 
 abbrev pub line_end : List ℕ
@@ -28,6 +28,8 @@ module _ {K : Type 0} (key_text : K → List ℕ) where
   why_text (Depends on) = codes "depends on " ++ decimal on
   why_text (ReadsFull queued left) = codes "reads full queued " ++ decimal queued ++ codes " left " ++ decimal left
   why_text (WritesFull keys) = codes "writes full keys " ++ decimal keys
+  why_text (ShareReads keys) = codes "share reads " ++ decimal keys
+  why_text (ShareWrites keys) = codes "share writes " ++ decimal keys
   why_text EpochEnd = codes "epoch end"
   why_text Asked = codes "asked"
   -- no record that is published has these two

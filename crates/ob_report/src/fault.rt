@@ -58,6 +58,8 @@ fn field_text(field: Field) -> &'static [u8]
         Field::LANES => b"LANES",
         Field::COUNT => b"COUNT",
         Field::KEYS => b"KEYS",
+        Field::READS => b"READS",
+        Field::WRITES => b"WRITES",
     }
 }
 

@@ -128,6 +128,8 @@ fn put_why<S: Sink>(sink: &mut S, page: &mut Page, why: Why<Key>) -> Result<(), 
         Why::WritesFull { keys } => {
             put_number(sink, page, b"aborted writes full keys ", keys, b"\n")
         }
+        Why::ShareReads { keys } => put_number(sink, page, b"aborted share reads ", keys, b"\n"),
+        Why::ShareWrites { keys } => put_number(sink, page, b"aborted share writes ", keys, b"\n"),
         Why::EpochEnd => put_bytes(sink, page, b"aborted epoch end\n"),
         Why::Asked => put_bytes(sink, page, b"aborted asked\n"),
         Why::Stopped { .. } => put_bytes(sink, page, b"aborted stopped\n"),

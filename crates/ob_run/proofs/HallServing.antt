@@ -6,7 +6,7 @@ use Rattle.ob_conduct.specs.declared.run_err.RunErr.{RunErr}
 use Rattle.ob_base.specs.declared.params.Params.{Params}
 use Rattle.ob_serial.specs.Vaults.{VaultCounts}
 use Rattle.ob_serial.specs.VaultKinds.{Kind}
-use Rattle.ob_desk.specs.Desk.{DeskState, MayOpen, new_desk}
+use Rattle.ob_desk.specs.Desk.{DeskState, MayOpen, new_desk, setup_of}
 use Rattle.ob_desk.specs.Beats.{BeatKind}
 use Rattle.ob_hall.specs.Passes.{Steps, Hall, Pass, opening_of, IsPassOf, IsOutOfTurn}
 use Rattle.ob_hall.specs.Opening.{AreClients, ArePasses}
@@ -29,7 +29,7 @@ use Rattle.ob_run.proofs.Seats.{seated, still_clients, still_ready}
 use Rattle.ob_run.proofs.Whole.{served}
 
 module _ {V U Plan : Type 0} (k : Kind V) (beat : BeatKind) (client bound : U → ℕ) (plan : U → Plan) (fits : U → Steps → Type 0) (turn : Plan → StepRule) (p : Params) (hall : Hall) (c : VaultCounts) (runners : List U) (others : List Pass) (cs : List (Pass × U))
-    (old : Side V) (opening : opening_of hall ≡ new_desk (record { params = p }) (suc c.epoch) c.left (map client runners)) (serves : c.spent ≡ false) (passes : ArePasses hall (map client runners) (old.pass ∷ others))
+    (old : Side V) (opening : opening_of hall ≡ new_desk (setup_of p) (suc c.epoch) c.left (map client runners)) (serves : c.spent ≡ false) (passes : ArePasses hall (map client runners) (old.pass ∷ others))
     (runners_are : map (λ (x : Pass × U). x.1) cs ≡ runners) (passes_are : map (λ (x : Pass × U). x.0) cs ≡ others) (below : All (λ u. bound u ≤ p.keys) runners) (none_made : All (λ u. fits u []) runners) (starts : ℕ) where
   abbrev w : Words U Plan
   w = words client bound plan fits turn
@@ -69,7 +69,7 @@ module _ {V U Plan : Type 0} (k : Kind V) (beat : BeatKind) (client bound : U �
       },
     )
 
-    pub in_threads : (back : List U) (d : DeskState) → back ≡ runners_of ns → IsWholeHistory hall (new.pass ∷ passes_of ns) d → MayOpen (record { params = p }) (suc c.epoch) c.left numbers → HistoriesWeave k → AreOwnCalls → IsQuiet turn → OverRunsEndOver k → FailedRunsFail k
+    pub in_threads : (back : List U) (d : DeskState) → back ≡ runners_of ns → IsWholeHistory hall (new.pass ∷ passes_of ns) d → MayOpen (setup_of p) (suc c.epoch) c.left numbers → HistoriesWeave k → AreOwnCalls → IsQuiet turn → OverRunsEndOver k → FailedRunsFail k
         → IdleHallsHaveNone → InThreads starts k kind beat (run_state (scene (opening_of hall) old.vault old.trace) runners old.output) (run_state (scene d new.vault new.trace) back new.output) result
     in_threads back d back_is whole opens weave own_calls quiet over fails idle =
         subst (λ (us : List U). InThreads starts k kind beat (run_state (scene (opening_of hall) old.vault old.trace) us old.output) (run_state (scene d new.vault new.trace) back new.output) result) runners_are

@@ -11,7 +11,8 @@ use Rattle.ob_base.specs.declared.fault.Fault.TheVariants.{Memory}
 use Rattle.ob_order.specs.Order.{OrderState, asked, is_asked_for, batch_in_flight}
 use Rattle.ob_order.proofs.Batches.{taken_in_flight}
 use Rattle.ob_desk.specs.Desk as desk
-use Rattle.ob_desk.specs.Desk.{DeskState, Setup, Call, Reply, MayCall, DeskStep, MayOpen, new_desk}
+use Rattle.ob_desk.specs.Desk.{DeskState, Setup, Call, Reply, MayCall, DeskStep, MayOpen, new_desk, setup_of}
+use Rattle.ob_shares.proofs.Fitting.{none_fit}
 use Rattle.ob_session.specs.Steps.{Leads, IsOwn}
 use Rattle.ob_session.specs.Clients.{said_by}
 use Rattle.ob_session.specs.Agreeing.{Agrees}
@@ -42,13 +43,15 @@ step_kept client d (desk.Begin c) (desk.Refused f) new own step = all_kept d new
 step_kept client d (desk.GetKey x k) (desk.Value value) new own step = kept_by d new _ step.state (record { setup = refl; closed = λ none. none; flying = refl })
 step_kept client d (desk.GetKey x k) desk.Waits new own step = kept_by d new _ step.state (record { setup = refl; closed = λ none. none; flying = asked_flying d.running.order k })
 step_kept client d (desk.GetKey x k) (desk.Aborted why) new own (inl step) = all_kept d new step.same
-step_kept client d (desk.GetKey x k) (desk.Aborted why) new own (inr step) = kept_by d new _ step.state (record { setup = refl; closed = λ none. none; flying = refl })
+step_kept client d (desk.GetKey x k) (desk.Aborted why) new own (inr (inl step)) = kept_by d new _ step.state (record { setup = refl; closed = λ none. none; flying = refl })
+step_kept client d (desk.GetKey x k) (desk.Aborted why) new own (inr (inr step)) = kept_by d new _ step.state (record { setup = refl; closed = λ none. none; flying = refl })
 step_kept client d (desk.Poll x) (desk.Value value) new own step = kept_by d new _ step.state (record { setup = refl; closed = λ none. none; flying = refl })
 step_kept client d (desk.Poll x) desk.Waits new own step = all_kept d new step.same
 step_kept client d (desk.Poll x) (desk.Aborted why) new own step = all_kept d new step.same
 step_kept client d (desk.Write x k value) desk.Done new own step = kept_by d new _ step.state (record { setup = refl; closed = λ none. none; flying = refl })
 step_kept client d (desk.Write x k value) (desk.Aborted why) new own (inl step) = all_kept d new step.same
-step_kept client d (desk.Write x k value) (desk.Aborted why) new own (inr step) = kept_by d new _ step.state (record { setup = refl; closed = λ none. none; flying = refl })
+step_kept client d (desk.Write x k value) (desk.Aborted why) new own (inr (inl step)) = kept_by d new _ step.state (record { setup = refl; closed = λ none. none; flying = refl })
+step_kept client d (desk.Write x k value) (desk.Aborted why) new own (inr (inr step)) = kept_by d new _ step.state (record { setup = refl; closed = λ none. none; flying = refl })
 step_kept client d (desk.Commit x) desk.Done new own step = kept_by d new _ step.state (record { setup = refl; closed = λ none. none; flying = refl })
 step_kept client d (desk.Commit x) (desk.Aborted why) new own step = all_kept d new step.same
 step_kept client d (desk.Abort x) (desk.Aborted why) new own (inl step) = all_kept d new step.same
@@ -143,12 +146,13 @@ pub found_in : (xs : List ℕ) (x : ℕ) (r : Bool) → IsAnyAnswer (λ y t. eqb
 found_in xs x r answer e = (Decides-contains xs x r (contains_decides eqb Decides-eqb xs x r answer)).0 e
 
 -- a script's clients may open a desk
-pub may_open : (params : Params) (scripts : Scripts) (clients : List ℕ) → AreSound scripts → clients ≡ scripts.clients → params.batches ≡ 2 → MayOpen (record { params = params }) 1 2 clients
+pub may_open : (params : Params) (scripts : Scripts) (clients : List ℕ) → AreSound scripts → clients ≡ scripts.clients → params.batches ≡ 2 → MayOpen (setup_of params) 1 2 clients
 may_open params scripts clients sound same batches = record {
   few_left = omega (arith, batches);
   low_epoch = omega arith;
   named = subst (λ (cs : List ℕ). All (λ c. (1 ≤ c) × (c ≤ 64)) cs) (sym same) sound.named;
   rising = subst (λ (cs : List ℕ). IsStrictlyIncreasing cs) (sym same) sound.rising;
+  fit = none_fit (length clients) params.places params.writes;
 }
 
 -- a new one of each go together

@@ -14,6 +14,7 @@ use ob_runner::runners;
 use ob_script::{Scripts, parse};
 use ob_seal::Keys;
 use ob_serial::Vault;
+use ob_shares::NO_SHARES;
 use ob_store::{Blind, SinkWatch, Watch};
 use std::alloc::Global;
 use std::process::Abort;
@@ -70,7 +71,14 @@ fn run_over<R: Threads + Wait + Sync + Abort, V: Vault, W: Watch, B: Beat>(
         panic!(rt; "no memory")
     };
     let clients = scripts.clients();
-    let Ok(desk) = Desk::new(alloc, params, vault.epoch() + 1, vault.left(), clients) else {
+    let Ok(desk) = Desk::new(
+        alloc,
+        params,
+        vault.epoch() + 1,
+        vault.left(),
+        clients,
+        NO_SHARES,
+    ) else {
         panic!(rt; "no memory")
     };
     if let Way::Starts(count) = way {

@@ -10,6 +10,7 @@ use ob_runner::{ScriptRunner, sum_of};
 use ob_script::{Scripts, parse};
 use ob_serial::{Outcome, Why};
 use ob_session::{Made, Runner, Said, Step};
+use ob_shares::NO_SHARES;
 use std::alloc::Global;
 use std::process::Abort;
 
@@ -59,7 +60,7 @@ fn open(alloc: Global, scripts: &Scripts, client: u32) -> Option<(ScriptRunner, 
     let Ok(runner) = ScriptRunner::new(alloc, scripts, client) else {
         return None;
     };
-    let Ok(desk) = Desk::new(alloc, &params, 1, 2, clients) else {
+    let Ok(desk) = Desk::new(alloc, &params, 1, 2, clients, NO_SHARES) else {
         return None;
     };
     Some((runner, desk))

@@ -4,7 +4,7 @@ use Rattle.std.specs.Prelude.{◌⊎◌, is_some}
 use Rattle.std.specs.Option.{option_map}
 use Rattle.std.proofs.lemmas.Option.{none-some, same_Some}
 use Rattle.ob_serial.specs.declared.records.Why.{Why}
-use Rattle.ob_serial.specs.declared.records.Why.TheVariants.{Asked, Conflict, ReadsFull, WritesFull}
+use Rattle.ob_serial.specs.declared.records.Why.TheVariants.{Asked, Conflict, ReadsFull, ShareReads, ShareWrites, WritesFull}
 use Rattle.ob_serial.specs.declared.records.Outcome.{Outcome}
 use Rattle.ob_serial.specs.declared.records.Outcome.TheVariants.{Aborted as AbortedBy}
 use Rattle.ob_order.specs.declared.answers.Wrote.{Wrote}
@@ -98,14 +98,16 @@ refused_not (WritesAreFull keys) why is e = let same : WritesFull keys ≡ Asked
 
 pub get_not_asked : (d new : DeskState) (x : Txn) (key : ℕ) (why : Why ℕ) → IsNotGivenUp d x → DeskStep d (desk.GetKey x key) (desk.Aborted why) new → why ≡ Asked → ⊥
 get_not_asked d new x key why known (inl was) e = earlier_not d x why known was.earlier e
-get_not_asked d new x key why known (inr full) e = let same : ReadsFull full.queued full.left ≡ Asked = sym full.cause ∙ e in cc same
+get_not_asked d new x key why known (inr (inl full)) e = let same : ReadsFull full.queued full.left ≡ Asked = sym full.cause ∙ e in cc same
+get_not_asked d new x key why known (inr (inr past)) e = let same : ShareReads past.keys ≡ Asked = sym past.cause ∙ e in cc same
 
 pub poll_not_asked : (d new : DeskState) (x : Txn) (why : Why ℕ) → IsNotGivenUp d x → DeskStep d (desk.Poll x) (desk.Aborted why) new → why ≡ Asked → ⊥
 poll_not_asked d new x why known was e = earlier_not d x why known was.earlier e
 
 pub write_not_asked : (d new : DeskState) (x : Txn) (key : ℕ) (value : Option (List ℕ)) (why : Why ℕ) → IsNotGivenUp d x → DeskStep d (desk.Write x key value) (desk.Aborted why) new → why ≡ Asked → ⊥
 write_not_asked d new x key value why known (inl was) e = earlier_not d x why known was.earlier e
-write_not_asked d new x key value why known (inr refused) e = refused_not (write_reply d.setup.params d.running.order x.ticket key) why refused.cause e
+write_not_asked d new x key value why known (inr (inl refused)) e = refused_not (write_reply d.setup.params d.running.order x.ticket key) why refused.cause e
+write_not_asked d new x key value why known (inr (inr past)) e = let same : ShareWrites past.keys ≡ Asked = sym past.cause ∙ e in cc same
 
 pub commit_not_asked : (d new : DeskState) (x : Txn) (why : Why ℕ) → IsNotGivenUp d x → DeskStep d (desk.Commit x) (desk.Aborted why) new → why ≡ Asked → ⊥
 commit_not_asked d new x why known was e = earlier_not d x why known was.earlier e

@@ -16,6 +16,10 @@ pub enum Why<K> {
     ReadsFull { queued: u64, left: u64 },
     /// So many other keys had versions that the write batch had no place for its write.
     WritesFull { keys: u64 },
+    /// Its client's gets had named so many other keys in the epoch, which is its share.
+    ShareReads { keys: u64 },
+    /// Its client's puts and deletes had named so many other keys in the epoch, which is its share.
+    ShareWrites { keys: u64 },
     /// Its epoch was closed before it asked to commit.
     EpochEnd,
     /// Its client asked for it.

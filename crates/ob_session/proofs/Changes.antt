@@ -7,6 +7,7 @@ use Rattle.ob_serial.specs.declared.records.Outcome.TheVariants.{Aborted as Abor
 use Rattle.ob_serial.specs.Serial.{TxnRecord}
 use Rattle.ob_order.specs.Works.{Work, at_ticket, edit, end_work}
 use Rattle.ob_order.specs.Order.{OrderState}
+use Rattle.ob_shares.specs.Shares.{Uses}
 use Rattle.ob_desk.specs.declared.calls.Txn.{Txn}
 use Rattle.ob_desk.specs.declared.clients.Holder.{Holder}
 use Rattle.ob_desk.specs.declared.clients.Client.{Client}
@@ -23,7 +24,7 @@ pub same : (d new : DeskState) (n : ℕ) (txns : List (TxnRecord ℕ)) (told : L
 same d new n txns told signed e m = subst (λ (q : DeskState). Mirror q n txns told signed) (sym e) m
 
 -- nothing changed for this client
-pub in_running : (d new : DeskState) (n : ℕ) (txns : List (TxnRecord ℕ)) (told : List Told) (signed : Bool) (o : OrderState) (hs : List Holder) → new ≡ record d { running = record d.running { order = o; holders = hs } }
+pub in_running : {u : Uses} (d new : DeskState) (n : ℕ) (txns : List (TxnRecord ℕ)) (told : List Told) (signed : Bool) (o : OrderState) (hs : List Holder) → new ≡ record d { running = record d.running { order = o; holders = hs; uses = u } }
     → ((running : List Told) → Tells n d.running.epoch d.running.order.works d.running.holders running → Tells n d.running.epoch o.works hs running) → Mirror d n txns told signed → Mirror new n txns told signed
 in_running d new n txns told signed o hs e keep m = subst (λ (q : DeskState). Mirror q n txns told signed) (sym e) (record {
   client = m.client;
@@ -82,10 +83,10 @@ live_runs d n txns told signed x m h named live = step m.last
         absurd (omega (arith, before, e, here))
 
 -- it changes, and what was told of it
-pub own_edited : (d new : DeskState) (n : ℕ) (txns : List (TxnRecord ℕ)) (told : List Told) (signed : Bool) (x : Txn) (f : Work → Work) (g : Holder → Holder) (k : Told → Told) (o : OrderState) (hs : List Holder)
+pub own_edited : {u : Uses} (d new : DeskState) (n : ℕ) (txns : List (TxnRecord ℕ)) (told : List Told) (signed : Bool) (x : Txn) (f : Work → Work) (g : Holder → Holder) (k : Told → Told) (o : OrderState) (hs : List Holder)
     → (m : Mirror d n txns told signed) → RunsAs x m.client m.running → ((h : Holder) → (g h).client ≡ h.client) → ((one : Told) → (k one).txn ≡ one.txn)
     → ((w : Work) (h : Holder) (one : Told) → at_ticket d.running.order.works x.ticket ≡ Some w → at_ticket d.running.holders x.ticket ≡ Some h → Fits n d.running.epoch x.ticket w h one → Fits n d.running.epoch x.ticket (f w) (g h) (k one))
-    → o.works ≡ edit f d.running.order.works x.ticket → hs ≡ edit g d.running.holders x.ticket → new ≡ record d { running = record d.running { order = o; holders = hs } } → Mirror new n txns (on_last k told) signed
+    → o.works ≡ edit f d.running.order.works x.ticket → hs ≡ edit g d.running.holders x.ticket → new ≡ record d { running = record d.running { order = o; holders = hs; uses = u } } → Mirror new n txns (on_last k told) signed
 own_edited d new n txns told signed x f g k o hs m r keeps name_kept fit works_are holders_are e = subst (λ (q : DeskState). Mirror q n txns (on_last k told) signed) (sym e) (record {
   client = m.client;
   found = m.found;
@@ -106,8 +107,8 @@ own_edited d new n txns told signed x f g k o hs m r keeps name_kept fit works_a
 })
 
 -- it is aborted, and told so
-pub own_ended : (d new : DeskState) (n : ℕ) (txns : List (TxnRecord ℕ)) (told : List Told) (signed : Bool) (x : Txn) (why : Why ℕ) → (m : Mirror d n txns told signed) → RunsAs x m.client m.running
-    → new ≡ record d { running = end_of d.running x.ticket why } → Mirror new n txns (on_last (over (AbortedBy why)) told) signed
+pub own_ended : {u : Uses} (d new : DeskState) (n : ℕ) (txns : List (TxnRecord ℕ)) (told : List Told) (signed : Bool) (x : Txn) (why : Why ℕ) → (m : Mirror d n txns told signed) → RunsAs x m.client m.running
+    → new ≡ record d { running = record (end_of d.running x.ticket why) { uses = u } } → Mirror new n txns (on_last (over (AbortedBy why)) told) signed
 own_ended d new n txns told signed x why m r e =
     let ws : List Work = edit end_work d.running.order.works x.ticket in
     let hs : List Holder = edit (note_cause why) d.running.holders x.ticket in

@@ -9,6 +9,7 @@ use Rattle.ob_order.specs.Works.{Work, at_ticket, edit, add_op, wait_for}
 use Rattle.ob_order.specs.Order.{OrderState, after_read, after_again, after_write, after_take, after_deliver, write_op}
 use Rattle.ob_order.specs.declared.answers.Read.TheVariants.{Value as Found, Queued}
 use Rattle.ob_order.specs.declared.answers.Wrote.TheVariants.{Yes}
+use Rattle.ob_shares.specs.Shares.{Uses}
 use Rattle.ob_desk.specs.declared.calls.Txn.{Txn}
 use Rattle.ob_desk.specs.declared.clients.Holder.{Holder}
 use Rattle.ob_desk.specs.Desk.{DeskState, Call, Begin, GetKey, Poll, Write, Commit, Abort, Settled, Looks, SignOff, Stop, Unsure, IsStopped, TakeBatch, Deliver, Close, Publish, Reply, Begun, Refused}
@@ -34,7 +35,7 @@ module _ (d : DeskState) (n : ℕ) (txns : List (TxnRecord ℕ)) (told : List To
   not_mine = theirs x (differ x.client n other) last live
 
   -- another's work changes
-  worked : (f : Work → Work) (o : OrderState) → o.works ≡ edit f d.running.order.works x.ticket → new ≡ record d { running = record d.running { order = o } } → Mirror new n txns told signed
+  worked : {u : Uses} (f : Work → Work) (o : OrderState) → o.works ≡ edit f d.running.order.works x.ticket → new ≡ record d { running = record d.running { order = o; uses = u } } → Mirror new n txns told signed
   worked f o works_are e = in_running d new n txns told signed o d.running.holders e (λ running tells. subst (λ (ws : List Work). Tells n d.running.epoch ws d.running.holders running) (sym works_are)
       (worked_at n d.running.epoch f x.ticket d.running.order.works d.running.holders running (λ u w h one at_work at_holder mine fits. absurd (not_mine h at_holder mine)) tells)) m
 
@@ -45,7 +46,7 @@ module _ (d : DeskState) (n : ℕ) (txns : List (TxnRecord ℕ)) (told : List To
       (edited_at n d.running.epoch (λ w. w) note_asked x.ticket d.running.order.works d.running.holders running (λ h. refl) (λ u w h one at_work at_holder mine fits. absurd (not_mine h at_holder mine)) tells)) m
 
   -- it is aborted
-  ended : (why : Why ℕ) → new ≡ record d { running = end_of d.running x.ticket why } → Mirror new n txns told signed
+  ended : {u : Uses} (why : Why ℕ) → new ≡ record d { running = record (end_of d.running x.ticket why) { uses = u } } → Mirror new n txns told signed
   ended why e = in_running d new n txns told signed (end_of d.running x.ticket why).order (end_of d.running x.ticket why).holders e (λ running tells. ended_other n d.running.epoch d.running x.ticket why running not_mine tells) m
 
 pub other_step : (d : DeskState) (n : ℕ) (txns : List (TxnRecord ℕ)) (told : List Told) (signed : Bool) (call : Call) (reply : Reply) (new : DeskState) → is_of n call ≡ false → IsTheirs d n → MayCall d call → DeskStep d call reply new
@@ -56,14 +57,16 @@ other_step d n txns told signed (GetKey x k) (Value value) new other theirs may 
     worked d n txns told signed new x m theirs other may.0 step.live (add_op (Get k value step.source)) (after_read d.running.order x.ticket k (Found value step.source)) refl step.state
 other_step d n txns told signed (GetKey x k) Waits new other theirs may step m = worked d n txns told signed new x m theirs other may.0 step.live (wait_for k) (after_read d.running.order x.ticket k Queued) refl step.state
 other_step d n txns told signed (GetKey x k) (Aborted why) new other theirs may (inl step) m = same d new n txns told signed step.same m
-other_step d n txns told signed (GetKey x k) (Aborted why) new other theirs may (inr step) m = ended d n txns told signed new x m theirs other may.0 step.live why step.state
+other_step d n txns told signed (GetKey x k) (Aborted why) new other theirs may (inr (inl step)) m = ended d n txns told signed new x m theirs other may.0 step.live why step.state
+other_step d n txns told signed (GetKey x k) (Aborted why) new other theirs may (inr (inr step)) m = ended d n txns told signed new x m theirs other may.0 step.live why step.state
 other_step d n txns told signed (Poll x) (Value value) new other theirs may step m =
     worked d n txns told signed new x m theirs other may.0 step.live (add_op (Get step.key value step.source)) (after_again d.running.order x.ticket step.key (Found value step.source)) refl step.state
 other_step d n txns told signed (Poll x) Waits new other theirs may step m = same d new n txns told signed step.same m
 other_step d n txns told signed (Poll x) (Aborted why) new other theirs may step m = same d new n txns told signed step.same m
 other_step d n txns told signed (Write x k value) Done new other theirs may step m = worked d n txns told signed new x m theirs other may.0 step.live (add_op (write_op k value)) (after_write d.running.order x.ticket k value Yes) refl step.state
 other_step d n txns told signed (Write x k value) (Aborted why) new other theirs may (inl step) m = same d new n txns told signed step.same m
-other_step d n txns told signed (Write x k value) (Aborted why) new other theirs may (inr step) m = ended d n txns told signed new x m theirs other may.0 step.live why step.state
+other_step d n txns told signed (Write x k value) (Aborted why) new other theirs may (inr (inl step)) m = ended d n txns told signed new x m theirs other may.0 step.live why step.state
+other_step d n txns told signed (Write x k value) (Aborted why) new other theirs may (inr (inr step)) m = ended d n txns told signed new x m theirs other may.0 step.live why step.state
 other_step d n txns told signed (Commit x) Done new other theirs may step m = asked d n txns told signed new x m theirs other may.0 step.live step.state
 other_step d n txns told signed (Commit x) (Aborted why) new other theirs may step m = same d new n txns told signed step.same m
 other_step d n txns told signed (Abort x) (Aborted why) new other theirs may (inl step) m = same d new n txns told signed step.same m

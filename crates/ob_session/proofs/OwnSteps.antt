@@ -10,6 +10,7 @@ use Rattle.ob_order.specs.Works.{Work, at_ticket, edit, add_op, wait_for}
 use Rattle.ob_order.specs.Order.{OrderState, after_read, after_again, after_write, write_op}
 use Rattle.ob_order.specs.declared.answers.Read.TheVariants.{Value as Found, Queued}
 use Rattle.ob_order.specs.declared.answers.Wrote.TheVariants.{Yes}
+use Rattle.ob_shares.specs.Shares.{Uses}
 use Rattle.ob_desk.specs.declared.calls.Txn.{Txn}
 use Rattle.ob_desk.specs.declared.clients.Holder.{Holder}
 use Rattle.ob_desk.specs.Desk.{DeskState, Call, Begin, GetKey, Poll, Write, Commit, Abort, Settled, Looks, SignOff, Stop, Unsure, IsStopped, TakeBatch, Deliver, Close, Publish, Reply, Begun, Refused}
@@ -39,10 +40,10 @@ was_aborted : (d new : DeskState) (n : ℕ) (txns : List (TxnRecord ℕ)) (told 
 was_aborted d new n txns told signed x o named h is e m = same d new n txns (on_last (over o) told) signed e (over_told d n txns told signed x o m named is h)
 
 -- its work alone changes
-worked : (d new : DeskState) (n : ℕ) (txns : List (TxnRecord ℕ)) (told : List Told) (signed : Bool) (x : Txn) (f : Work → Work) (k : Told → Told) (o : OrderState) (m : Mirror d n txns told signed) → RunsAs x m.client m.running
+worked : {u : Uses} (d new : DeskState) (n : ℕ) (txns : List (TxnRecord ℕ)) (told : List Told) (signed : Bool) (x : Txn) (f : Work → Work) (k : Told → Told) (o : OrderState) (m : Mirror d n txns told signed) → RunsAs x m.client m.running
     → ((one : Told) → (k one).txn ≡ one.txn)
     → ((w : Work) (h : Holder) (one : Told) → at_ticket d.running.order.works x.ticket ≡ Some w → Fits n d.running.epoch x.ticket w h one → Fits n d.running.epoch x.ticket (f w) h (k one))
-    → o.works ≡ edit f d.running.order.works x.ticket → new ≡ record d { running = record d.running { order = o } } → Mirror new n txns (on_last k told) signed
+    → o.works ≡ edit f d.running.order.works x.ticket → new ≡ record d { running = record d.running { order = o; uses = u } } → Mirror new n txns (on_last k told) signed
 worked d new n txns told signed x f k o m r name_kept fit works_are e =
     own_edited d new n txns told signed x f (λ h. h) k o d.running.holders m r (λ h. refl) name_kept (λ w h one at_work at_holder fits. fit w h one at_work fits) works_are (sym (edit_same d.running.holders x.ticket)) e
 
@@ -83,7 +84,7 @@ module _ (d : DeskState) (n : ℕ) (txns : List (TxnRecord ℕ)) (told : List To
       (live_runs d n txns told signed x m h named step.live) (λ q. refl) (λ one. refl)
       (λ w q one at_work at_holder fits. fits_asked n d.running.epoch x.ticket w q one fits) (sym (edit_same d.running.order.works x.ticket)) refl step.state
 
-  ended : (why : Why ℕ) → IsLive d x → new ≡ record d { running = end_of d.running x.ticket why } → Mirror new n txns (on_last (over (AbortedBy why)) told) signed
+  ended : {u : Uses} (why : Why ℕ) → IsLive d x → new ≡ record d { running = record (end_of d.running x.ticket why) { uses = u } } → Mirror new n txns (on_last (over (AbortedBy why)) told) signed
   ended why live e = own_ended d new n txns told signed x why m (live_runs d n txns told signed x m h named live) e
 
 pub own_step : (d : DeskState) (n : ℕ) (txns : List (TxnRecord ℕ)) (told : List Told) (signed : Bool) (call : Call) (reply : Reply) (new : DeskState) → is_of n call ≡ true → MayCall d call → DeskStep d call reply new → Mirror d n txns told signed
@@ -93,13 +94,15 @@ own_step d n txns told signed (Begin client) (Refused f) new own may step m = un
 own_step d n txns told signed (GetKey x k) (Value value) new own may step m = got_value d n txns told signed new x m (eqb-true x.client n own) may.0 k value step
 own_step d n txns told signed (GetKey x k) Waits new own may step m = queued d n txns told signed new x m (eqb-true x.client n own) may.0 k step
 own_step d n txns told signed (GetKey x k) (Aborted why) new own may (inl step) m = was_aborted d new n txns told signed x (AbortedBy why) (eqb-true x.client n own) may.0 step.earlier step.same m
-own_step d n txns told signed (GetKey x k) (Aborted why) new own may (inr step) m = ended d n txns told signed new x m (eqb-true x.client n own) may.0 why step.live step.state
+own_step d n txns told signed (GetKey x k) (Aborted why) new own may (inr (inl step)) m = ended d n txns told signed new x m (eqb-true x.client n own) may.0 why step.live step.state
+own_step d n txns told signed (GetKey x k) (Aborted why) new own may (inr (inr step)) m = ended d n txns told signed new x m (eqb-true x.client n own) may.0 why step.live step.state
 own_step d n txns told signed (Poll x) (Value value) new own may step m = polled d n txns told signed new x m (eqb-true x.client n own) may.0 value step
 own_step d n txns told signed (Poll x) Waits new own may step m = still_queued d n txns told signed new x m (eqb-true x.client n own) may.0 step
 own_step d n txns told signed (Poll x) (Aborted why) new own may step m = was_aborted d new n txns told signed x (AbortedBy why) (eqb-true x.client n own) may.0 step.earlier step.same m
 own_step d n txns told signed (Write x k value) Done new own may step m = wrote d n txns told signed new x m (eqb-true x.client n own) may.0 k value step
 own_step d n txns told signed (Write x k value) (Aborted why) new own may (inl step) m = was_aborted d new n txns told signed x (AbortedBy why) (eqb-true x.client n own) may.0 step.earlier step.same m
-own_step d n txns told signed (Write x k value) (Aborted why) new own may (inr step) m = ended d n txns told signed new x m (eqb-true x.client n own) may.0 why step.live step.state
+own_step d n txns told signed (Write x k value) (Aborted why) new own may (inr (inl step)) m = ended d n txns told signed new x m (eqb-true x.client n own) may.0 why step.live step.state
+own_step d n txns told signed (Write x k value) (Aborted why) new own may (inr (inr step)) m = ended d n txns told signed new x m (eqb-true x.client n own) may.0 why step.live step.state
 own_step d n txns told signed (Commit x) Done new own may step m = asked d n txns told signed new x m (eqb-true x.client n own) may.0 step
 own_step d n txns told signed (Commit x) (Aborted why) new own may step m = was_aborted d new n txns told signed x (AbortedBy why) (eqb-true x.client n own) may.0 step.earlier step.same m
 own_step d n txns told signed (Abort x) (Aborted why) new own may (inl step) m = was_aborted d new n txns told signed x (AbortedBy why) (eqb-true x.client n own) may.0 step.earlier step.same m

@@ -5,7 +5,7 @@ use Rattle.std.proofs.lemmas.Option.{same_Some}
 use Rattle.std.proofs.lemmas.Grind.{flat_map-append}
 use Rattle.std.proofs.lemmas.List.Elements.{filter-append}
 use Rattle.ob_serial.specs.declared.records.Why.{Why}
-use Rattle.ob_serial.specs.declared.records.Why.TheVariants.{Conflict, Depends, ReadsFull, WritesFull, EpochEnd, Asked, Stopped}
+use Rattle.ob_serial.specs.declared.records.Why.TheVariants.{Conflict, Depends, ReadsFull, WritesFull, ShareReads, ShareWrites, EpochEnd, Asked, Stopped}
 use Rattle.ob_serial.specs.declared.records.Outcome.{Outcome}
 use Rattle.ob_serial.specs.declared.records.Outcome.TheVariants.{Committed, Aborted as AbortedBy, Unsure as UnsureOf}
 use Rattle.ob_serial.specs.Serial.{TxnRecord, EpochRecord}
@@ -37,6 +37,8 @@ aborted_end (Conflict key reader) one asked = tt
 aborted_end (Depends on) one asked = tt
 aborted_end (ReadsFull queued left) one asked = tt
 aborted_end (WritesFull keys) one asked = tt
+aborted_end (ShareReads keys) one asked = tt
+aborted_end (ShareWrites keys) one asked = tt
 aborted_end EpochEnd one asked = tt
 aborted_end Asked one asked = asked refl
 aborted_end (Stopped fault) one asked = tt
@@ -67,6 +69,8 @@ over_end (AbortedBy (Conflict key reader)) o one e h = tt
 over_end (AbortedBy (Depends on)) o one e h = tt
 over_end (AbortedBy (ReadsFull queued left)) o one e h = tt
 over_end (AbortedBy (WritesFull keys)) o one e h = tt
+over_end (AbortedBy (ShareReads keys)) o one e h = tt
+over_end (AbortedBy (ShareWrites keys)) o one e h = tt
 over_end (AbortedBy EpochEnd) o one e h = tt
 over_end (AbortedBy Asked) o one e h = ap Some (sym e)
 over_end (AbortedBy (Stopped fault)) o one e h = tt

@@ -62,6 +62,7 @@ use Rattle.ob_top.proofs.Completing.{RunTells, rose_added}
 use Rattle.ob_top.proofs.Counted.{one_lanes}
 use Rattle.ob_top.proofs.Living.{whole_clear, whole_lives}
 use Rattle.ob_top.proofs.Lasting.{fresh_on, idle_at, leads_on, past_on, opened_there, opened_turn, stopped_next}
+use Rattle.ob_desk.specs.Desk.{setup_of}
 
 no_rise : Rose 0 0 → ⊥
 no_rise rose = omega (arith, rose)
@@ -175,7 +176,7 @@ module _ {S : Type 0} (disk : S → Disk) (keys : Keys) (call : RunCall S) (t u 
             let served = r.serving.is_served.served in
             let over : IsOver served.evidence.desk = subst (λ (e : Option RunErr). EndsWith e served.evidence.acts served.evidence.desk) none r.serving.is_served.ends in
             subst (λ (rs : List (EpochRecord ℕ)). TellAll client (txns_by client rs) (told_of (said_by client (history served.evidence.acts)))) (sym served.told_are)
-            (records_tell.all (record { params = p }) (suc (ring_kind.epoch r.found)) (ring_kind.left p r.found) r.script.clients (history served.evidence.acts) served.evidence.desk client r.serving.is_served.opens served.evidence.leads over.at_rest)
+            (records_tell.all (setup_of p) (suc (ring_kind.epoch r.found)) (ring_kind.left p r.found) r.script.clients (history served.evidence.acts) served.evidence.desk client r.serving.is_served.opens served.evidence.leads over.at_rest)
 
         pub headline : Output r.serving.records → Headline disk keys p at past call told
         headline output = record {

@@ -37,7 +37,7 @@ use Rattle.ob_runner.specs.Runners.{AreRunners, IsNewOf}
 use Rattle.ob_runner.specs.Turns.{IsScriptTurn}
 use Rattle.ob_runner.specs.declared.runner.ScriptRunner.{ScriptRunner}
 use Rattle.ob_desk.specs.Beats.{BeatKind}
-use Rattle.ob_desk.specs.Desk.{DeskState, new_desk}
+use Rattle.ob_desk.specs.Desk.{DeskState, new_desk, setup_of}
 use Rattle.ob_conduct.specs.Left.{Rests}
 use Rattle.ob_conduct.specs.declared.run_err.RunErr.{RunErr}
 use Rattle.ob_conduct.specs.Scenes.{RunnerKind, run_state, runner_kind, scene}
@@ -150,7 +150,7 @@ module _ {V S : Type 0} (k : Kind V) (disk : S → Disk) (counts_now : (x : S) (
 -- a run that was conducted over a vault that was just made of an opening
 pub serves_lent : {V S : Type 0} (first : V) (k : Kind V) (beat : BeatKind) (threads : Bool) (p : Params) (script : Scripts) (trace : Trace) (runners : List ScriptRunner)
     (before : Flow) (last : V) (seen : Trace) (ran : List ScriptRunner) (after : Flow) (result : Result (Unit {0}) RunErr) (epoch left : ℕ)
-    → ((new : DeskState) × RunsBy threads k script_kind beat (run_state (scene (new_desk (record { params = p }) (suc epoch) left script.clients) first trace) runners before) (run_state (scene new last seen) ran after) result)
+    → ((new : DeskState) × RunsBy threads k script_kind beat (run_state (scene (new_desk (setup_of p) (suc epoch) left script.clients) first trace) runners before) (run_state (scene new last seen) ran after) result)
     → trace.broken ≡ false → AreSound script → AreRunners script runners
     → (disk : S → Disk) (counts_now : (x : S) (t : Clock) (c : Image) → NotAfter t (disk x).moment → (disk x).may_leave c → (disk x).left_since t c)
     (only_now : (x : S) (c : Image) → (disk x).left_since (disk x).moment c → (disk x).may_leave c) (runs : V → Running S) → HasRingWords k disk runs → IsLent k disk runs

@@ -4,7 +4,7 @@ use Rattle.ob_base.specs.declared.params.Params.{Params}
 use Rattle.std.specs.List.{All}
 use Rattle.ob_conduct.specs.Acts.{Act, IsAllowed, calls, history}
 use Rattle.ob_desk.specs.Beats.{BeatKind}
-use Rattle.ob_desk.specs.Desk.{DeskState, new_desk}
+use Rattle.ob_desk.specs.Desk.{DeskState, new_desk, setup_of}
 use Rattle.ob_driver.specs.Drives.{AreThings}
 use Rattle.ob_run.specs.Threaded.{AreShaped, driven}
 use Rattle.ob_seal.specs.declared.keys.Keys.{Keys}
@@ -63,11 +63,11 @@ module _ {V : Type 0} (k : Kind V) (store : StoreKind) (keys : Keys) (p : Params
 
   -- from an opening at this standing on
   pub are_listed : (at : Standing) (left : ℕ) (clients : List ℕ) (beat : BeatKind) (threads : Bool) (start last : V) (acts : List Act) (d : DeskState) → k.holds start (opened_with p left at) → AllCalled k start (calls acts) last
-      → All (IsAllowed beat) acts → Leads (new_desk (record { params = p }) (suc at.epoch) left clients) (history acts) d → AreShaped threads clients acts → AreListed store keys p at left clients acts
+      → All (IsAllowed beat) acts → Leads (new_desk (setup_of p) (suc at.epoch) left clients) (history acts) d → AreShaped threads clients acts → AreListed store keys p at left clients acts
   are_listed at left clients beat threads start last acts d holds chain allowed leads shaped =
-      let w : IsWovenWorld k (record { params = p }) clients (opened_with p left at) start last acts d = acts_are_a_world k (record { params = p }) clients (opened_with p left at) start last acts d
+      let w : IsWovenWorld k (setup_of p) clients (opened_with p left at) start last acts d = acts_are_a_world k (setup_of p) clients (opened_with p left at) start last acts d
       (record { beat = beat; allowed = allowed; leads = leads; chain = chain; holds = holds; fresh = refl }) (are_things threads clients acts shaped) in
-      (forget w.last, forgotten (woven acts (reports_of acts)) (first_world (record { params = p }) clients at left start) w.last (one_run (calls_made acts) (calls acts) (reports_of acts)) w.leads)
+      (forget w.last, forgotten (woven acts (reports_of acts)) (first_world (setup_of p) clients at left start) w.last (one_run (calls_made acts) (calls acts) (reports_of acts)) w.leads)
 
 pub lists_hold : (store : StoreKind) → ListsHold store
 lists_hold store keys p = headline (store_course store keys p)

@@ -8,10 +8,11 @@ use Rattle.ob_script.specs.Script.{Scripts, AreSound}
 use Rattle.ob_runner.specs.declared.runner.ScriptRunner.{ScriptRunner}
 use Rattle.ob_runner.specs.RunnerViews.{client_of, bound_of, MayHaveMade}
 use Rattle.ob_runner.specs.Runners.{IsNewOf, AreRunners}
-use Rattle.ob_desk.specs.Desk.{MayOpen, new_desk}
+use Rattle.ob_desk.specs.Desk.{MayOpen, new_desk, setup_of}
+use Rattle.ob_shares.proofs.Fitting.{none_fit}
 
-pub may_open : (p : Params) (epoch left : ℕ) (script : Scripts) → epoch < 2 ^ 62 → left ≤ p.batches → AreSound script → MayOpen (record { params = p }) (suc epoch) left script.clients
-may_open p epoch left script small few sound = record { few_left = few; low_epoch = omega (arith, small); named = sound.named; rising = sound.rising }
+pub may_open : (p : Params) (epoch left : ℕ) (script : Scripts) → epoch < 2 ^ 62 → left ≤ p.batches → AreSound script → MayOpen (setup_of p) (suc epoch) left script.clients
+may_open p epoch left script small few sound = record { few_left = few; low_epoch = omega (arith, small); named = sound.named; rising = sound.rising; fit = none_fit (length script.clients) p.places p.writes }
 
 module _ (script : Scripts) (runners : List ScriptRunner) (are : AreRunners script runners) where
   pub none_made : All (λ u. MayHaveMade u []) runners
@@ -20,12 +21,12 @@ module _ (script : Scripts) (runners : List ScriptRunner) (are : AreRunners scri
   pub below_all : (keys : ℕ) → script.keys ≡ keys → All (λ u. bound_of u ≤ keys) runners
   below_all keys same = All-weaker (IsNewOf script) (λ u. bound_of u ≤ keys) (λ u n. let b = n.bound ∙ same in omega (arith, b)) runners are.new
 
-  pub opens_all : (p : Params) (epoch left : ℕ) → epoch < 2 ^ 62 → left ≤ p.batches → AreSound script → MayOpen (record { params = p }) (suc epoch) left (map client_of runners)
-  opens_all p epoch left small few sound = subst (MayOpen (record { params = p }) (suc epoch) left) (sym are.clients_are) (may_open p epoch left script small few sound)
+  pub opens_all : (p : Params) (epoch left : ℕ) → epoch < 2 ^ 62 → left ≤ p.batches → AreSound script → MayOpen (setup_of p) (suc epoch) left (map client_of runners)
+  opens_all p epoch left small few sound = subst (MayOpen (setup_of p) (suc epoch) left) (sym are.clients_are) (may_open p epoch left script small few sound)
 
 -- a new desk by other names of its epoch, batches and clients
-pub new_same : (p : Params) (a e l m : ℕ) (xs ys : List ℕ) → a ≡ suc e → l ≡ m → xs ≡ ys → new_desk (record { params = p }) a l xs ≡ new_desk (record { params = p }) (suc e) m ys
-new_same p a e l m xs ys epoch left clients = ap (λ n. new_desk (record { params = p }) n l xs) epoch ∙ (ap (λ n. new_desk (record { params = p }) (suc e) n xs) left ∙ ap (new_desk (record { params = p }) (suc e) m) clients)
+pub new_same : (p : Params) (a e l m : ℕ) (xs ys : List ℕ) → a ≡ suc e → l ≡ m → xs ≡ ys → new_desk (setup_of p) a l xs ≡ new_desk (setup_of p) (suc e) m ys
+new_same p a e l m xs ys epoch left clients = ap (λ n. new_desk (setup_of p) n l xs) epoch ∙ (ap (λ n. new_desk (setup_of p) (suc e) n xs) left ∙ ap (new_desk (setup_of p) (suc e) m) clients)
 
 -- what was written back over as many items
 pub same_items : {A : Type 0} (len : ℕ) (xs ys : List A) → len ≡ length xs → length ys ≡ length xs → take len (ys ++ drop (length ys) xs) ≡ ys

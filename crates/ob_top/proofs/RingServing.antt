@@ -22,7 +22,7 @@ use Rattle.ob_vault.proofs.Leaving.{goes_on_none, goes_on_refused}
 use Rattle.ob_vault.specs.Lives.{RingGoesOn, ring_lives}
 use Rattle.ob_vault.proofs.Calling.{RingBehind, ring_does, words_are_of_tape}
 use Rattle.ob_script.specs.Script.{ScriptTxn, Scripts, AreSound, asks_by}
-use Rattle.ob_desk.specs.Desk.{MayOpen, new_desk}
+use Rattle.ob_desk.specs.Desk.{MayOpen, new_desk, setup_of}
 use Rattle.ob_conduct.specs.declared.run_err.RunErr.{RunErr}
 use Rattle.ob_conduct.specs.Scenes.{scene, RunState, run_state, RunnerKind}
 use Rattle.ob_run.specs.Threaded.{RunsBy}
@@ -57,9 +57,9 @@ module _ {V S : Type 0} (k : Kind V) (disk : S → Disk) (counts_now : (x : S) (
   IsRingLender = IsLender k ring_kind disk (λ v. (runs v).store) keys most p f first (RingBehind k disk runs words keys most p f (disk (runs first).store)) (λ v. told_by (runs v)) (ring_does k disk runs words keys most p f (disk (runs first).store)) tells ring_lives at_rest at_stop (f.run).sealer
 
   pub ring_serves : {U : Type 0} (beat : BeatKind) (threads : Bool) (kind : RunnerKind U (List ScriptTxn)) (means : RunsScripts kind) (script : Scripts) (sound : AreSound script)
-      (may : MayOpen (record { params = p }) (suc (f.run).epoch) (f.run).left script.clients) (trace : Trace) (runners : List U) (before : Flow) (end : RunState V U) (result : Result (Unit {0}) RunErr) (epoch left : ℕ)
+      (may : MayOpen (setup_of p) (suc (f.run).epoch) (f.run).left script.clients) (trace : Trace) (runners : List U) (before : Flow) (end : RunState V U) (result : Result (Unit {0}) RunErr) (epoch left : ℕ)
       → trace.broken ≡ false → map kind.client runners ≡ script.clients → All (λ u. kind.plan u ≡ asks_by (kind.client u) script.txns) runners → epoch ≡ (f.run).epoch → left ≡ (f.run).left
-      → RunsBy threads k kind beat (run_state (scene (new_desk (record { params = p }) (suc epoch) left script.clients) first trace) runners before) end result
+      → RunsBy threads k kind beat (run_state (scene (new_desk (setup_of p) (suc epoch) left script.clients) first trace) runners before) end result
       → IsRingLender → RingAt k disk runs keys most p f (disk (runs first).store) (ring_public p f) (ring_hidden f) 0 first
       → (s : ServedOver ring_kind ring_lives disk (manner beat threads most) keys p f (f.run).sealer script (told_by (runs end.scene.vault)) (runs first).store (runs end.scene.vault).store before end.output trace end.scene.trace (err_of result))
       × CallsBehind k first (calls s.is_served.served.evidence.acts) end.scene.vault (err_of result)

@@ -39,7 +39,7 @@ use Rattle.ob_runner.specs.RunnerViews.{plan_of, client_of}
 use Rattle.ob_runner.specs.Runners.{AreRunners, IsNewOf}
 use Rattle.ob_runner.specs.declared.runner.ScriptRunner.{ScriptRunner}
 use Rattle.ob_desk.specs.Beats.{BeatKind, beat_kind}
-use Rattle.ob_desk.specs.Desk.{DeskState, MayOpen, Run, new_desk}
+use Rattle.ob_desk.specs.Desk.{DeskState, MayOpen, Run, new_desk, setup_of}
 use Rattle.ob_conduct.specs.Acts.{Act, calls, fault_of, history, records}
 use Rattle.ob_conduct.specs.declared.run_err.RunErr.{RunErr}
 use Rattle.ob_conduct.specs.Records.{AreAnswered, AreWritten, HoldsMap, contents}
@@ -201,11 +201,11 @@ module _ {V : Type 0} (k : Kind V) (p : Params) (numbers : numbers_of p ≡ dril
   abbrev script : Scripts
   script = drill_script n
 
-  pub may : MayOpen (record { params = p }) (suc epoch) left script.clients
+  pub may : MayOpen (setup_of p) (suc epoch) left script.clients
   may = may_open p epoch left script small (omega (arith, left_is)) (drill_sound n)
 
   abbrev base : DeskState
-  base = new_desk (record { params = p }) (suc epoch) left script.clients
+  base = new_desk (setup_of p) (suc epoch) left script.clients
 
   planned : All (λ u. plan_of u ≡ asks_by (client_of u) script.txns) runners
   planned = All-weaker (IsNewOf script) (λ r. plan_of r ≡ asks_by (client_of r) script.txns) (λ r new. new.plan) runners are.new
@@ -307,7 +307,7 @@ pub all_committed : (p : Params) → numbers_of p ≡ drill_numbers → (n : ℕ
     → ScriptServed ring_kind (manner beat true 4) keys p opened f (drill_script n) records None → IsPatient beat → AllCommitted n records
 all_committed p numbers n few beat keys opened f left is_map records s patient =
     let script = drill_script n in
-    let counted = served_counts (AreShaped true script.clients) (ring_kind.is_map keys p opened f) beat p (f.run).epoch (f.run).left 1 script records finite.empty (contents finite.empty records) s.served refl patient s.opens (subst (λ (rs : List (EpochRecord ℕ)). Run finite.empty (new_desk (record { params = p }) (suc (f.run).epoch) (f.run).left script.clients) (history s.served.evidence.acts) (contents finite.empty rs) s.served.evidence.desk) (sym s.served.told_are) (s.served.evidence.fed finite.empty is_map))
+    let counted = served_counts (AreShaped true script.clients) (ring_kind.is_map keys p opened f) beat p (f.run).epoch (f.run).left 1 script records finite.empty (contents finite.empty records) s.served refl patient s.opens (subst (λ (rs : List (EpochRecord ℕ)). Run finite.empty (new_desk (setup_of p) (suc (f.run).epoch) (f.run).left script.clients) (history s.served.evidence.acts) (contents finite.empty rs) s.served.evidence.desk) (sym s.served.told_are) (s.served.evidence.fed finite.empty is_map))
     (adders n) (all_its_own n) (ask_few n (f.run).left p (omega (arith, left, batches_are p numbers)) (omega (arith, writes_are p numbers))) (let many = its_length n in omega (arith, many, few)) (λ key. finite.get-empty nat_cmp key) in
     let epochs : length records ≡ n = (counted.1 (s.all refl)).epochs ∙ its_length n in
     record { epochs = epochs; each = counted.0.one_each; committed = all_kept records counted.0.one_each ∙ epochs }

@@ -36,7 +36,7 @@ use Rattle.ob_vault.specs.Steps.{IsAnsweredCall, Stops, IsCallOfKind}
 use Rattle.ob_vault.specs.KindLaws.{AllAnswered}
 use Rattle.ob_vault.proofs.Shapes.{answered_join as answers_join, shapes_join, answered_not_refused, refused_last}
 use Rattle.ob_script.specs.Script.{ScriptTxn, Scripts, AreSound, asks_by}
-use Rattle.ob_desk.specs.Desk.{DeskState, MayOpen, Run, new_desk}
+use Rattle.ob_desk.specs.Desk.{DeskState, MayOpen, Run, new_desk, setup_of}
 use Rattle.ob_conduct.specs.Acts.{Act, Says, Halts, Rests as Looked, Takes, Delivers, DeliverFails, FetchFails, RestUnwatched, Closes, Publishes, Refuses, Unprinted, Unwatched, calls, history, vault_calls, rest_fetches, fault_in, fault_of as stop_fault, fault_told, records as records_of_acts}
 use Rattle.ob_conduct.specs.declared.run_err.RunErr.{RunErr}
 use Rattle.ob_conduct.specs.declared.run_err.RunErr.TheVariants as failed
@@ -444,11 +444,11 @@ module _ {V S : Type 0} (k : Kind V) (store : StoreKind) (disk : S → Disk) (st
 
   module _ {U : Type 0} (beat : BeatKind) (threads : Bool) (kind : RunnerKind U (List ScriptTxn))
       (means : RunsScripts kind)
-      (sealing : Sealing) (script : Scripts) (sound : AreSound script) (may : MayOpen (record { params = p }) (suc (store.epoch found)) (store.left p found) script.clients)
+      (sealing : Sealing) (script : Scripts) (sound : AreSound script) (may : MayOpen (setup_of p) (suc (store.epoch found)) (store.left p found) script.clients)
       (trace : Trace) (runners : List U) (before : Flow) (end : RunState V U) (result : Result (Unit {0}) RunErr)
       (unbroken : trace.broken ≡ false) (named : map kind.client runners ≡ script.clients) (planned : All (λ u. kind.plan u ≡ asks_by (kind.client u) script.txns) runners) where
     abbrev base : DeskState
-    base = new_desk (record { params = p }) (suc (store.epoch found)) (store.left p found) script.clients
+    base = new_desk (setup_of p) (suc (store.epoch found)) (store.left p found) script.clients
 
     abbrev begin : RunState V U
     begin = run_state (scene base start trace) runners before
@@ -472,10 +472,10 @@ module _ {V S : Type 0} (k : Kind V) (store : StoreKind) (disk : S → Disk) (st
       comes_next epoch same (Some r) (err, told, f, (writes, refused, act_is, u, the)) =
           let is = f.acts_are ∙ ap (λ (x : Act). f.front ++ x ∷ f.behind) act_is in
           subst (ComesNext (store.is_map under p (disk (store_of start)) found) (suc epoch + length records) script records) the (record {
-            epoch_is = due_epoch k kind p beat begin (record { params = p }) (suc (store.epoch found)) (store.left p found) script.clients refl acts end result d f.front writes refused f.behind is f.says u ∙ ap (λ e. suc e + length records) (sym same);
+            epoch_is = due_epoch k kind p beat begin (setup_of p) (suc (store.epoch found)) (store.left p found) script.clients refl acts end result d f.front writes refused f.behind is f.says u ∙ ap (λ e. suc e + length records) (sym same);
             served = next_served k beat kind means p (store.epoch found) (store.left p found) script sound may start trace runners before end acts result named planned d f.front writes refused f.behind is f.says u;
-            in_order = due_in_order k kind p beat begin (record { params = p }) (suc (store.epoch found)) (store.left p found) script.clients refl acts end result d f.front writes refused f.behind is f.says u;
-            one_by_one = λ m of. due_one_by_one k kind p beat begin (record { params = p }) (suc (store.epoch found)) (store.left p found) script.clients refl acts end result d f.front writes refused f.behind is f.says u m (held_map m of);
+            in_order = due_in_order k kind p beat begin (setup_of p) (suc (store.epoch found)) (store.left p found) script.clients refl acts end result d f.front writes refused f.behind is f.says u;
+            one_by_one = λ m of. due_one_by_one k kind p beat begin (setup_of p) (suc (store.epoch found)) (store.left p found) script.clients refl acts end result d f.front writes refused f.behind is f.says u m (held_map m of);
           })
 
       doubt_told : (epoch n : ℕ) → epoch ≡ n → TellsDoubt epoch result → err_of result ≡ Some (failed.Fault (StoreFault (Some n)))
@@ -616,16 +616,16 @@ module _ {V S : Type 0} (k : Kind V) (store : StoreKind) (disk : S → Disk) (st
   -- the same, from the epoch and the batches left that the vault tells
   pub serves_on : {U : Type 0} (beat : BeatKind) (threads : Bool) (kind : RunnerKind U (List ScriptTxn))
       (means : RunsScripts kind)
-      (sealing : Sealing) (script : Scripts) (sound : AreSound script) (may : MayOpen (record { params = p }) (suc (store.epoch found)) (store.left p found) script.clients)
+      (sealing : Sealing) (script : Scripts) (sound : AreSound script) (may : MayOpen (setup_of p) (suc (store.epoch found)) (store.left p found) script.clients)
       (trace : Trace) (runners : List U) (before : Flow) (end : RunState V U) (result : Result (Unit {0}) RunErr) (epoch left : ℕ)
       → trace.broken ≡ false → map kind.client runners ≡ script.clients → All (λ u. kind.plan u ≡ asks_by (kind.client u) script.txns) runners → epoch ≡ store.epoch found → left ≡ store.left p found
-      → RunsBy threads k kind beat (run_state (scene (new_desk (record { params = p }) (suc epoch) left script.clients) start trace) runners before) end result
+      → RunsBy threads k kind beat (run_state (scene (new_desk (setup_of p) (suc epoch) left script.clients) start trace) runners before) end result
       → IsLender sealing → At (store.public p found) (store.hidden p found) [] 0 start
       → (s : ServedOver store life disk (manner beat threads most) under p found sealing script (tape_of end.scene.vault) (store_of start) (store_of end.scene.vault) before end.output trace end.scene.trace (err_of result))
       × CallsBehind k start (calls s.is_served.served.evidence.acts) end.scene.vault (err_of result)
   serves_on beat threads kind means sealing script sound may trace runners before end result epoch left unbroken named planned epoch_is left_is run l begun =
-      let run_is = subst (λ n. RunsBy threads k kind beat (run_state (scene (new_desk (record { params = p }) (suc (store.epoch found)) n script.clients) start trace) runners before) end result) left_is
-      (subst (λ e. RunsBy threads k kind beat (run_state (scene (new_desk (record { params = p }) (suc e) left script.clients) start trace) runners before) end result) epoch_is run) in
+      let run_is = subst (λ n. RunsBy threads k kind beat (run_state (scene (new_desk (setup_of p) (suc (store.epoch found)) n script.clients) start trace) runners before) end result) left_is
+      (subst (λ e. RunsBy threads k kind beat (run_state (scene (new_desk (setup_of p) (suc e) left script.clients) start trace) runners before) end result) epoch_is run) in
       let (acts, d, shaped) = runs_shaped threads k kind beat _ end result run_is in
       serves beat threads kind means sealing script sound may trace runners before end result unbroken named planned acts d (subst (λ numbers. AreShaped threads numbers acts) named shaped) l begun
 

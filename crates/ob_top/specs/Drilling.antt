@@ -22,7 +22,7 @@ use Rattle.ob_runner.specs.declared.runner.ScriptRunner.{ScriptRunner}
 use Rattle.ob_runner.specs.RunnerViews.{client_of, bound_of, plan_of, MayHaveMade}
 use Rattle.ob_runner.specs.Turns.{IsScriptTurn}
 use Rattle.ob_desk.specs.Beats.{BeatKind}
-use Rattle.ob_desk.specs.Desk.{DeskState, new_desk}
+use Rattle.ob_desk.specs.Desk.{DeskState, new_desk, setup_of}
 use Rattle.ob_conduct.specs.Acts.{fault_of}
 use Rattle.ob_conduct.specs.declared.run_err.RunErr.{RunErr}
 use Rattle.ob_conduct.specs.Scenes.{RunnerKind, run_state, runner_kind, scene}
@@ -64,7 +64,7 @@ module _ {V : Type 0} (k : Kind V) (counts : V → VaultCounts) (beat : BeatKind
   pub record WasRun (mid : V) (result : Result (Unit {0}) RunErr) : Type 0 where
     pub desk : DeskState
     pub ran : List ScriptRunner
-    pub by : RunsBy true k script_runners beat (run_state (scene (new_desk (record { params = p }) (suc (counts old).epoch) (counts old).left script.clients) old blind) runners no_output)
+    pub by : RunsBy true k script_runners beat (run_state (scene (new_desk (setup_of p) (suc (counts old).epoch) (counts old).left script.clients) old blind) runners no_output)
         (run_state (scene desk mid blind) ran no_output) result
 
   -- and then its map was read

@@ -33,7 +33,7 @@ use Rattle.ob_vault.specs.KindLives.{LifeWords}
 use Rattle.ob_vault.specs.Openings.{OpensStanding}
 use Rattle.ob_vault.specs.Kinds.{StoreKind, Stands, AllStand, StandsAsBefore, IsOpenedAt, opened_with}
 use Rattle.ob_vault.specs.KindShown.{IsCutShown, public_behind, steps_notes}
-use Rattle.ob_desk.specs.Desk.{MayOpen, new_desk}
+use Rattle.ob_desk.specs.Desk.{MayOpen, new_desk, setup_of}
 use Rattle.ob_script.specs.Script.{Scripts, IsFirstBad, limit}
 use Rattle.ob_conduct.specs.declared.run_err.RunErr.TheVariants as failed
 use Rattle.ob_conduct.specs.Acts.{Act, calls}
@@ -187,7 +187,7 @@ pub record ScriptServed (store : StoreKind) (by : Manner) (keys : Keys) (p : Par
   pub served : IsServed (AreShaped by.threads script.clients) (store.is_map keys p opened found) by.beat p (store.epoch found) (store.left p found) script records
   pub all : err ≡ None → ClientsServedAll script records
   pub ends : EndsWith err served.evidence.acts served.evidence.desk
-  pub opens : MayOpen (record { params = p }) (suc (store.epoch found)) (store.left p found) script.clients
+  pub opens : MayOpen (setup_of p) (suc (store.epoch found)) (store.left p found) script.clients
   pub one_by_one : (m : Map nat_cmp) → store.is_map keys p opened found m → OneByOne nat_cmp m (committed_of records) (contents m records)
 
 module _ (store : StoreKind) (keys : Keys) (p : Params) (found : store.Found) (at : Standing) (script : Scripts) (records : List (EpochRecord ℕ)) (err : Option RunErr) where
@@ -206,7 +206,7 @@ module _ (store : StoreKind) (keys : Keys) (p : Params) (found : store.Found) (a
   module _ (acts : List Act) where
     -- the epoch whose end was begun last is the one that the desk had closed, as these acts tell
     abbrev pub IsClosedNext : Option (EpochRecord ℕ) → Type 0
-    IsClosedNext next = IsNextBy (new_desk (record { params = p }) (suc (store.epoch found)) (store.left p found) script.clients) acts next
+    IsClosedNext next = IsNextBy (new_desk (setup_of p) (suc (store.epoch found)) (store.left p found) script.clients) acts next
 
     -- What a crash leaves of the store, from when it was opened at an epoch and its map: an image that stands for a front of the records
     -- laid over that map, or for all of them and the epoch whose end was begun. At the return it stands for all of them, or, only where that

@@ -13,7 +13,7 @@ ghost use Rattle.ob_vault.specs.RingKind.{GoesOnFrom, RingFound, ring_kind};
 ghost use Rattle.ob_vault.specs.Lives.{ring_lives};
 ghost use Rattle.ob_vault.specs.RingVaults.{HasPlanned, run_over};
 ghost use Rattle.ob_top.specs.Begun.{AreFewLanes, IsBegun, MayServe};
-ghost use Rattle.ob_desk.specs.Desk.{DeskState, MayOpen, new_desk};
+ghost use Rattle.ob_desk.specs.Desk.{DeskState, MayOpen, new_desk, setup_of};
 ghost use Rattle.ob_desk.specs.Beats.{beat_kind};
 ghost use Rattle.ob_script.specs.Script.{AreSound};
 ghost use Rattle.ob_runner.specs.Runners.{AreRunners};
@@ -40,6 +40,7 @@ use ob_runner::{ScriptRunner, runners};
 use ob_script::{LIMIT, Scripts, parse};
 use ob_seal::{Keys, Tape};
 use ob_serial::Vault;
+use ob_shares::NO_SHARES;
 use ob_store::Watch;
 use ob_vault::RingVault;
 use std::alloc::Global;
@@ -183,7 +184,7 @@ pub fn conduct<R: Threads + Wait + Sync, V: Vault, W: Watch, O: Sink, B: Beat>(
         × RunsBy threads (kind_of V.Vault)
         (runner_kind client_of bound_of plan_of MayHaveMade IsScriptTurn)
         (beat_kind B.passes B.exact)
-        (run_state (scene (new_desk (record { params = params.now })
+        (run_state (scene (new_desk (setup_of params.now)
         (suc (V.counts vault.old).epoch) (V.counts vault.old).left scripts.now.clients) vault.old
         (W.trace watch.old)) runners.old.items (outflow O.Sink output.old))
         (run_state (scene new vault.new (W.trace watch.new)) runners.new.items
@@ -195,6 +196,7 @@ pub fn conduct<R: Threads + Wait + Sync, V: Vault, W: Watch, O: Sink, B: Beat>(
         vault.epoch() + 1,
         vault.left(),
         scripts.clients(),
+        NO_SHARES,
     ) {
         Ok(desk) => desk,
         Err(Memory) => return Err(RunErr::Fault(Fault::Memory)),

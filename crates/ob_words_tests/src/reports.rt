@@ -92,7 +92,7 @@ fn expect_record<R: AllocGlobal + Abort>(rt: &R, txns: &[Txn], lines: &str) {
 }
 
 // How a transaction without operations ends, and the words of that.
-static OUTCOMES: [(Outcome<Key>, &str); 7] = [
+static OUTCOMES: [(Outcome<Key>, &str); 9] = [
     (
         Outcome::Aborted {
             why: Why::Conflict { key: 5, reader: 7 },
@@ -116,6 +116,18 @@ static OUTCOMES: [(Outcome<Key>, &str); 7] = [
             why: Why::WritesFull { keys: 2 },
         },
         "epoch 1/txn 2 client 3 aborted writes full keys 2/",
+    ),
+    (
+        Outcome::Aborted {
+            why: Why::ShareReads { keys: 1 },
+        },
+        "epoch 1/txn 2 client 3 aborted share reads 1/",
+    ),
+    (
+        Outcome::Aborted {
+            why: Why::ShareWrites { keys: 64 },
+        },
+        "epoch 1/txn 2 client 3 aborted share writes 64/",
     ),
     (
         Outcome::Aborted { why: Why::EpochEnd },
@@ -172,7 +184,7 @@ fn transactions_follow_each_other(rt: HostRuntime) {
     );
 }
 
-static FAULTS: [(Fault, u8, &str); 12] = [
+static FAULTS: [(Fault, u8, &str); 14] = [
     (Fault::Usage, 2, "fault: usage/"),
     (Fault::BadScript { line: 4 }, 2, "fault: script line 4/"),
     (
@@ -186,6 +198,20 @@ static FAULTS: [(Fault, u8, &str); 12] = [
         },
         2,
         "fault: parameter LANES/",
+    ),
+    (
+        Fault::BadParams {
+            field: Field::READS,
+        },
+        2,
+        "fault: parameter READS/",
+    ),
+    (
+        Fault::BadParams {
+            field: Field::WRITES,
+        },
+        2,
+        "fault: parameter WRITES/",
     ),
     (Fault::NotStore, 3, "fault: not a store/"),
     (Fault::StoreFault { unsure: None }, 5, "fault: store/"),

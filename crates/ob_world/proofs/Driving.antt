@@ -10,7 +10,7 @@ use Rattle.ob_serial.specs.Serial.{Map, OneByOne, committed_of, EpochRecord}
 use Rattle.ob_serial.specs.Vaults.{with_writes, VaultState}
 use Rattle.ob_order.specs.Works.{last_writes, goes_on}
 use Rattle.ob_order.specs.Order.{asked, is_asked_for, OrderState}
-use Rattle.ob_desk.specs.Desk.{Fault, EpochEnd, is_memory, stop_part, stop_closed, Part, DeskState, TakeStep, CloseStep, PublishStep, Call, Begin, GetKey, Poll, Write, Commit, Abort, Settled, Looks, SignOff, Stop, Unsure, IsStopped, TakeBatch, Deliver, Close}
+use Rattle.ob_desk.specs.Desk.{Setup, Fault, EpochEnd, is_memory, stop_part, stop_closed, Part, DeskState, TakeStep, CloseStep, PublishStep, Call, Begin, GetKey, Poll, Write, Commit, Abort, Settled, Looks, SignOff, Stop, Unsure, IsStopped, TakeBatch, Deliver, Close}
 use Rattle.ob_desk.specs.Desk.{Publish, Reply, Begun, Refused, Value, Waits, Aborted, Done, IsSettled, Seen, StoppedBy, Batch, Writes, Published, DeskStep, MayCall, IsFed, base_map, map_next, record_of, closing, close_to, end_of, asked_at, records_told}
 use Rattle.ob_desk.proofs.Runs.{Good, good_step, serial_step}
 use Rattle.ob_world.specs.Drivers.{DriverAt, AtRest, HasTaken, HasFetched, HasClosed, HasEnded, HasDoubt, HasTold, HasFailed, IsDown, MovesDriver, NoneIsDue}
@@ -102,10 +102,10 @@ pub record Framed (d new : DeskState) : Type 0 where
   pub epoch : new.running.epoch ≡ d.running.epoch
   pub left : new.running.order.left ≡ d.running.order.left
   pub flying : new.running.order.flying ≡ d.running.order.flying
-  pub params : new.setup.params ≡ d.setup.params
+  pub setup : new.setup ≡ d.setup
 
 base_framed : (m : Map nat_cmp) (d new : DeskState) → Framed d new → base_map m new ≡ base_map m d
-base_framed m d new f = λ i. unwrap_or (option_map (λ c. with_writes m (last_writes (f.params i).keys c.order.works)) (f.closed i)) m
+base_framed m d new f = λ i. unwrap_or (option_map (λ c. with_writes m (last_writes (f.setup i).params.keys c.order.works)) (f.closed i)) m
 
 running_framed : (taken : ℕ) (m : Map nat_cmp) (d new : DeskState) (v : VaultState) → Framed d new → Running taken m d v → Running taken m new v
 running_framed taken m d new v f h = record { same = h.same; none_closed = f.closed ∙ h.none_closed; epoch = f.epoch ∙ h.epoch; left = h.left ∙ ap (λ (n : ℕ). taken + n) (sym f.left); sure = h.sure; unspent = h.unspent }
@@ -114,7 +114,7 @@ resting_framed : (m : Map nat_cmp) (d new : DeskState) (v : VaultState) → Fram
 resting_framed m d new v f h = record { running = running_framed 0 m d new v f h.running; none_flies = f.flying ∙ h.none_flies }
 
 flying_framed : (taken : ℕ) (m : Map nat_cmp) (d new : DeskState) (v : VaultState) (keys : List (Option ℕ)) → Framed d new → Flying taken m d v keys → Flying taken m new v keys
-flying_framed taken m d new v keys f h = record { running = running_framed taken m d new v f h.running; flies = h.flies ∙ (λ i. map Some (sym f.flying i) ++ replicate ((sym f.params i).places - length (sym f.flying i)) None) }
+flying_framed taken m d new v keys f h = record { running = running_framed taken m d new v f h.running; flies = h.flies ∙ (λ i. map Some (sym f.flying i) ++ replicate ((sym f.setup i).params.places - length (sym f.flying i)) None) }
 
 pub at_framed : (m : Map nat_cmp) (d new : DeskState) (v : VaultState) (ended : List (EpochRecord ℕ)) (stage : DriverAt) → Framed d new → AtDriver m d v ended stage → AtDriver m new v ended stage
 at_framed m d new v ended AtRest f h = resting_framed m d new v f h
@@ -124,10 +124,10 @@ at_framed m d new v ended (HasClosed writes) f h = record {
   same = h.same;
   part = h.part;
   is_closed = f.closed ∙ h.is_closed;
-  batch = h.batch ∙ ap (λ p. last_writes p.keys h.part.order.works) (sym f.params);
+  batch = h.batch ∙ ap (λ (s : Setup). last_writes s.params.keys h.part.order.works) (sym f.setup);
   epoch = h.epoch;
   next = f.epoch ∙ h.next;
-  left = f.left ∙ (h.left ∙ ap (λ p. p.batches) (sym f.params));
+  left = f.left ∙ (h.left ∙ ap (λ (s : Setup). s.params.batches) (sym f.setup));
   none_flies = f.flying ∙ h.none_flies;
   empty = h.empty;
   sure = h.sure;
@@ -140,7 +140,7 @@ at_framed m d new v ended HasEnded f h = record {
   epoch = h.epoch;
   next = f.epoch ∙ h.next;
   left = h.left ∙ sym f.left;
-  filled = f.left ∙ (h.filled ∙ ap (λ p. p.batches) (sym f.params));
+  filled = f.left ∙ (h.filled ∙ ap (λ (s : Setup). s.params.batches) (sym f.setup));
   none_flies = f.flying ∙ h.none_flies;
   sure = h.sure;
   unspent = h.unspent;
@@ -155,7 +155,7 @@ moved : (d want new : DeskState) → new ≡ want → Framed d want → Framed d
 moved d want new e f = subst (Framed d) (sym e) f
 
 stays : (d : DeskState) → Framed d d
-stays d = record { closed = refl; epoch = refl; left = refl; flying = refl; params = refl }
+stays d = record { closed = refl; epoch = refl; left = refl; flying = refl; setup = refl }
 
 asked_left : (o : OrderState) (key : ℕ) → ((asked o key).left ≡ o.left) × ((asked o key).flying ≡ o.flying)
 asked_left o key = step (is_asked_for o key)
@@ -165,25 +165,27 @@ asked_left o key = step (is_asked_for o key)
     step false = (refl, refl)
 
 pub framed : (d : DeskState) (call : Call) (reply : Reply) (new : DeskState) → LeavesDriver call → DeskStep d call reply new → Framed d new
-framed d (Begin client) (Begun x) new c step = moved d _ new step.state (record { closed = refl; epoch = refl; left = refl; flying = refl; params = refl })
+framed d (Begin client) (Begun x) new c step = moved d _ new step.state (record { closed = refl; epoch = refl; left = refl; flying = refl; setup = refl })
 framed d (Begin client) (Refused f) new c step = moved d _ new step.same (stays d)
-framed d (GetKey x k) (Value value) new c step = moved d _ new step.state (record { closed = refl; epoch = refl; left = refl; flying = refl; params = refl })
-framed d (GetKey x k) Waits new c step = moved d _ new step.state (record { closed = refl; epoch = refl; left = (asked_left d.running.order k).0; flying = (asked_left d.running.order k).1; params = refl })
+framed d (GetKey x k) (Value value) new c step = moved d _ new step.state (record { closed = refl; epoch = refl; left = refl; flying = refl; setup = refl })
+framed d (GetKey x k) Waits new c step = moved d _ new step.state (record { closed = refl; epoch = refl; left = (asked_left d.running.order k).0; flying = (asked_left d.running.order k).1; setup = refl })
 framed d (GetKey x k) (Aborted why) new c (inl step) = moved d _ new step.same (stays d)
-framed d (GetKey x k) (Aborted why) new c (inr step) = moved d _ new step.state (record { closed = refl; epoch = refl; left = refl; flying = refl; params = refl })
-framed d (Poll x) (Value value) new c step = moved d _ new step.state (record { closed = refl; epoch = refl; left = refl; flying = refl; params = refl })
+framed d (GetKey x k) (Aborted why) new c (inr (inl step)) = moved d _ new step.state (record { closed = refl; epoch = refl; left = refl; flying = refl; setup = refl })
+framed d (GetKey x k) (Aborted why) new c (inr (inr step)) = moved d _ new step.state (record { closed = refl; epoch = refl; left = refl; flying = refl; setup = refl })
+framed d (Poll x) (Value value) new c step = moved d _ new step.state (record { closed = refl; epoch = refl; left = refl; flying = refl; setup = refl })
 framed d (Poll x) Waits new c step = moved d _ new step.same (stays d)
 framed d (Poll x) (Aborted why) new c step = moved d _ new step.same (stays d)
-framed d (Write x k value) Done new c step = moved d _ new step.state (record { closed = refl; epoch = refl; left = refl; flying = refl; params = refl })
+framed d (Write x k value) Done new c step = moved d _ new step.state (record { closed = refl; epoch = refl; left = refl; flying = refl; setup = refl })
 framed d (Write x k value) (Aborted why) new c (inl step) = moved d _ new step.same (stays d)
-framed d (Write x k value) (Aborted why) new c (inr step) = moved d _ new step.state (record { closed = refl; epoch = refl; left = refl; flying = refl; params = refl })
-framed d (Commit x) Done new c step = moved d _ new step.state (record { closed = refl; epoch = refl; left = refl; flying = refl; params = refl })
+framed d (Write x k value) (Aborted why) new c (inr (inl step)) = moved d _ new step.state (record { closed = refl; epoch = refl; left = refl; flying = refl; setup = refl })
+framed d (Write x k value) (Aborted why) new c (inr (inr step)) = moved d _ new step.state (record { closed = refl; epoch = refl; left = refl; flying = refl; setup = refl })
+framed d (Commit x) Done new c step = moved d _ new step.state (record { closed = refl; epoch = refl; left = refl; flying = refl; setup = refl })
 framed d (Commit x) (Aborted why) new c step = moved d _ new step.same (stays d)
 framed d (Abort x) (Aborted why) new c (inl step) = moved d _ new step.same (stays d)
-framed d (Abort x) (Aborted why) new c (inr step) = moved d _ new step.state (record { closed = refl; epoch = refl; left = refl; flying = refl; params = refl })
+framed d (Abort x) (Aborted why) new c (inr step) = moved d _ new step.state (record { closed = refl; epoch = refl; left = refl; flying = refl; setup = refl })
 framed d (Settled x) (IsSettled outcome) new c step = moved d _ new step.1 (stays d)
 framed d Looks (Seen look) new c step = moved d _ new step.1 (stays d)
-framed d (SignOff client) Done new c step = moved d _ new step.state (record { closed = refl; epoch = refl; left = refl; flying = refl; params = refl })
+framed d (SignOff client) Done new c step = moved d _ new step.state (record { closed = refl; epoch = refl; left = refl; flying = refl; setup = refl })
 framed d (Stop f) _ new c step = absurd c
 framed d IsStopped (StoppedBy fault) new c step = moved d _ new step.1 (stays d)
 framed d TakeBatch _ new c step = absurd c
@@ -200,7 +202,7 @@ pub record Stepped (m : Map nat_cmp) (d new : DeskState) (v : VaultState) (ended
   pub good : Good below new
   pub at_place : AtDriver below new v ended next
   pub serial : OneByOne nat_cmp m (committed_of (records_told reply)) below
-  pub params : new.setup.params ≡ d.setup.params
+  pub setup : new.setup ≡ d.setup
   pub among : (r : EpochRecord ℕ) → Has (records_told reply) r → Has (records_up_to v.epoch ended) r
 
 abbrev pub IsNoPublish : Call → Type 0
@@ -227,7 +229,7 @@ client m d v ended stage call reply new next c fed same may step turn h stands =
   good = subst (λ (x : Map nat_cmp). Good x new) same (good_step m d call reply new may step fed h);
   at_place = subst (AtDriver m new v ended) (sym turn) (at_framed m d new v ended stage (framed d call reply new c step) stands);
   serial = subst (OneByOne nat_cmp m (committed_of (records_told reply))) same (serial_step m d call reply new step h);
-  params = (framed d call reply new c step).params;
+  setup = (framed d call reply new c step).setup;
   among = none_among d call reply new (records_up_to v.epoch ended) (no_publish call c) step;
 }
 
@@ -297,15 +299,15 @@ stopped_epoch : (f : Fault) (b : Bool) (d : DeskState) → (stopped_as f b d).ru
 stopped_epoch f true d = refl
 stopped_epoch f false d = refl
 
-stopped_params : (f : Fault) (b : Bool) (d : DeskState) → (stopped_as f b d).setup.params ≡ d.setup.params
-stopped_params f true d = refl
-stopped_params f false d = refl
+stopped_setup : (f : Fault) (b : Bool) (d : DeskState) → (stopped_as f b d).setup ≡ d.setup
+stopped_setup f true d = refl
+stopped_setup f false d = refl
 
 running_stopped : (taken : ℕ) (m : Map nat_cmp) (d : DeskState) (v : VaultState) (f : Fault) → Running taken m d v → Running taken m (stop_closed f (halted f d)) v
 running_stopped taken m d v f h = record { same = h.same; none_closed = refl; epoch = h.epoch; left = h.left; sure = h.sure; unspent = h.unspent }
 
 halted_frame : (f : Fault) (d : DeskState) → Framed d (halted f d)
-halted_frame f d = record { closed = refl; epoch = refl; left = refl; flying = refl; params = refl }
+halted_frame f d = record { closed = refl; epoch = refl; left = refl; flying = refl; setup = refl }
 
 fault_stops : (m : Map nat_cmp) (d : DeskState) (v : VaultState) (ended : List (EpochRecord ℕ)) (f : Fault) (at : DriverAt) → NoneIsDue at → AtDriver m d v ended at → AtDriver m (stop_closed f (halted f d)) v ended at
 fault_stops m d v ended f AtRest may h = record { running = running_stopped 0 m d v f h.running; none_flies = h.none_flies }
@@ -340,7 +342,7 @@ desk_at m d v ended stage (Stop f) Done new next may step turn h stands = record
   good = good_step m d (Stop f) Done new may step tt h;
   at_place = subst (AtDriver m new v ended) (sym turn.now) (subst (λ (x : DeskState). AtDriver m x v ended stage) (sym step.state) (stop_at m d v ended f stage (is_memory f) refl turn.may stands));
   serial = serial_step m d (Stop f) Done new step h;
-  params = ap (λ x. x.setup.params) step.state ∙ stopped_params f (is_memory f) d;
+  setup = ap (λ (x : DeskState). x.setup) step.state ∙ stopped_setup f (is_memory f) d;
   among = none_among d (Stop f) Done new (records_up_to v.epoch ended) tt step;
 }
 desk_at m d v ended stage (Stop f) _ new next may step turn h stands = absurd step
@@ -349,7 +351,7 @@ desk_at m d v ended stage (Unsure f) Done new next may step turn h stands = reco
   good = good_step m d (Unsure f) Done new may step tt h;
   at_place = subst (AtDriver m new v ended) (sym turn.now) tt;
   serial = serial_step m d (Unsure f) Done new step h;
-  params = ap (λ x. x.setup.params) step.state;
+  setup = ap (λ (x : DeskState). x.setup) step.state;
   among = none_among d (Unsure f) Done new (records_up_to v.epoch ended) tt step;
 }
 desk_at m d v ended stage (Unsure f) _ new next may step turn h stands = absurd step
@@ -363,7 +365,7 @@ desk_at m d v ended stage (Deliver keys values) Done new next may step turn h st
         none_flies = refl;
       }));
       serial = serial_step m d (Deliver keys values) Done new step h;
-      params = ap (λ x. x.setup.params) step.state;
+      setup = ap (λ (x : DeskState). x.setup) step.state;
       among = none_among d (Deliver keys values) Done new (records_up_to v.epoch ended) tt step;
     }
 desk_at m d v ended stage (Deliver keys values) _ new next may step turn h stands = absurd step
@@ -374,7 +376,7 @@ desk_at m d v ended stage TakeBatch reply new next may step turn h stands =
       good = good_step m d TakeBatch reply new may step tt h;
       at_place = subst (AtDriver m new v ended) (sym turn.now) (taken m d new v turn.keys one may.1 (subst (AtDriver m d v ended) turn.was stands));
       serial = serial_step m d TakeBatch reply new step h;
-      params = ap (λ x. x.setup.params) one.state;
+      setup = ap (λ (x : DeskState). x.setup) one.state;
       among = none_among d TakeBatch reply new (records_up_to v.epoch ended) tt step;
     }
 desk_at m d v ended stage Close reply new next may step turn h stands =
@@ -384,7 +386,7 @@ desk_at m d v ended stage Close reply new next may step turn h stands =
       good = good_step m d Close reply new may step tt h;
       at_place = subst (AtDriver m new v ended) (sym turn.now) (close_stage m d new v turn.writes one may.1 (subst (AtDriver m d v ended) turn.was stands));
       serial = serial_step m d Close reply new step h;
-      params = ap (λ x. x.setup.params) one.state;
+      setup = ap (λ (x : DeskState). x.setup) one.state;
       among = none_among d Close reply new (records_up_to v.epoch ended) tt step;
     }
 desk_at m d v ended stage (Publish epoch left) reply new next may step turn h stands =
@@ -394,7 +396,7 @@ desk_at m d v ended stage (Publish epoch left) reply new next may step turn h st
       good = good_step m d (Publish epoch left) reply new may step tt h;
       at_place = subst (AtDriver (base_map m d) new v ended) (sym turn.now) (publish_stage m d new v ended turn.published one (subst (AtDriver m d v ended) turn.was stands));
       serial = serial_step m d (Publish epoch left) reply new step h;
-      params = ap (λ x. x.setup.params) one.state;
+      setup = ap (λ (x : DeskState). x.setup) one.state;
       among = publish_among m d new v ended turn.published reply turn.told one (subst (AtDriver m d v ended) turn.was stands);
     }
 

@@ -11,7 +11,7 @@ use Rattle.ob_serial.specs.Serial.{Map, OneByOne, committed_of, is_committed, Tx
 use Rattle.ob_serial.proofs.Runs.{goes_on}
 use Rattle.ob_serial.specs.Vaults.{VaultCall, Fetch, End, VaultAnswer, Values, Ended, RefusedBy, DoubtBy, Standing, VaultState, VaultStep, MayStand, standing_now, standing_next, with_writes}
 use Rattle.ob_order.specs.Works.{last_writes}
-use Rattle.ob_desk.specs.Desk.{Part, DeskState, Call, Reply, Publish, record_of, records_told}
+use Rattle.ob_desk.specs.Desk.{Setup, Part, DeskState, Call, Reply, Publish, record_of, records_told}
 use Rattle.ob_desk.proofs.Runs.{Good, good_new, committed_append}
 use Rattle.ob_desk.proofs.Sees.{replays_from_reads}
 use Rattle.ob_desk.proofs.Published.{one_by_one_from, batch_gives}
@@ -124,7 +124,7 @@ module _ (c : Course) (first : Map nat_cmp) where
           doubt = h.doubt;
           acked_held = held_append w.vault.epoch acked (told_committed call reply) h.acked_held (told_held w.vault.epoch w.desk call reply s.desk s.may s.step h.clients);
           clients = ended_step w.vault.epoch w.desk call reply s.desk s.step settles h.clients;
-          alike = h.alike ∙ ap (λ p. p.batches) (sym t.params);
+          alike = h.alike ∙ ap (λ (s : Setup). s.params.batches) (sym t.setup);
           ahead = omega (arith, h.ahead, epoch_grows w.desk call reply s.desk s.step);
           doubt_ahead = λ x is. (let was : x.epoch < w.desk.running.epoch = h.doubt_ahead x is in omega (arith, was, epoch_grows w.desk call reply s.desk s.step));
         };

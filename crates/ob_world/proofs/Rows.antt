@@ -11,7 +11,7 @@ use Rattle.ob_serial.specs.Serial.{EpochRecord, Map}
 use Rattle.ob_serial.specs.Vaults.{Fetch, End, Values, Ended, DoubtBy, Standing, VaultState, with_writes}
 use Rattle.ob_order.specs.Order.{after_begin, after_write, after_take, after_deliver}
 use Rattle.ob_order.specs.declared.answers.Wrote.TheVariants.{Yes}
-use Rattle.ob_desk.specs.Desk.{Setup, Part, DeskState, Memory, Fault, Committed, UnsureOf, new_desk, new_part, new_client, new_holder, begin_client, note_asked, on_client, with_order, with_holder, closing, settle}
+use Rattle.ob_desk.specs.Desk.{Setup, Part, DeskState, Memory, Fault, Committed, UnsureOf, new_desk, new_part, new_client, new_holder, begin_client, note_asked, on_client, with_order, with_holder, closing, settle, setup_of}
 use Rattle.ob_desk.specs.Desk.{record_of, stopped_by, stop_part, Begin, Write, Commit, Settled, TakeBatch, Deliver, Close, Publish, Stop, Unsure, IsStopped, StoppedBy, Begun, Done, IsSettled, Batch, Writes, Published}
 use Rattle.ob_desk.specs.declared.calls.Txn.{Txn}
 use Rattle.ob_desk.specs.declared.clients.Client.{Client}
@@ -56,7 +56,7 @@ small = record {
 }
 
 abbrev pub setup : Setup
-setup = record { params = small }
+setup = setup_of small
 
 abbrev pub writes : List (ℕ × Option (List ℕ))
 writes = (5, Some (7 ∷ [])) ∷ []
@@ -234,7 +234,7 @@ work_is_world events last rest = (
       desk = d2;
       driver = AtRest;
       may = (record { client = busy; found = refl; last = refl }, inr (record { runs = refl; goes = refl }, refl, refl), omega arith);
-      step = record { live = record { runs = refl; goes = refl }; reply = refl; state = refl };
+      step = record { live = record { runs = refl; goes = refl }; within = refl; reply = refl; state = refl };
       moves = refl;
       state = refl;
     },

@@ -226,7 +226,7 @@ asking_is_wanted = (
       record { up = tt; own = inr refl; desk = f2; driver = AtRest; step = record { not_stopped = refl; next = refl; state = refl }; moves = refl; state = refl },
       (
         g3,
-        record { up = tt; own = inr refl; desk = f3; driver = AtRest; step = record { live = record { runs = refl; goes = refl }; reply = refl; state = refl }; moves = refl; state = refl },
+        record { up = tt; own = inr refl; desk = f3; driver = AtRest; step = record { live = record { runs = refl; goes = refl }; within = refl; reply = refl; state = refl }; moves = refl; state = refl },
         (
           g4,
           record { up = tt; own = inl (refl, tt); desk = f4; driver = HasClosed []; step = record { batch = refl; state = refl }; moves = record { writes = []; was = refl; told = refl; now = refl }; state = refl },

@@ -12,7 +12,7 @@ use Rattle.ob_store.specs.Lines.{Trace}
 use Rattle.ob_serial.specs.Serial.{Map}
 use Rattle.ob_serial.specs.Vaults.{VaultCall, Fetch, End, VaultAnswer, Values, Ended, RefusedBy, DoubtBy, VaultState, IsAnswer, standing_now, vault_next}
 use Rattle.ob_serial.specs.VaultKinds.{Kind, Called, after_calls}
-use Rattle.ob_desk.specs.Desk.{Setup, DeskState, Begin, Begun, new_desk}
+use Rattle.ob_desk.specs.Desk.{Setup, DeskState, Begin, Begun, new_desk, setup_of}
 use Rattle.ob_conduct.proofs.Going.{in_order}
 use Rattle.ob_conduct.specs.Acts.{Act, Says, RestUnwatched, IsAllowed, calls}
 use Rattle.ob_conduct.specs.declared.run_err.RunErr.TheVariants.{Unwatched}
@@ -102,7 +102,7 @@ wide = record {
 }
 
 abbrev pub other_setup : Setup
-other_setup = record { params = wide }
+other_setup = setup_of wide
 
 conducted : (s : Setup) (v : VaultState) → Conducted plain nobody eager (idle (new_desk s 1 1 []) v) (idle (new_desk s 1 1 []) v) [] (Ok tt)
 conducted s v = record {

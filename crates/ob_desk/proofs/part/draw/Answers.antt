@@ -4,6 +4,7 @@ use Rattle.ob_order.specs.OrderModel.{OrderModel}
 use Rattle.ob_order.specs.Order.{after_begin}
 use Rattle.ob_order.specs.Works.{goes_on}
 use Rattle.ob_desk.specs.Desk.{Part, Holder, new_holder}
+use Rattle.ob_shares.specs.Seen.{uses_of}
 use Rattle.ob_desk.specs.Parts.{HasGoing, part_of}
 use Rattle.ob_desk.proofs.Steps.{told_err}
 use Rattle.ob_desk.proofs.Going.{pruned_listed, begun_listed}
@@ -74,7 +75,7 @@ pub returns-in_err-ticket-clause-err : goal.returns-in_err-ticket-clause-err
 returns-in_err-ticket-clause-err c =
     let a = c.args.part.now in
     told_err c.from_residual-in_err-ticket.result
-    (ap (λ (o : OrderModel). let p : Part = record { epoch = a.epoch; order = o.state; holders = c.reserve-2.new.self.items } in p) c.in_err-ticket.ensures.err
+    (ap (λ (o : OrderModel). let p : Part = record { epoch = a.epoch; order = o.state; holders = c.reserve-2.new.self.items; uses = uses_of a.uses } in p) c.in_err-ticket.ensures.err
     ∙ ap (λ (hs : List Holder). let p : Part = record (part_of a) { holders = hs } in p) c.reserve-2.ensures.items)
 
 pub returns-clause-ok : goal.returns-clause-ok
@@ -82,5 +83,5 @@ returns-clause-ok c =
     let a = c.args.part.now in
     let next = after_begin a.order.state in
     let drawn = new_holder c.args.client in
-    ap (λ (o : OrderModel). let p : Part = record { epoch = a.epoch; order = o.state; holders = c.push_reserved-2.new.self.items } in p) c.in_ok-ticket.ensures.ok
+    ap (λ (o : OrderModel). let p : Part = record { epoch = a.epoch; order = o.state; holders = c.push_reserved-2.new.self.items; uses = uses_of a.uses } in p) c.in_ok-ticket.ensures.ok
     ∙ ap (λ (hs : List Holder). let p : Part = record (part_of a) { order = next; holders = hs } in p) (c.push_reserved-2.ensures.items ∙ ap (λ (hs : List Holder). hs ++ drawn ∷ []) c.reserve-2.ensures.items)

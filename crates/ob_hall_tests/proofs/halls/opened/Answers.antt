@@ -1,8 +1,26 @@
-use Rattle.std.proofs.Common.{◌∙◌, ap}
-use Rattle.ob_desk.specs.Desk.{DeskState}
+use Rattle.std.proofs.Common.{◌∙◌, ap, arith, length}
+use Rattle.ob_shares.proofs.Fitting.{none_fit}
+use Rattle.ob_desk.specs.Desk.{DeskState, setup_of}
 use Rattle.ob_hall.specs.Rounds.{rounds_of}
 use Rattle.ob_hall_tests.proofs.Passes.{starting, as_many}
 use Rattle.ob_hall_tests.proofs.halls.opened.Goals as goal
+
+pub new-requires-3 : goal.new-requires-3
+new-requires-3 g c = record {
+  opens = (
+    setup_of c.in-Ok.params,
+    1,
+    1,
+    (let batches = c.in-Ok.ensures.made.4 in record {
+      few_left = omega (arith, batches);
+      low_epoch = omega arith;
+      named = c.requires.named;
+      rising = c.requires.rising;
+      fit = none_fit (length c.args.clients.now) _ _;
+    }),
+    c.in-Ok-new.ensures,
+  );
+}
 
 pub returns-clause-starting : goal.returns-clause-starting
 returns-clause-starting g c =

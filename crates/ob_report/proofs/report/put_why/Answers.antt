@@ -12,6 +12,12 @@ returns-in-ReadsFull g c = rw c.in-ReadsFull.is c.put_reads_full.ensures
 pub returns-in-WritesFull : goal.returns-in-WritesFull
 returns-in-WritesFull g c = rw c.in-WritesFull.is c.put_number-in-WritesFull.ensures
 
+pub returns-in-ShareReads : goal.returns-in-ShareReads
+returns-in-ShareReads g c = rw c.in-ShareReads.is c.put_number-in-ShareReads.ensures
+
+pub returns-in-ShareWrites : goal.returns-in-ShareWrites
+returns-in-ShareWrites g c = rw c.in-ShareWrites.is c.put_number-in-ShareWrites.ensures
+
 pub returns-in-EpochEnd : goal.returns-in-EpochEnd
 returns-in-EpochEnd g c = rw c.in-EpochEnd.is c.put_bytes.ensures
 

@@ -1,7 +1,7 @@
 use Rattle.std.proofs.Common.{◌∙◌, ◌∷◌, suc, length, sym, ap, subst, arith}
 use Rattle.std.proofs.lemmas.List.{length-map}
 use Rattle.ob_serial.specs.VaultKinds.{kind_of}
-use Rattle.ob_desk.specs.Desk.{MayOpen, new_desk}
+use Rattle.ob_desk.specs.Desk.{MayOpen, new_desk, setup_of}
 use Rattle.ob_hall.specs.Opening.{ArePasses}
 use Rattle.ob_conduct.specs.Acts.{calls}
 use Rattle.ob_conduct.proofs.Moving.{goes_all}
@@ -11,11 +11,11 @@ use Rattle.ob_run.proofs.in_threads.run_in_threads.Goals as goal
 pub open_hall-requires : goal.open_hall-requires
 open_hall-requires g c = record {
   opens = (
-    record { params = c.args.params.now },
+    setup_of c.args.params.now,
     suc (g.V.Vault.counts c.args.vault.now).epoch,
     (g.V.Vault.counts c.args.vault.now).left,
-    subst (MayOpen (record { params = c.args.params.now }) (suc (g.V.Vault.counts c.args.vault.now).epoch) (g.V.Vault.counts c.args.vault.now).left) (sym c.requires.clients) c.requires.opens,
-    c.requires.fresh ∙ ap (new_desk (record { params = c.args.params.now }) (suc (g.V.Vault.counts c.args.vault.now).epoch) (g.V.Vault.counts c.args.vault.now).left) (sym c.requires.clients),
+    subst (MayOpen (setup_of c.args.params.now) (suc (g.V.Vault.counts c.args.vault.now).epoch) (g.V.Vault.counts c.args.vault.now).left) (sym c.requires.clients) c.requires.opens,
+    c.requires.fresh ∙ ap (new_desk (setup_of c.args.params.now) (suc (g.V.Vault.counts c.args.vault.now).epoch) (g.V.Vault.counts c.args.vault.now).left) (sym c.requires.clients),
   );
 }
 

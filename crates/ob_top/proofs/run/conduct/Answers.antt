@@ -1,9 +1,21 @@
-use Rattle.std.proofs.Common.{refl, sym, ◌∙◌, arith}
+use Rattle.std.proofs.Common.{◌≤◌, ◌∙◌, ℕ, All, List, arith, length, refl, subst, sym}
+use Rattle.std.specs.List.Sorted.{IsStrictlyIncreasing}
+use Rattle.ob_base.specs.Clients.{IsClientNumber}
+use Rattle.ob_shares.proofs.Fitting.{none_fit}
 use Rattle.ob_desk.specs.Desk.{new_desk}
 use Rattle.ob_run.proofs.Shapes.{short_by}
 use Rattle.ob_run.proofs.Scripts.{scripts_are_quiet}
 use Rattle.ob_top.proofs.Opens.{none_made, below_all, opens_all, new_same}
 use Rattle.ob_top.proofs.run.conduct.Goals as goal
+
+pub new-requires : goal.new-requires
+new-requires g c = record {
+  few_left = subst (λ n. n ≤ c.args.params.now.batches) (sym c.left.ensures) c.requires.few;
+  low_epoch = let e = c.epoch.ensures.epoch in let few = c.epoch.ensures.few in omega (arith, e, few);
+  named = subst (λ (cs : List ℕ). All IsClientNumber cs) (sym c.clients.ensures.clients) c.requires.sound.named;
+  rising = subst (λ (cs : List ℕ). IsStrictlyIncreasing cs) (sym c.clients.ensures.clients) c.requires.sound.rising;
+  fit = none_fit (length c.clients.result.now) c.args.params.now.places c.args.params.now.writes;
+}
 
 pub returns-in-Err-clause-done : goal.returns-in-Err-clause-done
 returns-in-Err-clause-done g c =

@@ -11,7 +11,7 @@ use Rattle.ob_desk.proofs.desk.Desk.poll.Goals as goal
 pub invariant_of-self : goal.invariant_of-self
 invariant_of-self c =
     let a = c.self.inside in
-    kept_order a.running a.other a.is_closed a.stopped c.again.new.self c.self.invariant (ap (λ (o : OrderModel). o.params) c.again.ensures.state)
+    kept_order a.running a.other a.is_closed a.stopped c.again.new.self a.running.uses c.self.invariant (ap (λ (o : OrderModel). o.params) c.again.ensures.state)
     (subst (λ (o : OrderModel). HasGoing o.state.works a.running.going.items) (sym c.again.ensures.state) (again_listed a.running.order.state _ _ _ a.running.going.items c.self.invariant.going))
 
 pub returns-in-Some : goal.returns-in-Some

@@ -18,5 +18,5 @@ take_batch-requires-clause-places c = c.requires.places ∙ ap (λ (d : DeskStat
 pub invariant_of-self : goal.invariant_of-self
 invariant_of-self c =
     let a = c.self.inside in
-    kept_order a.running a.other a.is_closed a.stopped c.take_batch.new.self c.self.invariant (ap (λ (o : OrderModel). o.params) c.take_batch.ensures.state)
+    kept_order a.running a.other a.is_closed a.stopped c.take_batch.new.self a.running.uses c.self.invariant (ap (λ (o : OrderModel). o.params) c.take_batch.ensures.state)
     (subst (λ (o : OrderModel). HasGoing o.state.works a.running.going.items) (sym c.take_batch.ensures.state) c.self.invariant.going)

@@ -1,0 +1,5 @@
+pub mod Lists
+pub mod Names
+pub mod Places
+pub mod Fair
+pub mod Own
