@@ -12,13 +12,16 @@ use Rattle.ob_seal.specs.Sealing.{Sealing}
 use Rattle.ob_stand.specs.Ends.{Ending, EndLeaves, IsEndOf, IsEndWritten, RingEnd}
 use Rattle.ob_stand.specs.Stands.{RingStanding, Stands}
 use Rattle.ob_stand.proofs.EndLaws.{end_leaves, end_spares}
+use Rattle.ob_store.specs.Calls.{Notes}
 use Rattle.ob_store.specs.Disk.{Disk, Image}
 use Rattle.ob_store.specs.Images.{IsSynced, LeavesOnly}
 use Rattle.ob_store.specs.Lines.{Trace}
-use Rattle.ob_store.specs.Told.{Tells}
+use Rattle.ob_store.specs.Told.{Tells, events_of}
 use Rattle.ob_store.specs.declared.event.Event.{Event}
 use Rattle.ob_store.specs.declared.watch.Note.{Note}
+use Rattle.ob_stand.specs.Spare.{SameButIn, Spare}
 use Rattle.ob_store.proofs.Doing.{first_behind, tells_then}
+use Rattle.ob_store.proofs.Moments.{passed_none}
 use Rattle.ob_twin.specs.Keyed.{tagging}
 use Rattle.ob_twin.specs.Opening.{GatesAre}
 use Rattle.ob_twin.specs.declared.gates.Open.{Open}
@@ -31,7 +34,7 @@ use Rattle.ob_twin.specs.declared.set_err.SetErr.{SetErr}
 use Rattle.ob_twin.specs.declared.set_err.SetErr.TheVariants as set
 use Rattle.ob_twin.proofs.Moves.{under_next}
 use Rattle.ob_twin.proofs.Sets.{leaves_before, leaves_either, put_stands}
-use Rattle.ob_end.specs.Closings.{ClosesEnd, CloseDoes, IfWritten}
+use Rattle.ob_end.specs.Closings.{ClosesEnd, ClosesInStages, CloseDoes, IfWritten}
 use Rattle.ob_end.specs.EndRuns.{end_err_of}
 
 -- a refusal of the store alone is one of a set that wrote no gate
@@ -83,20 +86,38 @@ module _ (keys : Keys) (p : Params) (s : RingStanding) (end : RingEnd) (old mid 
   pub mid_stands : Ending keys p s end old mid → Stands keys p s mid.cells
   mid_stands ending = end_spares keys p s mid.cells old.cells ending.elsewhere ending.stands
 
-  pub closed : (new : Disk) (epoch : ℕ) → ((c : Image) → old.left_since old.moment c → old.may_leave c) → epoch ≡ suc s.epoch → epoch < 2 ^ 62 → Ending keys p s end old mid → IsEndWritten keys p s end mid.cells → (r : Result (Unit {0}) SetErr)
-      → LeavesOnly mid new (SetLeaves (tagging keys) 5 mid.cells s.epoch epoch r) → OnOk r (IsPut (tagging keys) 5 mid.cells epoch new.cells) → ClosesEnd keys p s end old new r
-  closed new epoch only at small ending written r last put = by_answer r (subst (λ e. LeavesOnly mid new (SetLeaves (tagging keys) 5 mid.cells s.epoch e r)) at last) (subst (λ e. OnOk r (IsPut (tagging keys) 5 mid.cells e new.cells)) at put)
-    where
-      leaves : EndLeaves keys p s end old mid new
-      leaves = end_leaves keys p s end old mid new only ending
+-- nothing is written while the register is set
+pub none_spare : (p : Params) (s : RingStanding) (d : Disk) → WritesSpare p s d d
+none_spare p s d = record { rest = λ tells k off. refl; passes = passed_none d (SameButIn (Spare p s)) (λ c k off. refl) }
 
-      by_answer : (x : Result (Unit {0}) SetErr) → LeavesOnly mid new (SetLeaves (tagging keys) 5 mid.cells s.epoch (suc s.epoch) x) → OnOk x (IsPut (tagging keys) 5 mid.cells (suc s.epoch) new.cells) → ClosesEnd keys p s end old new x
+module _ {S : Type 0} (disk : S → Disk) (writes : List Note) (keys : Keys) (p : Params) (s : RingStanding) (end : RingEnd) (old mid new : S) where
+  pub closed : (epoch : ℕ) → ((c : Image) → (disk old).left_since (disk old).moment c → (disk old).may_leave c) → ((c : Image) → (disk mid).left_since (disk mid).moment c → (disk mid).may_leave c)
+      → epoch ≡ suc s.epoch → epoch < 2 ^ 62 → Ending keys p s end (disk old) (disk mid) → IsEndWritten keys p s end (disk mid).cells → (disk mid).tells → IsSynced (disk mid) → Notes (events_of writes) (disk old).seen (disk mid).seen → (r : Result (Unit {0}) SetErr)
+      → LeavesOnly (disk mid) (disk new) (SetLeaves (tagging keys) 5 (disk mid).cells s.epoch epoch r) → OnOk r (IsPut (tagging keys) 5 (disk mid).cells epoch (disk new).cells) → ClosesEnd disk writes keys p s end old new r
+  closed epoch only only_mid at small ending written tells synced made r last put =
+      by_answer r (subst (λ e. LeavesOnly (disk mid) (disk new) (SetLeaves (tagging keys) 5 (disk mid).cells s.epoch e r)) at last) (subst (λ e. OnOk r (IsPut (tagging keys) 5 (disk mid).cells e (disk new).cells)) at put)
+    where
+      leaves : EndLeaves keys p s end (disk old) (disk mid) (disk new)
+      leaves = end_leaves keys p s end (disk old) (disk mid) (disk new) only ending
+
+      stands : Stands keys p s (disk mid).cells
+      stands = mid_stands keys p s end (disk old) (disk mid) ending
+
+      -- from the writes on
+      setting : EndLeaves keys p s end (disk mid) (disk mid) (disk new)
+      setting = end_leaves keys p s end (disk mid) (disk mid) (disk new) only_mid (is_ending keys p s end (disk mid) (disk mid) ending.follows tells synced stands (none_spare p s (disk mid)))
+
+      staged : (x : Result (Unit {0}) SetErr) → LeavesOnly (disk mid) (disk new) (SetLeaves (tagging keys) 5 (disk mid).cells s.epoch (suc s.epoch) x) → ClosesInStages disk writes keys p s end old new
+      staged x left = record { between = mid; made = made; until = leaves.filling; since = setting.any_moment written (leaves_either (tagging keys) 5 s.epoch (suc s.epoch) (disk mid).cells (disk mid) (disk new) x left) }
+
+      by_answer : (x : Result (Unit {0}) SetErr) → LeavesOnly (disk mid) (disk new) (SetLeaves (tagging keys) 5 (disk mid).cells s.epoch (suc s.epoch) x) → OnOk x (IsPut (tagging keys) 5 (disk mid).cells (suc s.epoch) (disk new).cells)
+          → ClosesEnd disk writes keys p s end old new x
       by_answer (Ok done) left is = (
-        leaves.any_moment written (leaves_either (tagging keys) 5 s.epoch (suc s.epoch) mid.cells mid new (Ok done) left),
-        leaves.done written (put_stands (tagging keys) 5 (suc s.epoch) mid.cells new.cells (omega (arith, at, small)) (under_next (tagging keys) 5 s.epoch (suc s.epoch) mid.cells (omega arith) (mid_stands ending).epoch) is),
+        staged (Ok done) left,
+        leaves.done written (put_stands (tagging keys) 5 (suc s.epoch) (disk mid).cells (disk new).cells (omega (arith, at, small)) (under_next (tagging keys) 5 s.epoch (suc s.epoch) (disk mid).cells (omega arith) stands.epoch) is),
       )
-      by_answer (Err (set.Before f)) left is = leaves.before (leaves_before (tagging keys) 5 s.epoch (suc s.epoch) mid.cells mid new (Err (set.Before f)) tt left)
-      by_answer (Err (set.Unsure f)) left is = leaves.any_moment written (leaves_either (tagging keys) 5 s.epoch (suc s.epoch) mid.cells mid new (Err (set.Unsure f)) left)
+      by_answer (Err (set.Before f)) left is = leaves.before (leaves_before (tagging keys) 5 s.epoch (suc s.epoch) (disk mid).cells (disk mid) (disk new) (Err (set.Before f)) tt left)
+      by_answer (Err (set.Unsure f)) left is = staged (Err (set.Unsure f)) left
 
 -- ---- what it shows
 

@@ -18,7 +18,6 @@ use Rattle.ob_seal.specs.declared.keys.Keys.{Keys}
 use Rattle.ob_serial.specs.VaultViews.{IsEndFault, IsStoreEnd}
 use Rattle.ob_serial.specs.declared.vault.EndErr.{EndErr}
 use Rattle.ob_serial.specs.declared.vault.EndErr.TheVariants as end
-use Rattle.ob_stand.specs.Ends.{RingEnd, standing_after}
 use Rattle.ob_stand.specs.Stands.{OneOf, RingStanding, Stands}
 use Rattle.ob_store.specs.Calls.{IsStoreFault, Serves}
 use Rattle.ob_store.specs.Disk.{Disk, Image}
@@ -35,7 +34,7 @@ use Rattle.ob_twin.specs.Refused.{IsSetFault}
 use Rattle.ob_twin.specs.declared.set_err.SetErr.{SetErr}
 use Rattle.ob_twin.specs.declared.set_err.SetErr.TheVariants as set
 use Rattle.ob_twin.specs.declared.twin.Twin.TheVariants.{EPOCH}
-use Rattle.ob_end.specs.Closings.{CloseDoes, ClosesEnd, IfWritten}
+use Rattle.ob_end.specs.Closings.{CloseDoes}
 use Rattle.ob_end.specs.EndRuns.{DrawsForEnd, EndAnswers, EndDoes, EndDraws, EndImages, IfEnded, IsEndReady, IsMakeFault, MakeAnswers, MakeDraws, MakeTells, MayEndEpoch, end_err_of, standing_at_end}
 
 -- ---- a run that counts as spent while it is at work
@@ -161,13 +160,6 @@ module _ (keys : Keys) (p : Params) (s : RingStanding) (ws : List (Write × Entr
 
   pub images_ended : LeavesOnly old new (OneOf keys p s (standing_at_end s run ws)) → LeavesOnly old new (EndImages keys p s ws run (Ok tt))
   images_ended leaves = weakened old new (OneOf keys p s (standing_at_end s run ws)) (EndImages keys p s ws run (Ok tt)) (λ c is. is) leaves
-
-  pub images_closed : (ks : Keys) (q : Params) (ending : RingEnd) (mids : Disk) (rows : Type 0) (x : SetErr) → ClosesEnd ks q s ending mids new (Err x) → IfWritten rows (Err x)
-      → (LeavesOnly mids new (Stands ks q s) → LeavesOnly old new (Stands keys p s)) → (rows → LeavesOnly mids new (OneOf ks q s (standing_after s ending)) → LeavesOnly old new (OneOf keys p s (standing_at_end s run ws)))
-      → LeavesOnly old new (EndImages keys p s ws run (Err (end_err_of x)))
-  images_closed ks q ending mids rows (set.Before f) closes left refused either = images_refused f (refused closes)
-  images_closed ks q ending mids rows (set.Unsure f) closes left refused either =
-      weakened old new (OneOf keys p s (standing_at_end s run ws)) (EndImages keys p s ws run (Err (end.Unsure f))) (λ c is. is) (either left closes)
 
 -- once all was written, whatever came of the register
 pub if_ended : (A : Type 0) (x : SetErr) → A → IfEnded A (Err (end_err_of x))

@@ -1,6 +1,6 @@
 -- Between what an end makes and what it writes: what the writing asks for, and what the run is at behind it.
 use Rattle.std.specs.Prelude.{◌≡◌, ℕ, suc, ◌+◌, ◌*◌, ◌<◌, ◌≤◌, ◌^◌, false, List, [], ◌∷◌, ◌++◌, Some, length}
-use Rattle.std.proofs.Common.{arith, inl, sym, ap, ◌∙◌, subst}
+use Rattle.std.proofs.Common.{arith, sym, ap, ◌∙◌, subst}
 use Rattle.ob_base.specs.declared.params.Params.{Params}
 use Rattle.ob_base.specs.declared.value.Write.{Write}
 use Rattle.ob_base.specs.Layout.{checkpoint_cells}
@@ -269,10 +269,11 @@ module _ (run mid : Run) (disk : Disk) (writes : List Write) (words : List ℕ) 
             ap (λ (m : Values). record { epoch = suc s.epoch; generation = s.generation; map = m; content = end.content; records = [] }) map_is
             ∙ ap (λ (c : Content). record { epoch = suc s.epoch; generation = s.generation; map = with_entries s.map ws; content = c; records = [] }) (is_end.content ∙ sym (content_is run.params mid.ring last stash rows mid_p))
 
-        pub either_leaves : LeavesOnly mids new (OneOf (mid.sealer).keys (mid.ring).p s (standing_after s end)) → LeavesOnly disk new (OneOf (run.sealer).keys run.params s then)
-        either_leaves leaves = with_reads (OneOf (run.sealer).keys run.params s then) (λ c before. inl before)
-            (subst (λ (x : RingStanding). LeavesOnly mids new (OneOf (run.sealer).keys run.params s x)) then_is
-            (subst (λ (x : Sealing). LeavesOnly mids new (OneOf x.keys run.params s (standing_after s end))) same_sealer (subst (λ (q : Params). LeavesOnly mids new (OneOf (mid.sealer).keys q s (standing_after s end))) mid_p leaves)))
+        -- as the run names it
+        pub either_as : (a : Disk) → LeavesOnly a new (OneOf (mid.sealer).keys (mid.ring).p s (standing_after s end)) → LeavesOnly a new (OneOf (run.sealer).keys run.params s then)
+        either_as a leaves =
+            subst (λ (x : RingStanding). LeavesOnly a new (OneOf (run.sealer).keys run.params s x)) then_is
+            (subst (λ (x : Sealing). LeavesOnly a new (OneOf x.keys run.params s (standing_after s end))) same_sealer (subst (λ (q : Params). LeavesOnly a new (OneOf (mid.sealer).keys q s (standing_after s end))) mid_p leaves))
 
         pub stands_then : (later : Sealing) → later.keys ≡ (mid.sealer).keys → Stands (mid.sealer).keys (mid.ring).p (standing_after s end) new.cells → Stands later.keys mid.params then new.cells
         stands_then later ks stands =

@@ -9,6 +9,7 @@ pub mod Whole
 pub mod ActLaws
 pub mod CloseLaws
 pub mod EndCases
+pub mod Moments
 pub mod EndLaws
 pub mod EndStage
 pub mod EndTables

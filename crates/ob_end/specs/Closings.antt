@@ -1,13 +1,15 @@
 -- What the end of an epoch leaves and shows, once its tables are made.
 use Rattle.std.specs.Prelude.{◌≡◌, ◌⊎◌, ◌<◌, ℕ, Bool, List, ◌++◌, Option, Result, Ok, Err}
 use Rattle.ob_base.specs.declared.params.Params.{Params}
+use Rattle.ob_fetch.specs.Stages.{InTwoStages}
 use Rattle.ob_seal.specs.declared.keys.Keys.{Keys}
 use Rattle.ob_stand.specs.Ends.{RingEnd, standing_after}
 use Rattle.ob_stand.specs.Stands.{OneOf, RingStanding, Stands}
+use Rattle.ob_store.specs.Calls.{Notes}
 use Rattle.ob_store.specs.Disk.{Disk, Image}
 use Rattle.ob_store.specs.Images.{LeavesOnly}
 use Rattle.ob_store.specs.Lines.{Trace}
-use Rattle.ob_store.specs.Told.{Tells, TellsFirst}
+use Rattle.ob_store.specs.Told.{Tells, TellsFirst, events_of}
 use Rattle.ob_store.specs.declared.event.Event.{Event}
 use Rattle.ob_store.specs.declared.watch.Note.{Note}
 use Rattle.ob_twin.specs.Orders.{gate_notes, prepare_notes, set_notes}
@@ -18,11 +20,16 @@ use Rattle.ob_twin.specs.declared.set_err.SetErr.TheVariants as set
 abbrev pub SameGeneration : Image → Image → Type 0
 SameGeneration a b = (k : ℕ) → k < 5 → a k ≡ b k
 
--- A crash leaves what stood, or that or what the end makes; and that stands once it went well.
-abbrev pub ClosesEnd : Keys → Params → RingStanding → RingEnd → Disk → Disk → Result (Unit {0}) SetErr → Type 0
-ClosesEnd keys p s end old new (Ok done) = LeavesOnly old new (OneOf keys p s (standing_after s end)) × Stands keys p (standing_after s end) new.cells
-ClosesEnd keys p s end old new (Err (set.Before fault)) = LeavesOnly old new (Stands keys p s)
-ClosesEnd keys p s end old new (Err (set.Unsure fault)) = LeavesOnly old new (OneOf keys p s (standing_after s end))
+-- These writes were made while a crash leaves what stood; then the epoch's register is set, while it leaves that or what the end makes. Once it
+-- went well that stands.
+module _ {S : Type 0} (disk : S → Disk) (writes : List Note) (keys : Keys) (p : Params) (s : RingStanding) (end : RingEnd) (old new : S) where
+  abbrev pub ClosesInStages : Type 0
+  ClosesInStages = InTwoStages disk (Notes (events_of writes)) (Stands keys p s) (OneOf keys p s (standing_after s end)) old new
+
+  abbrev pub ClosesEnd : Result (Unit {0}) SetErr → Type 0
+  ClosesEnd (Ok done) = ClosesInStages × Stands keys p (standing_after s end) (disk new).cells
+  ClosesEnd (Err (set.Before fault)) = LeavesOnly (disk old) (disk new) (Stands keys p s)
+  ClosesEnd (Err (set.Unsure fault)) = ClosesInStages
 
 -- what holds once all was written, but maybe for the register
 abbrev pub IfWritten : Type 0 → Result (Unit {0}) SetErr → Type 0

@@ -80,12 +80,14 @@ pub fn close_epoch<R: Threads + Sync, S: Store, W: Watch>(
         (S.disk store.new).seen (S.disk store.old).cells (S.disk store.new).cells result }
     // Neither the head nor the register of generations is written.
     ensures moments { Passes SameGeneration (S.disk store.old) (S.disk store.new) }
-    // Of each epoch that stands and each end of it that the ring makes.
+    // Of each epoch that stands and each end of it that the ring makes: the writes, and then the
+    // register.
     ensures closes { (s : RingStanding) (end : RingEnd) → epoch ≡ suc s.epoch
         → (S.disk store.old).tells → IsSynced (S.disk store.old)
         → Stands sealer.old.keys ring.old.p s (S.disk store.old).cells
         → IsEndOfRing s end sealer.old.generation ring.old
-        → ClosesEnd sealer.old.keys ring.old.p s end (S.disk store.old) (S.disk store.new) result }
+        → ClosesEnd S.disk (end_write_notes ring.old epoch) sealer.old.keys ring.old.p s end
+        store.old store.new result }
     ensures does { CloseDoes (end_write_notes ring.old epoch)
         (is_closed_first gates.old.epoch (place_of epoch)) epoch (S.disk store.old).seen
         (S.disk store.new).seen (W.trace watch.old) (W.trace watch.new) result }

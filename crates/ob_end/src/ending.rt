@@ -22,13 +22,14 @@ ghost use Rattle.ob_schedule.specs.Schedule.{end_lifts, end_notes};
 ghost use Rattle.ob_serial.specs.VaultViews.{IsEndFault, IsStoreEnd};
 ghost use Rattle.ob_stand.specs.Stands.{RingStanding};
 ghost use Rattle.ob_store.specs.Calls.{Serves};
-ghost use Rattle.ob_store.specs.Images.{IsSynced, LeavesOnly, Passes};
+ghost use Rattle.ob_store.specs.Images.{IsSynced, Passes};
 ghost use Rattle.ob_store.specs.Lines.{Shows};
 ghost use Rattle.ob_store.specs.declared.watch.Note.{Note};
 ghost use Rattle.ob_twin.specs.Opening.{GatesAre, is_closed_first};
 ghost use Rattle.ob_twin.specs.Register.{place_of};
 ghost use Rattle.ob_end.specs.Closings.{SameGeneration};
-ghost use Rattle.ob_end.specs.EndRuns.{EndAnswered, EndRunCounts, EndDoes, EndDraws, EndImages, EndStands, EndTables, IfEnded, IsEndReady, LeadsOn, end_err_of, end_writes, seals_for_end};
+ghost use Rattle.ob_end.specs.EndRuns.{EndAnswered, EndRunCounts, EndDoes, EndDraws, EndStands, EndTables, IfEnded, IsEndReady, LeadsOn, end_err_of, end_writes, seals_for_end};
+ghost use Rattle.ob_end.specs.Moments.{EndMoments};
 ghost use Rattle.ob_end.specs.Shown.{EndShows};
 
 use crate::closing::close_epoch;
@@ -165,12 +166,12 @@ pub fn end<S: Lanes, R: Threads + Sync, T: Tape, W: Watch>(
         → EndStands s (end_writes run.old.params writes.now (words_since (T.drawn tape.old)
         (T.drawn tape.new)) run.old.sealer.generation run.old.drawn) (S.disk store.new) run.new
         result }
-    // A crash at any moment of it leaves what stood, or that or what then stands.
+    // A crash at any moment of it leaves what stood, or that or what then stands: the first until
+    // the register is set, behind the lifts and all that is written beside it.
     ensures images { (s : RingStanding) → RunIsAt run.old s (S.disk store.old)
-        → LeavesOnly (S.disk store.old) (S.disk store.new)
-        (EndImages run.old.sealer.keys run.old.params s (end_writes run.old.params writes.now
+        → EndMoments S.disk crew.old.lanes s (end_writes run.old.params writes.now
         (words_since (T.drawn tape.old) (T.drawn tape.new)) run.old.sealer.generation
-        run.old.drawn) run.new result) }
+        run.old.drawn) run.old run.new store.old store.new result }
 {
     run.spent = true;
     match make_end(rt, store, tape, crew, run, index, writes, watch) {

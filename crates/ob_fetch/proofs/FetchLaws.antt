@@ -23,15 +23,15 @@ use Rattle.ob_twin.proofs.Moves.{settled_image}
 use Rattle.ob_stand.proofs.Frames.{stands_all}
 use Rattle.ob_stand.specs.Stands.{OneOf, RingStanding, Stands, with_record}
 use Rattle.ob_store.proofs.Moments.{leaves_of, passed_then, passes_so, started, then_on}
-use Rattle.ob_store.specs.Calls.{Keeps}
+use Rattle.ob_store.specs.Calls.{Keeps, Notes}
 use Rattle.ob_store.specs.Disk.{Clock, Disk, Image, NotAfter}
 use Rattle.ob_store.specs.Images.{IsSynced, LeavesOnly, Passes, Same, SameOff}
 use Rattle.ob_store.specs.Lines.{Trace}
-use Rattle.ob_store.specs.Told.{TellsFirst}
+use Rattle.ob_store.specs.Told.{TellsFirst, events_of}
 use Rattle.ob_store.specs.declared.event.Event.{Event}
 use Rattle.ob_store.specs.declared.watch.Note.{Note}
-use Rattle.ob_fetch.proofs.NextLaws.{Begun, at_batch, batch_is, may, seals_listed, stands_listed}
-use Rattle.ob_fetch.specs.Fetches.{DrawsWords, FetchAnswers, FetchDoes, FetchDraws, RunIsAt, IsFetchRefusal, IsLoggedFirst, IsWornForBatch, MovesPlanner, next_batch, record_next, words_since}
+use Rattle.ob_fetch.proofs.NextLaws.{Begun, at_batch, batch_is, may, seals_listed, stands_listed, stands_then}
+use Rattle.ob_fetch.specs.Fetches.{DrawsWords, FetchAnswers, FetchDoes, FetchDraws, RunIsAt, FetchStages, IsFetchInStages, IsFetchRefusal, IsLoggedFirst, IsWornForBatch, MovesPlanner, next_batch, record_next, words_since}
 use Rattle.ob_fetch.specs.declared.run.Run.{Run}
 
 -- ---- refusals, by their kind
@@ -172,6 +172,38 @@ leaves_read P old mid new only counts first passes =
     then_on old mid new P first
     (leaves_of Same P P mid new passes only (λ c left. first.each c (counts old.moment c first.later left)) first.told (λ c d was step. subst P (sym step) was) (λ c was. was))
 
+-- In two stages: its record's gate was synced, and then it was read.
+pub in_stages : {S : Type 0} (disk : S → Disk) (run : Run) (s : RingStanding) (r : BatchRecord) (old mid new : S) → ((c : Image) → (disk mid).left_since (disk mid).moment c → (disk mid).may_leave c)
+    → Notes (events_of (append_notes run.params (suc run.epoch) r.batch)) (disk old).seen (disk mid).seen → LeavesOnly (disk old) (disk mid) (OneOf (run.sealer).keys run.params s (with_record s r))
+    → IsSynced (disk mid) → Stands (run.sealer).keys run.params (with_record s r) (disk mid).cells → Passes Same (disk mid) (disk new) → IsFetchInStages disk run s r old new
+in_stages disk run s r old mid new only made until synced stands passes = record {
+  between = mid;
+  made = made;
+  until = until;
+  since = leaves_of Same (Stands (run.sealer).keys run.params (with_record s r)) (Stands (run.sealer).keys run.params (with_record s r)) (disk mid) (disk new) passes only
+      (λ c left. stands_all (run.sealer).keys run.params (with_record s r) c (disk mid).cells (synced c left) stands) (λ tells. stands) (λ c d was step. subst (Stands (run.sealer).keys run.params (with_record s r)) (sym step) was) (λ c was. was);
+}
+
+module _ {S : Type 0} (disk : S → Disk) (run : Run) (s : RingStanding) (r : BatchRecord) (old new : S) where
+  -- refused while it was read
+  pub stages_refused : (f : Fault) → IsRepeatFault f → IsFetchInStages disk run s r old new → FetchStages disk run s r old new (Err f)
+  stages_refused Memory fault both = both
+  stages_refused Usage fault both = both
+  stages_refused (BadScript line) fault both = both
+  stages_refused (BadParams field) fault both = both
+  stages_refused NotStore fault both = both
+  stages_refused (Damaged cell check kept computed) fault both = both
+  stages_refused (StoreFault unsure) fault both = inl both
+  stages_refused (StashFull rows) fault both = both
+  stages_refused (Worn number) fault both = absurd fault
+  stages_refused SourceFault fault both = both
+  stages_refused SinkFault fault both = both
+
+  -- refused while the batch was begun
+  pub stages_begun : {before later : Trace} (f : Fault) → f ≡ StoreFault None → TellsFirst (append_notes run.params (suc run.epoch) r.batch) (disk old).seen (disk new).seen before later
+      → LeavesOnly (disk old) (disk new) (OneOf (run.sealer).keys run.params s (with_record s r)) → FetchStages disk run s r old new (Err f)
+  stages_begun f is first leaves = subst (λ (e : Fault). FetchStages disk run s r old new (Err e)) (sym is) (inr ((first.made, first.shown, first.cut, (first.tells).seen), leaves))
+
 -- ---- what is in the cells
 
 pub settled_then : (mid new : Disk) → mid.tells → IsSynced mid → Keeps mid new → Passes Same mid new → IsSynced new
@@ -252,6 +284,21 @@ module _ (run : Run) (s : RingStanding) (r : BatchRecord) (old mid : Disk) (was 
   begun_leaves only within images =
       leaves_begun run s r old mid only was begun (within_next run old mid within).passes
       (subst (λ (e : ℕ). LeavesOnly old mid (HoldsOneOf (run.sealer).keys run.params e s.records r)) (next_is run.epoch) (images s.records was.tells was.settled many_at logged_at))
+
+-- the stages of a fetch whose record was opened
+pub stages_logged : {S : Type 0} (disk : S → Disk) (run : Run) (s : RingStanding) (asks : List (Option ℕ)) (words : List ℕ) (old mid new : S) → ((c : Image) → (disk old).left_since (disk old).moment c → (disk old).may_leave c)
+    → ((c : Image) → (disk mid).left_since (disk mid).moment c → (disk mid).may_leave c) → (was : RunIsAt run s (disk old)) → 0 < run.left → run.left ≤ (run.params).batches → RecordObeys run.params (next_batch run) (record_next run asks words)
+    → WritesWithin (log_cell run.params ((run.epoch + 1) % 2) (next_batch run) 0) (record_cells run.params + 1) (disk old) (disk mid)
+    → ((records : List BatchRecord) → (disk old).tells → IsSynced (disk old) → length records ≡ next_batch run → OpenRecords (run.sealer).keys run.params (run.epoch + 1) records (disk old).cells
+    → LeavesOnly (disk old) (disk mid) (HoldsOneOf (run.sealer).keys run.params (run.epoch + 1) records (record_next run asks words)))
+    → HoldsRecord (run.sealer).keys run.params (run.epoch + 1) (next_batch run) (record_next run asks words) (disk mid).cells → IsSynced (disk mid)
+    → Notes (events_of (append_notes run.params (run.epoch + 1) (next_batch run))) (disk old).seen (disk mid).seen → Passes Same (disk mid) (disk new) → IsFetchInStages disk run s (record_next run asks words) old new
+stages_logged disk run s asks words old mid new only_old only_mid was some few obeys within images written synced seen passes =
+    let r : BatchRecord = record_next run asks words in
+    let begun = begun_now run asks words (disk old) (disk mid) some few obeys (within_next run (disk old) (disk mid) within) was.tells in
+    in_stages disk run s r old mid new only_mid (subst (λ (e : ℕ). Notes (events_of (append_notes run.params e (next_batch run))) (disk old).seen (disk mid).seen) (next_is run.epoch) seen)
+    (begun_leaves run s r (disk old) (disk mid) was begun only_old within images) synced
+    (stands_then run s r (disk old) (disk mid) was begun (subst (λ (e : ℕ). HoldsRecord (run.sealer).keys run.params e (next_batch run) r (disk mid).cells) (next_is run.epoch) written)) passes
 
 -- ---- a batch that was read, by the names that a run has for its parts
 

@@ -1,5 +1,5 @@
 -- What a fetch of a ring store draws, keeps in the log, shows and answers.
-use Rattle.std.specs.Prelude.{◌≡◌, ◌⊎◌, ◌↔◌, ℕ, true, false, ◌+◌, ◌-◌, ◌<◌, ◌≤◌, ◌^◌, List, [], ◌∷◌, ◌++◌, map, drop, length, slice_get, Option, None, Some, Result, Ok, Err, OnOk, OnErr}
+use Rattle.std.specs.Prelude.{◌≡◌, ◌⊎◌, ◌↔◌, ℕ, suc, true, false, ◌+◌, ◌-◌, ◌<◌, ◌≤◌, ◌^◌, List, [], ◌∷◌, ◌++◌, map, drop, length, slice_get, Option, None, Some, Result, Ok, Err, OnOk, OnErr}
 use Rattle.std.specs.FinMap as finite
 use Rattle.ob_base.specs.declared.params.Params.{Params}
 use Rattle.ob_base.specs.declared.fault.Fault.{Fault}
@@ -23,15 +23,17 @@ use Rattle.ob_schedule.specs.Phases.{Phase, phases_of}
 use Rattle.ob_seal.specs.declared.keys.Keys.{Keys}
 use Rattle.ob_stand.specs.Reads.{plains_in, slots_in}
 use Rattle.ob_stand.specs.Stands.{OneOf, RingStanding, Stands, with_record}
+use Rattle.ob_store.specs.Calls.{Notes}
 use Rattle.ob_store.specs.Disk.{Disk, Image}
 use Rattle.ob_store.specs.Images.{IsSynced, LeavesOnly, Passes, Same}
 use Rattle.ob_store.specs.Lines.{Trace}
-use Rattle.ob_store.specs.Told.{IsCut, Tells, TellsFirst}
+use Rattle.ob_store.specs.Told.{IsCut, Tells, TellsFirst, events_of}
 use Rattle.ob_store.specs.declared.event.Event.{Event}
 use Rattle.ob_store.specs.declared.watch.Note.{Note}
 use Rattle.ob_tables.specs.Kept.{entry_at}
 use Rattle.ob_stand.specs.Values.{Values}
 use Rattle.ob_stand.specs.Runs.{slots_of}
+use Rattle.ob_fetch.specs.Stages.{InTwoStages}
 use Rattle.ob_fetch.specs.declared.run.Run.{Run}
 
 -- ---- what is drawn
@@ -215,7 +217,26 @@ FetchStands s r asks disk run out (Err (fault.StoreFault unsure)) = Unit {0}
 FetchStands s r asks disk run out (Err (fault.Worn number)) = Unit {0}
 FetchStands s r asks disk run out (Err _) = ⊥
 
--- So it is for each standing that the run was at; and a crash at any moment leaves what stood, or that with the record.
-pub record FetchOfStanding (old new : Run) (before behind : Disk) (r : BatchRecord) (asks : List (Option ℕ)) (out : List (Option (List ℕ))) (result : Result (Unit {0}) Fault) : Type 0 where
-  pub stands : (s : RingStanding) → RunIsAt old s before → FetchStands s r asks behind new out result
-  pub images : (s : RingStanding) → RunIsAt old s before → LeavesOnly before behind (OneOf (old.sealer).keys old.params s (with_record s r))
+-- of a row of steps the first ones were made, as calls of the store
+abbrev pub AreFirstMade : List Note → Option (List Event) → Option (List Event) → Type 0
+AreFirstMade steps old new = (made : List Note) × (shown : List Note) × IsCut steps made shown × Notes (events_of made) old new
+
+module _ {S : Type 0} (disk : S → Disk) (run : Run) (s : RingStanding) (r : BatchRecord) (old new : S) where
+  -- Until the sync behind the gate of the batch's record the store was called for the record alone, and a crash leaves what stood, or that with
+  -- the record. From then on, while the batch is read, it leaves that with the record.
+  abbrev pub IsFetchInStages : Type 0
+  IsFetchInStages = InTwoStages disk (Notes (events_of (append_notes run.params (suc run.epoch) r.batch))) (OneOf (run.sealer).keys run.params s (with_record s r)) (Stands (run.sealer).keys run.params (with_record s r)) old new
+
+  -- Refused by the store it may have come no further than the first of the record's calls; where numbers are worn nothing was done.
+  abbrev pub FetchStages : Result (Unit {0}) Fault → Type 0
+  FetchStages (Err (fault.StoreFault unsure)) =
+      IsFetchInStages
+      ⊎ (AreFirstMade (append_notes run.params (suc run.epoch) r.batch) (disk old).seen (disk new).seen × LeavesOnly (disk old) (disk new) (OneOf (run.sealer).keys run.params s (with_record s r)))
+  FetchStages (Err (fault.Worn number)) = new ≡ old
+  FetchStages result = IsFetchInStages
+
+-- So it is for each standing that the run was at; and a crash at any moment leaves what stood, or that with the record, in this order.
+pub record FetchOfStanding {S : Type 0} (disk : S → Disk) (old new : Run) (before behind : S) (r : BatchRecord) (asks : List (Option ℕ)) (out : List (Option (List ℕ))) (result : Result (Unit {0}) Fault) : Type 0 where
+  pub stands : (s : RingStanding) → RunIsAt old s (disk before) → FetchStands s r asks (disk behind) new out result
+  pub images : (s : RingStanding) → RunIsAt old s (disk before) → LeavesOnly (disk before) (disk behind) (OneOf (old.sealer).keys old.params s (with_record s r))
+  pub stages : (s : RingStanding) → RunIsAt old s (disk before) → FetchStages disk old s r before behind result

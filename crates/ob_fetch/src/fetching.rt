@@ -137,9 +137,9 @@ pub fn fetch<S: Lanes, R: Threads + Sync, T: Tape, W: Watch>(
         → OnOk result (PlansFrom run.new.params run.new.sealer.generation run.new.gates
         run.new.ring c (rs ++ record_next run.old asks.now
         (words_since (T.drawn tape.old) (T.drawn tape.new)) ∷ [])) }
-    // Where the store stood, the answers are the map's, and it stands with the record; a crash at
-    // any moment of it leaves what stood, or that with the record.
-    ensures standing { FetchOfStanding run.old run.new (S.disk store.old) (S.disk store.new)
+    // Where the store stood, the answers are the map's, and it stands with the record; a crash
+    // before its slots are read leaves what stood, or that with the record, and from then on that.
+    ensures standing { FetchOfStanding S.disk run.old run.new store.old store.new
         (record_next run.old asks.now (words_since (T.drawn tape.old) (T.drawn tape.new)))
         asks.now out.new result }
 {

@@ -386,7 +386,7 @@ module _ {S : Type 0} (disk : S → Disk) (counts : (store : S) (t : Clock) (c :
         (λ opens. opens_partly keys most p word_of s pending (disk old) (disk new) before after left.allowed f (one_of_both opens) told)
         leaves
     all_acts tape new_tape present drawn (Err fault) stood leaves does (inr begun) =
-        let behind = begins_behind disk keys p (finding_notes p found.epoch) (next_notes found) found.generation old mid new keeps reads.seen begun.begins in
+        let behind = begins_behind disk keys p (finding_notes p found.epoch) (next_notes found) found.generation old mid new keeps passes reads.seen begun.begins in
         let opens = opens_behind disk keys p old mid new passes keeps begun.opens in
         let whole = repeats_behind most p found (finding_notes p found.epoch) (next_notes found) (disk old).seen (disk mid).seen (disk new).seen before between after reads {T = Unit {0}} (Err fault) begun.repeats in
         let first = whole.repeats in

@@ -106,22 +106,36 @@ module _ {S : Type 0} (disk : S → Disk) (keys : Keys) (p : Params) where
 
   -- ---- the generation, made sure of
 
-  pub begins_then : (steps : List Note) (g : ℕ) (old mid new : S) → ((disk old).tells → IsSynced (disk mid)) → ((disk old).tells → StandsAt (tagging keys) 1 (disk old).cells g → KeepsAt (tagging keys) 1 (disk old).cells (suc g) (disk mid).cells)
+  pub begins_then : (steps : List Note) (g : ℕ) (old mid new : S) → BeginsFrom disk keys g old mid → ((disk old).tells → IsSynced (disk mid)) → ((disk old).tells → StandsAt (tagging keys) 1 (disk old).cells g → KeepsAt (tagging keys) 1 (disk old).cells (suc g) (disk mid).cells)
       → Notes (events_of steps) (disk old).seen (disk mid).seen → GoesOn (disk mid) (disk new) → Keeps (disk mid) (disk new) → Passes Same (disk mid) (disk new) → BeginsAt disk keys steps g old new
-  begins_then steps g old mid new durable kept seen goes keeps passes = record {
+  begins_then steps g old mid new from durable kept seen goes keeps passes = record {
     between = mid;
     sure = λ tells stands c left. (kept_in keys (disk mid) (disk old).cells (suc g) (durable tells) (kept tells stands) c left).stands;
     begun = seen;
+    from = from;
+    settled = durable;
+    cells = kept;
     later = goes;
     keeps = keeps;
     reads = passes;
   }
 
-  pub begins_behind : (xs ys : List Note) (g : ℕ) (old mid new : S) → Keeps (disk old) (disk mid) → Notes (events_of xs) (disk old).seen (disk mid).seen → BeginsAt disk keys ys g mid new → BeginsAt disk keys (xs ++ ys) g old new
-  begins_behind xs ys g old mid new keeps reads b = record {
+  pub begins_behind : (xs ys : List Note) (g : ℕ) (old mid new : S) → Keeps (disk old) (disk mid) → Passes Same (disk old) (disk mid) → Notes (events_of xs) (disk old).seen (disk mid).seen → BeginsAt disk keys ys g mid new → BeginsAt disk keys (xs ++ ys) g old new
+  begins_behind xs ys g old mid new keeps passes reads b = record {
     between = b.between;
     sure = λ tells stands. b.sure (keeps.tells tells) (register_same keys g (disk old).cells (disk mid).cells (keeps.cells tells) stands);
     begun = subst (λ (es : List Event). Notes es (disk old).seen (disk b.between).seen) (sym (events_join xs ys)) (joined (events_of xs) (events_of ys) (disk old).seen (disk mid).seen (disk b.between).seen reads b.begun);
+    from = record {
+      synced = b.from.synced;
+      until = reads_both (disk old) (disk mid) (disk b.from.synced) passes b.from.until;
+      keeps = keeps_both (disk old) (disk mid) (disk b.from.synced) keeps b.from.keeps;
+      settled = λ tells. b.from.settled (keeps.tells tells);
+      since = λ tells stands. b.from.since (keeps.tells tells) (register_same keys g (disk old).cells (disk mid).cells (keeps.cells tells) stands);
+    };
+    settled = λ tells. b.settled (keeps.tells tells);
+    cells = λ tells stands.
+        let now = b.cells (keeps.tells tells) (register_same keys g (disk old).cells (disk mid).cells (keeps.cells tells) stands) in
+        record { stands = now.stands; rest = λ k off. now.rest k off ∙ keeps.cells tells k };
     later = b.later;
     keeps = b.keeps;
     reads = b.reads;

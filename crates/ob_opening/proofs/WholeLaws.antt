@@ -39,7 +39,7 @@ module _ {S : Type 0} (disk : S → Disk) (keys : Keys) (p : Params) (old mid ne
     told_before o tells told = subst (λ (image : Image). IsToldOpening keys p image (disk new) found o) (fun_ext (λ k. keeps.cells tells k)) told
 
     behind : BeginsAt disk keys (next_notes found) found.generation mid new → BeginsAt disk keys (begun_notes p found) found.generation old new
-    behind begins = begins_behind disk keys p (finding_notes p found.epoch) (next_notes found) found.generation old mid new keeps reads.seen begins
+    behind begins = begins_behind disk keys p (finding_notes p found.epoch) (next_notes found) found.generation old mid new keeps passes reads.seen begins
 
     whole : RepeatsBehind {T = Unit {0}} (next_notes found) most p found (disk mid).seen (disk new).seen between after (Ok tt) → RepeatsBehind {T = Unit {0}} (begun_notes p found) most p found (disk old).seen (disk new).seen before after (Ok tt)
     whole does = repeats_behind most p found (finding_notes p found.epoch) (next_notes found) (disk old).seen (disk mid).seen (disk new).seen before between after reads {T = Unit {0}} (Ok tt) does

@@ -13,7 +13,8 @@ use Rattle.ob_store.specs.Told.{Tells, TellsFirst, events_of}
 use Rattle.ob_seal.specs.declared.keys.Keys.{Keys}
 use Rattle.ob_twin.specs.declared.gates.Gates.{Gates}
 use Rattle.ob_twin.specs.Keyed.{tagging}
-use Rattle.ob_twin.specs.Register.{OldOrNew, StandsAt}
+use Rattle.ob_twin.specs.Register.{KeepsAt, OldOrNew, StandsAt}
+use Rattle.ob_start.specs.Beginning.{BeginsFrom}
 use Rattle.ob_start.specs.Orders.{begin_notes, registers_notes}
 use Rattle.ob_tables.specs.Content.{content_of}
 use Rattle.ob_stand.specs.Stands.{OneOf, RingStanding, Stands, with_generation}
@@ -81,11 +82,14 @@ RefusedDoes keys most p old new before after fault = ReadsFirst keys p old new b
 -- ---- the generation
 
 -- The next generation was made sure of, and the store was this one then: where the register stood at the one before, each image has it.
--- Before it these steps were made alone, behind it only reads.
+-- Before it these steps were made alone, the first of its syncs among them; behind it only reads.
 pub record BeginsAt {S : Type 0} (disk : S → Disk) (keys : Keys) (steps : List Note) (generation : ℕ) (old new : S) : Type 0 where
   pub between : S
   pub sure : (disk old).tells → StandsAt (tagging keys) 1 (disk old).cells generation → (c : Image) → (disk between).may_leave c → StandsAt (tagging keys) 1 c (suc generation)
   pub begun : Notes (events_of steps) (disk old).seen (disk between).seen
+  pub from : BeginsFrom disk keys generation old between
+  pub settled : (disk old).tells → IsSynced (disk between)
+  pub cells : (disk old).tells → StandsAt (tagging keys) 1 (disk old).cells generation → KeepsAt (tagging keys) 1 (disk old).cells (suc generation) (disk between).cells
   pub later : GoesOn (disk between) (disk new)
   pub keeps : Keeps (disk between) (disk new)
   pub reads : Passes Same (disk between) (disk new)

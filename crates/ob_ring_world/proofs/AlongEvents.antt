@@ -65,23 +65,23 @@ woven_one (one ∷ made) asked reports =
 pub acts_are_one_run : ActsAreOneRun
 acts_are_one_run acts reports = woven_one (calls_made acts) (calls acts) reports
 
--- ---- a run keeps its parameters
+-- ---- a run keeps its setup
 
 module _ {V : Type 0} (k : Kind V) (first : Map nat_cmp) where
-  pub params_stay : (told : List (EpochRecord ℕ)) (acked : List ℕ) (w : World V) (es : List WorldEvent) (last : World V) → IsOneRun es → Inv first told acked w → IsWorld (course_of k) w es last → last.desk.setup.params ≡ w.desk.setup.params
-  params_stay told acked w [] last one h run = ap (λ (x : World V). x.desk.setup.params) (sym run)
-  params_stay told acked w (Desk caller call reply ∷ es) last one h (mid, s, run) =
+  pub setup_stays : (told : List (EpochRecord ℕ)) (acked : List ℕ) (w : World V) (es : List WorldEvent) (last : World V) → IsOneRun es → Inv first told acked w → IsWorld (course_of k) w es last → last.desk.setup ≡ w.desk.setup
+  setup_stays told acked w [] last one h run = ap (λ (x : World V). x.desk.setup) (sym run)
+  setup_stays told acked w (Desk caller call reply ∷ es) last one h (mid, s, run) =
       let kept : Kept (course_of k) first told acked w (Desk caller call reply) mid = step_kept (course_of k) first told acked w (Desk caller call reply) mid h s in
       let t : Stepped h.below w.desk s.desk w.vault w.ended reply s.driver = desk_at h.below w.desk w.vault w.ended w.driver call reply s.desk s.driver s.may s.step s.moves h.good h.at_place in
-      params_stay (told_behind told (Desk caller call reply)) (acked ++ acknowledged_by (Desk caller call reply)) mid es last one kept.inv run ∙ (ap (λ (x : World V). x.desk.setup.params) s.state ∙ t.params)
-  params_stay told acked w (Vault call answer ∷ es) last one h (mid, s, run) =
+      setup_stays (told_behind told (Desk caller call reply)) (acked ++ acknowledged_by (Desk caller call reply)) mid es last one kept.inv run ∙ (ap (λ (x : World V). x.desk.setup) s.state ∙ t.setup)
+  setup_stays told acked w (Vault call answer ∷ es) last one h (mid, s, run) =
       let kept : Kept (course_of k) first told acked w (Vault call answer) mid = step_kept (course_of k) first told acked w (Vault call answer) mid h s in
-      params_stay (told_behind told (Vault call answer)) (acked ++ acknowledged_by (Vault call answer)) mid es last one kept.inv run ∙ ap (λ (x : World V). x.desk.setup.params) s.state
-  params_stay told acked w (Report r ∷ es) last one h (mid, s, run) =
+      setup_stays (told_behind told (Vault call answer)) (acked ++ acknowledged_by (Vault call answer)) mid es last one kept.inv run ∙ ap (λ (x : World V). x.desk.setup) s.state
+  setup_stays told acked w (Report r ∷ es) last one h (mid, s, run) =
       let kept : Kept (course_of k) first told acked w (Report r) mid = step_kept (course_of k) first told acked w (Report r) mid h s in
-      params_stay (told_behind told (Report r)) (acked ++ acknowledged_by (Report r)) mid es last one kept.inv run ∙ ap (λ (x : World V). x.desk.setup.params) s.state
-  params_stay told acked w (Crash inside image ∷ es) last one h run = absurd one
-  params_stay told acked w (Open clients ∷ es) last one h run = absurd one
+      setup_stays (told_behind told (Report r)) (acked ++ acknowledged_by (Report r)) mid es last one kept.inv run ∙ ap (λ (x : World V). x.desk.setup) s.state
+  setup_stays told acked w (Crash inside image ∷ es) last one h run = absurd one
+  setup_stays told acked w (Open clients ∷ es) last one h run = absurd one
 
 module _ {V S : Type 0} (k : Kind V) (disk : S → Disk) (runs : V → Running S) (over : IsOverRing k disk runs)
     (counts_now : (x : S) (t : Clock) (c : Image) → NotAfter t (disk x).moment → (disk x).may_leave c → (disk x).left_since t c) (only_now : (x : S) (c : Image) → (disk x).left_since (disk x).moment c → (disk x).may_leave c)

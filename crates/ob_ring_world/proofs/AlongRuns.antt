@@ -49,7 +49,7 @@ use Rattle.ob_world.proofs.Keeping.{Ran, ran}
 use Rattle.ob_world.specs.Courses.{Course, course_of}
 use Rattle.ob_world.specs.Drivers.{AtRest, IsDown}
 use Rattle.ob_world.specs.Worlds.{WorldEvent, Crash, Open, World, IsWorld, OpenEvent, cut_vault, ended_with, first_world, opened_vault}
-use Rattle.ob_ring_world.proofs.AlongEvents.{Mapped, mapped, other, params_stay, serving}
+use Rattle.ob_ring_world.proofs.AlongEvents.{Mapped, mapped, other, setup_stays, serving}
 use Rattle.ob_ring_world.proofs.InCalls.{CanOpen, IsServing, cut_call, goes_opens}
 use Rattle.ob_ring_world.proofs.InOpenings.{IsFound, found_at, openings_moment_by_moment}
 use Rattle.ob_ring_world.proofs.OpeningRows.{OpeningFront, fills, has_open, log_many, public_begun, opening_front, opening_labels, opening_life, opening_slots, phases_at, public_at}
@@ -62,9 +62,6 @@ use Rattle.ob_ring_world.specs.Steps.{IsCutOpening, IsOpenedBy}
 
 open_append : (g : ℕ) (b : LifeBatch) → ◌≡◌ {A = Option LifeAct} (Some (OpenAct g)) (Some (Append b)) → ⊥
 open_append g b e = cc
-
-abbrev setup_of : Params → Setup
-setup_of q = record { params = q }
 
 -- ---- batches of the log stay small
 
@@ -279,7 +276,7 @@ module _ {V S : Type 0} (k : Kind V) (disk : S → Disk) (runs : V → Running S
     run_leads = (begun, open_event, along.leads)
 
     last_setup : run.last.desk.setup ≡ setup
-    last_setup = ap setup_of (params_stay k map [] [] first run.events run.last r.one (inv_first setup run.clients run.standing f.run.left run.first) r.leads)
+    last_setup = setup_stays k map [] [] first run.events run.last r.one (inv_first setup run.clients run.standing f.run.left run.first) r.leads
 
     last_batches : run.last.vault.batches ≡ p.batches
     last_batches =

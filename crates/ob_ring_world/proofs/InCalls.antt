@@ -7,6 +7,7 @@ use Rattle.std.proofs.lemmas.Option.{none-some}
 use Rattle.ob_base.specs.declared.params.Params.{Params}
 use Rattle.ob_store.specs.declared.event.Event.{Event}
 use Rattle.ob_store.specs.declared.watch.Note.{Note}
+use Rattle.ob_store.specs.Images.{LeavesOnly}
 use Rattle.ob_store.specs.Disk.{Clock, Disk, Image, NotAfter}
 use Rattle.ob_seal.specs.declared.keys.Keys.{Keys}
 use Rattle.ob_serial.specs.Serial.{Map}
@@ -29,6 +30,7 @@ use Rattle.ob_vault.proofs.Batches as batches
 use Rattle.ob_vault.proofs.Calling.{ring_calls_do}
 use Rattle.ob_vault.proofs.Ends as ends
 use Rattle.ob_vault.proofs.Leaving as leaving
+use Rattle.ob_vault.proofs.Moments.{moments as call_moments}
 use Rattle.ob_vault.proofs.SealCalls.{kept_by}
 use Rattle.ob_vault.proofs.Whole.{reached_join}
 use Rattle.ob_vault.specs.Acts.{AreBatchesSmall, AreTapeWords, IsBatchSmall, IsCallInLife, IsLeftWithin, is_answered}
@@ -267,6 +269,11 @@ module _ {V S : Type 0} (k : Kind V) (disk : S → Disk) (runs : V → Running S
       in_life : IsCallInLife disk word_of (runs v) (runs w) one.notes now call (is_answered answer)
       in_life = leaving.made k disk runs over.words counts_now only_now keys most p f (disk (runs first).store) s.public h s.epochs v s.at word_of now s.here lies call answer w one own
 
+      -- at each moment of it
+      within : LeavesOnly (disk (runs v).store) (disk (runs w).store) (IsLeftWithin disk word_of (runs v) (runs w) one.notes now call)
+      within = call_moments disk word_of now (runs v) (runs w) one.notes (leaving.runs_here k disk runs over.words counts_now only_now keys most p f (disk (runs first).store) s.public h s.epochs v s.at word_of now s.here lies call answer w one own)
+          call (is_answered answer) in_life.staged
+
       module _ (events : List Event) (front : FrontShown call events) (image : Image) (left : IsLeftWithin disk word_of (runs v) (runs w) one.notes now call image) where
         life_within : IsLife p word_of now left.made
         life_within = subst (λ (q : Params). IsLife q word_of now left.made) s.at.params left.is_life
@@ -305,7 +312,7 @@ module _ {V S : Type 0} (k : Kind V) (disk : S → Disk) (runs : V → Running S
       cut_seen : (n : ℕ) (c : CallSeen call w) (image : Image) → (disk (runs w).store).left_since (disk (runs v).store).moment image
           → (y : RingPast) × IsCutCall p word_of slot keys x call image y × CanOpen keys p word_of slot y image × ((rows : List ShownRow) × (y.rows ≡ rows ++ x.rows) × IsCutSeen n rows)
       cut_seen n c image since =
-          let left = in_life.moments.each image since in
+          let left = within.each image since in
           let front = part_shown call w n c in
           let cut = cut_on (take n c.all) front image left in
           (cut_past (take n c.all) front image left, cut.0, cut.1, (front.rows, front.rows_are, (c.all, c.noted, front.events_are)))

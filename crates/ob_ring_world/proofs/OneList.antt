@@ -4,7 +4,7 @@ use Rattle.std.proofs.Common.{inl, ◌≡◌, inr, ℕ, ◌+◌, ◌-◌, ◌*�
 use Rattle.std.proofs.lemmas.List.{take-append-drop}
 use Rattle.ob_base.specs.Repeats.{Has}
 use Rattle.ob_cells.specs.Lanes.{ReadByLanes, reads_of_lanes}
-use Rattle.ob_desk.specs.Desk.{Setup, DeskState, Batch, Deliver, Done, TakeBatch, new_desk, with_order}
+use Rattle.ob_desk.specs.Desk.{Setup, DeskState, Batch, Deliver, Done, TakeBatch, new_desk, with_order, setup_of}
 use Rattle.ob_order.specs.Order.{after_deliver, after_take}
 use Rattle.ob_opening.specs.OpeningActs.{IsLeftAt}
 use Rattle.ob_pads.specs.Seals.{pads_between}
@@ -69,7 +69,7 @@ abbrev open_gates : ℕ → Bool
 open_gates cell = true
 
 abbrev setup : Setup
-setup = record { params = two_batches }
+setup = setup_of two_batches
 
 abbrev clients : List ℕ
 clients = 1 ∷ []

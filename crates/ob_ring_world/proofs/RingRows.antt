@@ -14,6 +14,7 @@ use Rattle.ob_ring_world.proofs.Sounding.{behind_rises, life_front}
 use Rattle.ob_seal.specs.declared.keys.Keys.{Keys}
 use Rattle.ob_world.specs.Headlines.{Headline}
 use Rattle.ob_world.specs.Worlds.{first_world}
+use Rattle.ob_desk.specs.Desk.{setup_of}
 use Rattle.ob_ring_world.specs.RingCourses.{RingPromises, ring_course}
 use Rattle.ob_ring_world.specs.Pasts.{formatted_past, IsRowFilled, RingPast, ShownRow, row_leaves, state_behind}
 use Rattle.ob_ring_world.specs.Steps.{IsOpenedBy}
@@ -157,7 +158,7 @@ abbrev pub began_badly : RingPast
 began_badly = record (formatted_past two_batches 0) { pads = (1, 0) ∷ (1, 0) ∷ [] }
 
 pub soundness_is_wanted : (keys : Keys) (kept : RingPromises keys two_batches words slots) (at : Standing)
-    → Headline (ring_course keys two_batches words slots kept) (first_world (record { params = two_batches }) [] at 0 began_badly) [] (first_world (record { params = two_batches }) [] at 0 began_badly) → ⊥
+    → Headline (ring_course keys two_batches words slots kept) (first_world (setup_of two_batches) [] at 0 began_badly) [] (first_world (setup_of two_batches) [] at 0 began_badly) → ⊥
 soundness_is_wanted keys kept at h = h.pads.0 (inl refl)
 
 -- a format that gave every index of a bucket one slot

@@ -4,7 +4,7 @@ use Rattle.std.specs.Prelude.{◌≡◌, ℕ, Bool, true, false, List, [], ◌�
 use Rattle.std.proofs.Common.{refl, inl, ⊎_elim, arith}
 use Rattle.ob_base.specs.declared.fault.Fault.TheVariants.{Memory}
 use Rattle.ob_base.specs.declared.params.Params.{Params}
-use Rattle.ob_desk.specs.Desk.{Setup}
+use Rattle.ob_desk.specs.Desk.{Setup, setup_of}
 use Rattle.ob_opening.specs.OpeningActs.{IsLeftAt, StandsInLife}
 use Rattle.ob_opening.specs.OpeningRuns.{OpensFrom}
 use Rattle.ob_recover.specs.Life.{LifeAct, LifeState, WordId}
@@ -97,7 +97,7 @@ abbrev pub one_store : Unit {0} → Disk
 one_store u = leaving (Unit {0}) no_store (λ c. c ≡ no_store)
 
 abbrev pub setup : Setup
-setup = record { params = two_batches }
+setup = setup_of two_batches
 
 abbrev pub refused : List (RingPart ⊥ (Unit {0}))
 refused = Stops tt tt 1 0 no_store ∷ []

@@ -40,9 +40,11 @@ use Rattle.ob_store.specs.declared.watch.Note.{Note}
 use Rattle.ob_tables.specs.Kept.{entry_at}
 use Rattle.ob_tables.specs.declared.entry.Entry.{Entry}
 use Rattle.ob_twin.proofs.Moves.{at_the_end}
-use Rattle.ob_opening.specs.OpeningActs.{StandsInLife}
-use Rattle.ob_vault.specs.Acts.{AreTapeWords, IsBatchSmall, IsCallInLife, IsLeftWithin, RunsInLife, id_write}
-use Rattle.ob_vault.proofs.Fetching.{at_standing, none_pending, same_act, settled_stands}
+use Rattle.ob_opening.specs.OpeningActs.{IsLeftAt, StandsInLife}
+use Rattle.ob_vault.specs.Acts.{AreTapeWords, IsBatchSmall, IsCallInLife, IsStaged, RunsInLife, id_write}
+use Rattle.ob_vault.specs.Stages.{IsStage}
+use Rattle.ob_end.specs.Moments.{IsEndInStages}
+use Rattle.ob_vault.proofs.Fetching.{at_standing, none_pending, same_act, settled_stands, some_ends}
 use Rattle.ob_fresh.proofs.Turns.{all_made}
 use Rattle.ob_fresh.specs.Drawn.{DrawsNext, EndDrawsNext, WordsKept}
 use Rattle.ob_vault.proofs.Homes.{homes_ended}
@@ -60,9 +62,6 @@ has_map f (y ∷ xs) x (inr has) = inr (has_map f xs x has)
 cond_by : (b : Bool) (f g : ℕ → ℕ) (j z : ℕ) → (b ≡ true → f j ≡ z) → (b ≡ false → g j ≡ z) → cond b f g j ≡ z
 cond_by true f g j z one two = one refl
 cond_by false f g j z one two = two refl
-
-no_append : (A : Type 0) (b : LifeBatch) → ◌≡◌ {A = Option LifeAct} (Some ShowLifts) (Some (Append b)) → A
-no_append A b e = absurd (cc)
 
 no_append_end : (A : Type 0) (ws : List (ℕ × Option WordId)) (n : ℕ) (slot : ℕ → ℕ → ℕ) (b : LifeBatch) → ◌≡◌ {A = Option LifeAct} (Some (EndAct ws n slot)) (Some (Append b)) → A
 no_append_end A ws n slot b e = absurd (cc)
@@ -142,23 +141,27 @@ module _ {S : Type 0} (disk : S → Disk) (word_of : WordId → ℕ) (s : LifeSt
     lifts_allowed : IsActAllowed p word_of s ShowLifts
     lifts_allowed = (all_logged, runs.begun ∙ all_logged)
 
-    -- refused before the register's gate was written: the lifts may have been shown
-    within_before : (c : Image) → Stands keys p st c → IsLeftWithin disk word_of old new notes s (End ws) c
-    within_before c stands = record {
-      made = [];
-      rest = ShowLifts ∷ the_end ∷ [];
-      pending = Some ShowLifts;
-      acts = refl;
-      is_life = tt;
-      next = inr (ShowLifts, the_end ∷ [], refl, refl);
-      small = (runs.small, λ b e. no_append (IsBatchSmall b) b e);
-      left = record {
-        allowed = λ a e. subst (λ (x : LifeAct). IsActAllowed p word_of s x) (same_act ShowLifts a e) lifts_allowed;
-        stands = λ i same. inl (stands_old i (subst (Stands keys p st) same stands));
-      };
+    -- all is made but the set of the register
+    pub filling : (x : S) → LeavesOnly (disk old.store) (disk x) (Stands keys p st) → IsStage disk keys p word_of s (ShowLifts ∷ [], None) old.store x
+    filling x all = record {
+      is_life = (lifts_allowed, tt);
+      small = (runs.small, λ b e. none_pending (IsBatchSmall b) (Append b) e);
+      turn = λ k so_far. all_made p word_of s k (ShowLifts ∷ []) (tt, tt);
+      leaves = weakened (disk old.store) (disk x) (Stands keys p st) (IsLeftAt keys p word_of lifted None)
+          (λ c stands. record { allowed = λ a e. none_pending (IsActAllowed p word_of lifted a) a e; stands = λ i same. inl (stands_lifted i (subst (Stands keys p st) same stands)) })
+          all;
     }
 
-    refused_before : LeavesOnly (disk old.store) (disk new.store) (IsLeftWithin disk word_of old new notes s (End ws)) → ((c : Image) → (disk new.store).may_leave c → Stands keys p st c) → IsCallInLife disk word_of old new notes s (End ws) false
+    -- refused before the register's gate was written: the lifts may have been shown
+    before_stages : LeavesOnly (disk old.store) (disk new.store) (Stands keys p st) → IsStaged disk word_of old new notes s (End ws) false
+    before_stages all = record {
+      ends = new.store ∷ [];
+      stages = (filling new.store all, inl refl, refl);
+      whole = λ yes. absurd (false≢true yes);
+      idle = λ none. absurd (some_ends new.store [] none);
+    }
+
+    refused_before : LeavesOnly (disk old.store) (disk new.store) (Stands keys p st) → ((c : Image) → (disk new.store).may_leave c → Stands keys p st c) → IsCallInLife disk word_of old new notes s (End ws) false
     refused_before all images = record {
       made = ShowLifts ∷ [];
       in_flight = None;
@@ -175,7 +178,7 @@ module _ {S : Type 0} (disk : S → Disk) (word_of : WordId → ℕ) (s : LifeSt
         allowed = λ a e. none_pending (IsActAllowed p word_of lifted a) a e;
         stands = λ i same. inl (stands_lifted i (images i (subst (disk new.store).may_leave same left)));
       };
-      moments = all;
+      staged = before_stages all;
       small = (runs.small, λ b e. none_pending (IsBatchSmall b) (Append b) e);
       onward = λ yes. absurd (false≢true yes);
     }
@@ -282,27 +285,30 @@ module _ {S : Type 0} (disk : S → Disk) (word_of : WordId → ℕ) (s : LifeSt
           (λ (is : Stands keys p (standing_at_end st new.run fs) c). inr (the_end, refl, stands_ended c is))
           one
 
-      -- at each moment of it the end is in flight
-      within : (c : Image) → OneOf keys p st (standing_at_end st new.run fs) c → IsLeftWithin disk word_of old new notes s (End ws) c
-      within c one = record {
-        made = ShowLifts ∷ [];
-        rest = the_end ∷ [];
-        pending = Some the_end;
-        acts = refl;
+      -- the register is set: the end is in flight
+      pub setting : (a x : S) → LeavesOnly (disk a) (disk x) (OneOf keys p st (standing_at_end st new.run fs)) → IsStage disk keys p word_of s (ShowLifts ∷ [], Some the_end) a x
+      setting a x all = record {
         is_life = (lifts_allowed, tt);
-        next = inr (the_end, [], refl, refl);
         small = (runs.small, λ b e. no_append_end (IsBatchSmall b) (map id_write fs) (new.run).drawn (slot_kept then) b e);
-        left = record {
-          allowed = λ a e. subst (λ (x : LifeAct). IsActAllowed p word_of lifted x) (same_act the_end a e) end_allowed;
-          stands = λ i same. by_one i (subst (OneOf keys p st (standing_at_end st new.run fs)) same one);
-        };
+        turn = λ k so_far. record { made_next = (tt, tt); flying_next = λ y e. subst (λ (z : LifeAct). DrawsNext p word_of lifted k z) (same_act the_end y e) (end_turn k so_far) };
+        leaves = weakened (disk a) (disk x) (OneOf keys p st (standing_at_end st new.run fs)) (IsLeftAt keys p word_of lifted (Some the_end))
+            (λ c one. record {
+              allowed = λ y e. subst (λ (z : LifeAct). IsActAllowed p word_of lifted z) (same_act the_end y e) end_allowed;
+              stands = λ i same. by_one i (subst (OneOf keys p st (standing_at_end st new.run fs)) same one);
+            })
+            all;
       }
 
-      within_all : LeavesOnly (disk old.store) (disk new.store) (OneOf keys p st (standing_at_end st new.run fs)) → LeavesOnly (disk old.store) (disk new.store) (IsLeftWithin disk word_of old new notes s (End ws))
-      within_all all = weakened (disk old.store) (disk new.store) (OneOf keys p st (standing_at_end st new.run fs)) (IsLeftWithin disk word_of old new notes s (End ws)) within all
+      both_stages : (answered : Bool) → IsEndInStages disk old.lanes st fs old.run new.run old.store new.store → IsStaged disk word_of old new notes s (End ws) answered
+      both_stages answered f = record {
+        ends = f.between ∷ new.store ∷ [];
+        stages = (filling f.between f.until, inr f.made, (setting f.between new.store f.since, inl refl, refl));
+        whole = λ yes. refl;
+        idle = λ none. absurd (some_ends f.between (new.store ∷ []) none);
+      }
 
       -- in doubt: the lifts were shown, and the end is in flight
-      in_doubt : LeavesOnly (disk old.store) (disk new.store) (OneOf keys p st (standing_at_end st new.run fs)) → ((c : Image) → (disk new.store).may_leave c → OneOf keys p st (standing_at_end st new.run fs) c) → IsCallInLife disk word_of old new notes s (End ws) false
+      in_doubt : IsEndInStages disk old.lanes st fs old.run new.run old.store new.store → ((c : Image) → (disk new.store).may_leave c → OneOf keys p st (standing_at_end st new.run fs) c) → IsCallInLife disk word_of old new notes s (End ws) false
       in_doubt all images = record {
         made = ShowLifts ∷ [];
         in_flight = Some the_end;
@@ -319,7 +325,7 @@ module _ {S : Type 0} (disk : S → Disk) (word_of : WordId → ℕ) (s : LifeSt
           allowed = λ a e. subst (λ (x : LifeAct). IsActAllowed p word_of lifted x) (same_act the_end a e) end_allowed;
           stands = λ i same. leaves_one i (subst (disk new.store).may_leave same left);
         };
-        moments = within_all all;
+        staged = both_stages false all;
         small = (runs.small, λ b e. no_append_end (IsBatchSmall b) (map id_write fs) (new.run).drawn (slot_kept then) b e);
         onward = λ yes. absurd (false≢true yes);
       }
@@ -327,7 +333,7 @@ module _ {S : Type 0} (disk : S → Disk) (word_of : WordId → ℕ) (s : LifeSt
           leaves_one : (c : Image) → (disk new.store).may_leave c → StandsInLife keys p word_of lifted c ⊎ ((a : LifeAct) × (Some the_end ≡ Some a) × StandsInLife keys p word_of (life_step p word_of lifted a) c)
           leaves_one c left = by_one c (images c left)
 
-      answered : LeavesOnly (disk old.store) (disk new.store) (OneOf keys p st (standing_at_end st new.run fs))
+      answered : IsEndInStages disk old.lanes st fs old.run new.run old.store new.store
           → RunIsAt new.run (standing_at_end st new.run fs) (disk new.store) → ((new.run).sealer).keys ≡ keys → (new.run).params ≡ p → IsCallInLife disk word_of old new notes s (End ws) true
       answered all at same_keys params = record {
         made = ShowLifts ∷ the_end ∷ [];
@@ -345,7 +351,7 @@ module _ {S : Type 0} (disk : S → Disk) (word_of : WordId → ℕ) (s : LifeSt
           allowed = λ a e. none_pending (IsActAllowed p word_of ended a) a e;
           stands = λ i same. inl (stands_then i (subst (disk new.store).may_leave same left));
         };
-        moments = within_all all;
+        staged = both_stages true all;
         small = ((λ b none. absurd none), λ b e. none_pending (IsBatchSmall b) (Append b) e);
         onward = λ yes. record {
           standing = standing_at_end st new.run fs;
@@ -370,15 +376,12 @@ module _ {S : Type 0} (disk : S → Disk) (word_of : WordId → ℕ) (s : LifeSt
   pub end_ok : EndCalled disk old new notes writes (Ok tt) → IsCallInLife disk word_of old new notes s (End ws) true
   end_ok is =
       answered is.none_left (is.run).was_drawn (is.run).drawn is.few (is.answers t0 stands0) (is.draws t0 stands0) (is.table t0 stands0) is.entries (is.filled t0 stands0) is.content
-      (weakened (disk old.store) (disk new.store) (EndImages keys p st fs new.run (Ok tt)) (OneOf keys p st (standing_at_end st new.run fs)) (λ c one. one) (is.images st runs.at)) (is.stands st runs.at) (is.run).keys (is.run).params
+      (is.stages st runs.at) (is.stands st runs.at) (is.run).keys (is.run).params
 
   pub end_before : (f : Fault) → EndCalled disk old new notes writes (Err (end.Before f)) → IsCallInLife disk word_of old new notes s (End ws) false
-  end_before f is =
-      refused_before is.none_left
-      (weakened (disk old.store) (disk new.store) (EndImages keys p st fs new.run (Err (end.Before f))) (IsLeftWithin disk word_of old new notes s (End ws)) (within_before is.none_left) (is.images st runs.at))
-      (images_then (Err (end.Before f)) is)
+  end_before f is = refused_before is.none_left (is.stages st runs.at) (images_then (Err (end.Before f)) is)
 
   pub end_unsure : (f : Fault) → EndCalled disk old new notes writes (Err (end.Unsure f)) → IsCallInLife disk word_of old new notes s (End ws) false
   end_unsure f is =
       in_doubt is.none_left (is.run).was_drawn (is.run).drawn is.few (is.answers t0 stands0) (is.draws t0 stands0) (is.table t0 stands0) is.entries (is.filled t0 stands0) is.content
-      (weakened (disk old.store) (disk new.store) (EndImages keys p st fs new.run (Err (end.Unsure f))) (OneOf keys p st (standing_at_end st new.run fs)) (λ c one. one) (is.images st runs.at)) (images_then (Err (end.Unsure f)) is)
+      (is.stages st runs.at) (images_then (Err (end.Unsure f)) is)

@@ -1,5 +1,5 @@
 -- A fetch as a call of a life.
-use Rattle.std.specs.Prelude.{◌≡◌, ◌⊎◌, ℕ, suc, ◌+◌, ◌<◌, ◌≤◌, ◌^◌, true, false, List, [], ◌∷◌, ◌++◌, length, slice_index, Option, None, Some, Result, Ok, Err}
+use Rattle.std.specs.Prelude.{◌≡◌, ◌⊎◌, ℕ, suc, ◌+◌, ◌<◌, ◌≤◌, ◌^◌, Bool, true, false, List, [], ◌∷◌, ◌++◌, length, slice_index, Option, None, Some, Result, Ok, Err}
 use Rattle.std.proofs.Common.{arith, length-append, refl, sym, ap, subst, ◌∙◌, inl, inr, ⊎_elim}
 use Rattle.std.proofs.lemmas.Bool.{cases_lt, false≢true}
 use Rattle.std.proofs.lemmas.List.{get_or-append-add, length-map, map-append}
@@ -10,7 +10,7 @@ use Rattle.ob_base.specs.declared.fault.Fault.TheVariants as fault
 use Rattle.ob_base.specs.declared.params.Params.{Params}
 use Rattle.ob_fetch.specs.declared.run.Run.{Run}
 use Rattle.ob_fetch.proofs.LogLaws.{more_at}
-use Rattle.ob_fetch.specs.Fetches.{DrawsWords, IsOpenBetween, RunIsAt, next_batch, words_since}
+use Rattle.ob_fetch.specs.Fetches.{DrawsWords, FetchStages, IsFetchInStages, IsOpenBetween, RunIsAt, next_batch, words_since}
 use Rattle.ob_recover.specs.Life.{Append, IsActAllowed, LifeAct, LifeBatch, LifeState, ShowBatch, WordId, life_step}
 use Rattle.ob_log.specs.Appends.{append_notes}
 use Rattle.ob_log.specs.Logs.{BatchRecord, OpenRecords}
@@ -27,8 +27,9 @@ use Rattle.ob_store.specs.declared.watch.Note.{Note}
 use Rattle.ob_fresh.proofs.Turns.{all_made}
 use Rattle.ob_fresh.specs.Drawn.{DrawsNext, WordsKept}
 use Rattle.ob_twin.proofs.Moves.{at_the_end}
-use Rattle.ob_opening.specs.OpeningActs.{StandsInLife}
-use Rattle.ob_vault.specs.Acts.{AreBatchesSmall, AreTapeWords, IsBatchSmall, IsCallInLife, IsLeftWithin, RunsInLife}
+use Rattle.ob_opening.specs.OpeningActs.{IsLeftAt, StandsInLife}
+use Rattle.ob_vault.specs.Acts.{AreBatchesSmall, AreTapeWords, IsBatchSmall, IsCallInLife, IsStaged, RunsInLife}
+use Rattle.ob_vault.specs.Stages.{IsStage}
 
 -- ---- lists and acts
 
@@ -43,6 +44,9 @@ same_act a b e = cc
 
 same_batch : (a b : LifeBatch) → Append a ≡ Append b → a ≡ b
 same_batch a b e = cc
+
+pub some_ends : {A : Type 0} (x : A) (xs : List A) → x ∷ xs ≡ [] → ⊥
+some_ends x xs e = cc e
 
 pub none_pending : (A : Type 0) (a : LifeAct) → ◌≡◌ {A = Option LifeAct} None (Some a) → A
 none_pending A a e = absurd (cc)
@@ -148,26 +152,62 @@ module _ {S : Type 0} (disk : S → Disk) (word_of : WordId → ℕ) (s : LifeSt
           (λ (more : Stands keys p (with_record st r) c). inr (Append b, refl, stands_more logged c refl refl refl refl more))
           one
 
-      -- at each moment of it the record is in flight
-      within : 0 < (old.run).left → LeavesOnly (disk old.store) (disk new.store) (OneOf keys p st (with_record st r)) → LeavesOnly (disk old.store) (disk new.store) (IsLeftWithin disk word_of old new notes s (Fetch asks))
-      within some_left all = weakened (disk old.store) (disk new.store) (OneOf keys p st (with_record st r)) (IsLeftWithin disk word_of old new notes s (Fetch asks))
-          (λ c one. record {
-            made = [];
-            rest = Append b ∷ ShowBatch ∷ [];
-            pending = Some (Append b);
-            acts = refl;
-            is_life = tt;
-            next = inr (Append b, ShowBatch ∷ [], refl, refl);
-            small = (runs.small, λ x e. subst IsBatchSmall (same_batch b x (same_act (Append b) (Append x) e)) small_batch);
-            left = record {
-              allowed = λ a e. subst (λ (x : LifeAct). IsActAllowed p word_of s x) (same_act (Append b) a e) (allowed some_left);
+      -- ---- its stages
+
+      -- the record is in flight
+      pub logging : 0 < (old.run).left → (x : S) → LeavesOnly (disk old.store) (disk x) (OneOf keys p st (with_record st r)) → IsStage disk keys p word_of s ([], Some (Append b)) old.store x
+      logging some_left x all = record {
+        is_life = tt;
+        small = (runs.small, λ y e. subst IsBatchSmall (same_batch b y (same_act (Append b) (Append y) e)) small_batch);
+        turn = λ k so_far. record { made_next = tt; flying_next = λ a e. subst (λ (y : LifeAct). DrawsNext p word_of s k y) (same_act (Append b) a e) (batch_turn k so_far) };
+        leaves = weakened (disk old.store) (disk x) (OneOf keys p st (with_record st r)) (IsLeftAt keys p word_of s (Some (Append b)))
+            (λ c one. record {
+              allowed = λ a e. subst (λ (y : LifeAct). IsActAllowed p word_of s y) (same_act (Append b) a e) (allowed some_left);
               stands = λ i same. by_one i (subst (OneOf keys p st (with_record st r)) same one);
-            };
-          })
-          all
+            })
+            all;
+      }
+
+      batch_allowed : IsActAllowed p word_of logged ShowBatch
+      batch_allowed = let begun = runs.begun in omega (arith, begun, length-append {A = LifeBatch})
+
+      abbrev seen : LifeState
+      seen = life_step p word_of logged ShowBatch
+
+      -- the record is open, and its batch is shown
+      pub reading : 0 < (old.run).left → (a x : S) → LeavesOnly (disk a) (disk x) (Stands keys p (with_record st r)) → IsStage disk keys p word_of s (Append b ∷ ShowBatch ∷ [], None) a x
+      reading some_left a x all = record {
+        is_life = (allowed some_left, (batch_allowed, tt));
+        small = (small_more, λ y e. none_pending (IsBatchSmall y) (Append y) e);
+        turn = λ k so_far. all_made p word_of s k (Append b ∷ ShowBatch ∷ []) (batch_turn k so_far, (tt, tt));
+        leaves = weakened (disk a) (disk x) (Stands keys p (with_record st r)) (IsLeftAt keys p word_of seen None)
+            (λ c stands. record {
+              allowed = λ y e. none_pending (IsActAllowed p word_of seen y) y e;
+              stands = λ i same. inl (stands_more seen i refl refl refl refl (subst (Stands keys p (with_record st r)) same stands));
+            })
+            all;
+      }
+
+      both_stages : 0 < (old.run).left → (answered : Bool) → IsFetchInStages disk old.run st r old.store new.store → IsStaged disk word_of old new notes s (Fetch asks) answered
+      both_stages some_left answered f = record {
+        ends = f.between ∷ new.store ∷ [];
+        stages = (logging some_left f.between f.until, inr f.made, (reading some_left f.between new.store f.since, inl refl, refl));
+        whole = λ yes. refl;
+        idle = λ none. absurd (some_ends f.between (new.store ∷ []) none);
+      }
+
+      -- refused by the store
+      store_stages : 0 < (old.run).left → (unsure : Option ℕ) → FetchStages disk old.run st r old.store new.store (Err (fault.StoreFault unsure)) → IsStaged disk word_of old new notes s (Fetch asks) false
+      store_stages some_left unsure (inl both) = both_stages some_left false both
+      store_stages some_left unsure (inr first) = record {
+        ends = new.store ∷ [];
+        stages = (logging some_left new.store first.1, inl refl, refl);
+        whole = λ yes. absurd (false≢true yes);
+        idle = λ none. absurd (some_ends new.store [] none);
+      }
 
       -- the record is in flight, and no more was shown than its writes
-      module _ (some_left : 0 < (old.run).left) (written : (done : List Note) × IsCut (append_notes p (suc (old.run).epoch) (next_batch old.run)) done notes) (all : LeavesOnly (disk old.store) (disk new.store) (OneOf keys p st (with_record st r)))
+      module _ (some_left : 0 < (old.run).left) (written : (done : List Note) × IsCut (append_notes p (suc (old.run).epoch) (next_batch old.run)) done notes) (staged : IsStaged disk word_of old new notes s (Fetch asks) false)
           (images : (c : Image) → (disk new.store).may_leave c → OneOf keys p st (with_record st r) c) where
         leaves_one : (c : Image) → (disk new.store).may_leave c → StandsInLife keys p word_of s c ⊎ ((a : LifeAct) × (Some (Append b) ≡ Some a) × StandsInLife keys p word_of (life_step p word_of s a) c)
         leaves_one c left = by_one c (images c left)
@@ -189,13 +229,13 @@ module _ {S : Type 0} (disk : S → Disk) (word_of : WordId → ℕ) (s : LifeSt
             allowed = λ a e. subst (λ (x : LifeAct). IsActAllowed p word_of s x) (same_act (Append b) a e) (allowed some_left);
             stands = λ i same. leaves_one i (subst (disk new.store).may_leave same left);
           };
-          moments = within some_left all;
+          staged = staged;
           small = (runs.small, λ x e. subst IsBatchSmall (same_batch b x (same_act (Append b) (Append x) e)) small_batch);
           onward = λ yes. absurd (false≢true yes);
         }
 
       -- the record is open, and its batch was shown, or may have been
-      module _ (some_left : 0 < (old.run).left) (opened : IsOpenBetween disk keys p (suc (old.run).epoch) r old.store new.store) (all : LeavesOnly (disk old.store) (disk new.store) (OneOf keys p st (with_record st r)))
+      module _ (some_left : 0 < (old.run).left) (opened : IsOpenBetween disk keys p (suc (old.run).epoch) r old.store new.store) (staged : IsStaged disk word_of old new notes s (Fetch asks) false)
           (images : (c : Image) → (disk new.store).may_leave c → OneOf keys p st (with_record st r) c) where
         log_at : (c : Image) → (disk new.store).may_leave c → OpenRecords keys p (suc st.epoch) (st.records ++ r ∷ []) c
         log_at c left =
@@ -224,14 +264,8 @@ module _ {S : Type 0} (disk : S → Disk) (word_of : WordId → ℕ) (s : LifeSt
             (λ (more : Stands keys p (with_record st r) c). more)
             (images c left)
 
-        abbrev seen : LifeState
-        seen = life_step p word_of logged ShowBatch
-
         stands_seen : (c : Image) → (disk new.store).may_leave c → StandsInLife keys p word_of seen c
         stands_seen c left = stands_more seen c refl refl refl refl (has_record c left)
-
-        batch_allowed : IsActAllowed p word_of logged ShowBatch
-        batch_allowed = let begun = runs.begun in omega (arith, begun, length-append {A = LifeBatch})
 
         batch_seen : IsCallInLife disk word_of old new notes s (Fetch asks) false
         batch_seen = record {
@@ -250,14 +284,14 @@ module _ {S : Type 0} (disk : S → Disk) (word_of : WordId → ℕ) (s : LifeSt
             allowed = λ a e. none_pending (IsActAllowed p word_of seen a) a e;
             stands = λ i same. inl (stands_seen i (subst (disk new.store).may_leave same left));
           };
-          moments = within some_left all;
+          staged = staged;
           small = (small_more, λ x e. none_pending (IsBatchSmall x) (Append x) e);
           onward = λ yes. absurd (false≢true yes);
         }
 
       -- ---- it was answered
 
-      module _ (some_left : 0 < (old.run).left) (all : LeavesOnly (disk old.store) (disk new.store) (OneOf keys p st (with_record st r)))
+      module _ (some_left : 0 < (old.run).left) (stages : IsFetchInStages disk old.run st r old.store new.store)
           (then : RunIsAt new.run (with_record st r) (disk new.store)) (same_keys : ((new.run).sealer).keys ≡ keys) (params : (new.run).params ≡ p) (drawn : (new.run).drawn ≡ length new.drawn) where
         abbrev shown : LifeState
         shown = life_step p word_of logged ShowBatch
@@ -282,7 +316,7 @@ module _ {S : Type 0} (disk : S → Disk) (word_of : WordId → ℕ) (s : LifeSt
             allowed = λ a e. none_pending (IsActAllowed p word_of shown a) a e;
             stands = λ i same. inl (stands_then i (subst (disk new.store).may_leave same left));
           };
-          moments = within some_left all;
+          staged = both_stages some_left true stages;
           small = (small_more, λ x e. none_pending (IsBatchSmall x) (Append x) e);
           onward = λ yes. record {
             standing = with_record st r;
@@ -298,20 +332,8 @@ module _ {S : Type 0} (disk : S → Disk) (word_of : WordId → ℕ) (s : LifeSt
 
   -- ---- it was worn out: the store is the same
 
-  none_within : (c : Image) → Stands keys p st c → IsLeftWithin disk word_of old new notes s (Fetch asks) c
-  none_within c stands = record {
-    made = [];
-    rest = Append b ∷ ShowBatch ∷ [];
-    pending = None;
-    acts = refl;
-    is_life = tt;
-    next = inl refl;
-    small = (runs.small, λ x e. none_pending (IsBatchSmall x) (Append x) e);
-    left = record {
-      allowed = λ a e. none_pending (IsActAllowed p word_of s a) a e;
-      stands = λ i is. inl (stands_old i (subst (Stands keys p st) is stands));
-    };
-  }
+  none_left_at : (c : Image) → Stands keys p st c → IsLeftAt keys p word_of s None c
+  none_left_at c stands = record { allowed = λ a e. none_pending (IsActAllowed p word_of s a) a e; stands = λ i is. inl (stands_old i (subst (Stands keys p st) is stands)) }
 
   nothing_shown : notes ≡ [] → IsCut (append_notes p (suc (old.run).epoch) (next_batch old.run)) [] notes
   nothing_shown none = record { count = 0; few = omega arith; made_are = refl; shown_are = inl none }
@@ -328,10 +350,14 @@ module _ {S : Type 0} (disk : S → Disk) (word_of : WordId → ℕ) (s : LifeSt
         shows = inr (refl, [], nothing_shown none);
         turn = λ k so_far. all_made p word_of s k [] tt;
         left = λ c left. record { allowed = λ a e. none_pending (IsActAllowed p word_of s a) a e; stands = λ i is. inl (stays i (subst (disk new.store).may_leave is left)) };
-        moments = subst (λ (x : S). LeavesOnly (disk old.store) (disk x) (IsLeftWithin disk word_of old new notes s (Fetch asks))) (sym same)
-            (started (disk old.store) (IsLeftWithin disk word_of old new notes s (Fetch asks))
-            (λ c since. none_within c (settled_stands old.run keys p st (disk old.store) c runs.at refl refl (only c since)))
-            (λ tells. none_within (disk old.store).cells (runs.at).stands));
+        staged = record {
+          ends = [];
+          stages = same;
+          whole = λ yes. absurd (false≢true yes);
+          idle = λ none.
+              subst (λ (x : S). LeavesOnly (disk old.store) (disk x) (IsLeftAt keys p word_of s None)) (sym same)
+              (started (disk old.store) (IsLeftAt keys p word_of s None) (λ c since. none_left_at c (settled_stands old.run keys p st (disk old.store) c runs.at refl refl (only c since))) (λ tells. none_left_at (disk old.store).cells (runs.at).stands));
+        };
         small = (runs.small, λ x e. none_pending (IsBatchSmall x) (Append x) e);
         onward = λ yes. absurd (false≢true yes);
       }
@@ -342,7 +368,7 @@ module _ {S : Type 0} (disk : S → Disk) (word_of : WordId → ℕ) (s : LifeSt
   fetch_ok is =
       answered (is.run).was_drawn is.whole is.draws
       (⊎_elim (λ (more : 2 ^ 62 < (old.run).drawn + p.places). absurd ((is.worn).1 (inl more))) (λ few. few) (cases_lt (2 ^ 62) ((old.run).drawn + p.places)))
-      is.some_left (is.images st runs.at) (is.stands st runs.at) (is.run).keys (is.run).params (is.run).drawn
+      is.some_left (is.stages st runs.at) (is.stands st runs.at) (is.run).keys (is.run).params (is.run).drawn
 
   module _ (counts_now : (t : Clock) (c : Image) → NotAfter t (disk new.store).moment → (disk new.store).may_leave c → (disk new.store).left_since t c)
       (only_now : (c : Image) → (disk old.store).left_since (disk old.store).moment c → (disk old.store).may_leave c) where
@@ -360,8 +386,8 @@ module _ {S : Type 0} (disk : S → Disk) (word_of : WordId → ℕ) (s : LifeSt
         let few : (old.run).drawn + p.places ≤ 2 ^ 62 = ⊎_elim (λ (more : 2 ^ 62 < (old.run).drawn + p.places). absurd ((is.worn).1 (inl more))) (λ few. few) (cases_lt (2 ^ 62) ((old.run).drawn + p.places)) in
         let images = images_then (Err (fault.StoreFault unsure)) is in
         ⊎_elim
-        (λ (written : (done : List Note) × IsCut (append_notes p (suc (old.run).epoch) (next_batch old.run)) done notes). in_flight (is.run).was_drawn is.whole is.draws few is.some_left written (is.images st runs.at) images)
-        (λ (opened : IsOpenBetween disk keys p (suc (old.run).epoch) r old.store new.store). batch_seen (is.run).was_drawn is.whole is.draws few is.some_left opened (is.images st runs.at) images)
+        (λ (written : (done : List Note) × IsCut (append_notes p (suc (old.run).epoch) (next_batch old.run)) done notes). in_flight (is.run).was_drawn is.whole is.draws few is.some_left written (store_stages (is.run).was_drawn is.whole is.draws few is.some_left unsure (is.stages st runs.at)) images)
+        (λ (opened : IsOpenBetween disk keys p (suc (old.run).epoch) r old.store new.store). batch_seen (is.run).was_drawn is.whole is.draws few is.some_left opened (store_stages (is.run).was_drawn is.whole is.draws few is.some_left unsure (is.stages st runs.at)) images)
         is.shown
     fetch_err (fault.StashFull rows) is = absurd is.refusal
     fetch_err (fault.Worn number) is = idle_called only_now (is.idle tt) is.shown

@@ -66,7 +66,7 @@ module _ {V S : Type 0} (k : Kind V) (disk : S → Disk) (runs : V → Running S
   end_left ws (DoubtBy fault) v w notes is = is.none_left
   end_left ws (Values out) v w notes is = absurd is
 
-  some_left : (h : RingHidden) (run_left : ℕ) → run_left + length h.records ≡ p.batches → 0 < run_left → length h.records < p.batches
+  pub some_left : (h : RingHidden) (run_left : ℕ) → run_left + length h.records ≡ p.batches → 0 < run_left → length h.records < p.batches
   some_left h run_left all some = omega (arith, all, some)
 
   none_left : (h : RingHidden) (run_left : ℕ) → run_left + length h.records ≡ p.batches → run_left ≡ 0 → length h.records ≡ p.batches
@@ -79,13 +79,13 @@ module _ {V S : Type 0} (k : Kind V) (disk : S → Disk) (runs : V → Running S
     abbrev st : RingStanding
     st = lies.standing
 
-    epoch : st.epoch ≡ s.epoch
+    pub epoch : st.epoch ≡ s.epoch
     epoch = sym ((lies.at).runs).epoch_is ∙ at.epoch_hidden ∙ sym here.epoch
 
-    generation : st.generation ≡ s.generation
+    pub generation : st.generation ≡ s.generation
     generation = sym ((lies.at).runs).generation_is ∙ at.generation ∙ sym here.generation
 
-    life : IsLifeAt p word_of st.content st.records s
+    pub life : IsLifeAt p word_of st.content st.records s
     life = subst (λ (c : Content). IsLifeAt p word_of c st.records s) (sym lies.content) (subst (λ (rs : List BatchRecord). IsLifeAt p word_of h.content rs s) (sym lies.records) here.life)
 
     -- ---- behind calls that were all answered
@@ -117,7 +117,7 @@ module _ {V S : Type 0} (k : Kind V) (disk : S → Disk) (runs : V → Running S
       pub kept : KeepsRun disk (runs v) (runs w) one.notes
       kept = kept_by disk (runs v) (runs w) one.notes call answer does
 
-      runs_here : RunsInLife word_of s run (disk (runs v).store)
+      abbrev pub runs_here : RunsInLife word_of s run (disk (runs v).store)
       runs_here = record {
         standing = st;
         at = lies.at;
@@ -145,7 +145,7 @@ module _ {V S : Type 0} (k : Kind V) (disk : S → Disk) (runs : V → Running S
       first_of done in_flight (inr (rest, are, flight)) = (rest, subst (λ (l : List LifeAct). AreActsOf call l) are (acts_are call), flight)
 
       -- the record that was drawn is the one that is logged
-      drawn_record : (asks : List (Option ℕ)) (r : BatchRecord) → IsNextRecord h asks r → life_batch r ≡ life_batch (record_of_fetch disk (runs v) (runs w) one.notes asks)
+      pub drawn_record : (asks : List (Option ℕ)) (r : BatchRecord) → IsNextRecord h asks r → life_batch r ≡ life_batch (record_of_fetch disk (runs v) (runs w) one.notes asks)
       drawn_record asks r is i = record {
         asks = is.asked i;
         first = record {
@@ -171,7 +171,7 @@ module _ {V S : Type 0} (k : Kind V) (disk : S → Disk) (runs : V → Running S
           ∙ ap (λ (m : ℕ). record_notes p (suc run.epoch % 2) m) next_is
           ∙ ap (λ (m : ℕ). record_notes p (m % 2) (length s.log)) epoch_then
 
-      public_is : record_notes p ((s.epoch + 1) % 2) (length s.log) ≡ record_notes p (((q.known).epoch + 1) % 2) q.shown
+      pub public_is : record_notes p ((s.epoch + 1) % 2) (length s.log) ≡ record_notes p (((q.known).epoch + 1) % 2) q.shown
       public_is =
           ap (λ (m : ℕ). record_notes p ((m + 1) % 2) (length s.log)) (here.epoch ∙ sym at.epoch_hidden ∙ ap (λ (x : Public). x.epoch) at.known)
           ∙ ap (λ (m : ℕ). record_notes p (((q.known).epoch + 1) % 2) m) (log_many ∙ at.shown)
@@ -226,15 +226,15 @@ module _ {V S : Type 0} (k : Kind V) (disk : S → Disk) (runs : V → Running S
   -- ---- from what was found on
 
   module _ (calls : List VaultCall) (steps : List (Shape × Fills)) (q : RingPublic) (h : RingHidden) (n : ℕ) (v : V) (drawn : AreDrawn ring_kind p (ring_hidden f) calls steps h) (at : RingAt k disk runs keys most p f opened q h n v) where
-    on : GoesOn (ring_hidden f) h
+    pub on : GoesOn (ring_hidden f) h
     on = all_on p (ring_hidden f) h calls steps drawn
 
-    own_words : (word_of : WordId → ℕ) (later : List ℕ) → later ≡ h.words ++ words_since (runs v).drawn later → AreTapeWords word_of (ring_hidden f).generation later → AreTapeWords word_of h.generation h.words
+    pub own_words : (word_of : WordId → ℕ) (later : List ℕ) → later ≡ h.words ++ words_since (runs v).drawn later → AreTapeWords word_of (ring_hidden f).generation later → AreTapeWords word_of h.generation h.words
     own_words word_of later grown tape = tape_before word_of h (record h { words = later }) (record { more = words_since (runs v).drawn later; words = grown; generation = refl })
         (subst (λ g. AreTapeWords word_of g later) (sym on.generation) tape)
 
     -- the call's holes, as the life shows them
-    cut_by : (word_of : WordId → ℕ) (t : LifeState) → IsInLife p word_of h t → (call : VaultCall) (answer : VaultAnswer) (w : V) → Called k v call answer w → (c : Fills) → RingDrawsCut p h call c (runs w).drawn → AreTapeWords word_of h.generation (runs w).drawn
+    pub cut_by : (word_of : WordId → ℕ) (t : LifeState) → IsInLife p word_of h t → (call : VaultCall) (answer : VaultAnswer) (w : V) → Called k v call answer w → (c : Fills) → RingDrawsCut p h call c (runs w).drawn → AreTapeWords word_of h.generation (runs w).drawn
         → IsCutInLife p word_of t call c
     cut_by word_of t here (Fetch asks) answer w one c (behind, d, of_tape) tape =
         cut_batch p word_of t h here asks c behind d (runs w).drawn of_tape (some_left h ((runs v).run).left at.left (fetch_left asks answer v w one.notes (words.called v (Fetch asks) answer one.notes w one.called))) tape

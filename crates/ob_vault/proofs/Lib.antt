@@ -23,6 +23,7 @@ pub mod Calls
 pub mod Chains
 pub mod Ending
 pub mod Fetching
+pub mod Moments
 pub mod Homes
 pub mod Ids
 pub mod OpenedRun
@@ -40,6 +41,8 @@ pub mod Barely
 pub mod Leaving
 pub mod Whole
 pub mod Joining
+pub mod Spanning
+pub mod OpeningStages
 pub mod Formatted
 pub mod SealCounts
 pub mod Given

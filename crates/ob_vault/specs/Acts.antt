@@ -1,9 +1,9 @@
 -- The calls of a ring vault, as acts of a life of its store.
-use Rattle.std.specs.Prelude.{◌≡◌, ◌⊎◌, ℕ, suc, ◌+◌, ◌<◌, ◌≤◌, ◌^◌, Bool, true, false, List, [], ◌∷◌, ◌++◌, map, length, slice_index, Option, None, Some}
-use Rattle.ob_base.specs.Repeats.{Has}
+use Rattle.std.specs.Prelude.{◌≡◌, ◌⊎◌, ℕ, suc, ◌+◌, ◌<◌, Bool, true, false, List, [], ◌∷◌, ◌++◌, map, length, slice_index, Option, None, Some}
 use Rattle.ob_base.specs.declared.params.Params.{Params}
 use Rattle.ob_base.specs.declared.value.Write.{Write}
 use Rattle.ob_fresh.specs.Drawn.{DrawInTurn, WordsKept}
+use Rattle.ob_end.specs.Moments.{IsEndMadeButSet}
 use Rattle.ob_fetch.specs.declared.run.Run.{Run}
 use Rattle.ob_fetch.specs.Fetches.{RunIsAt, next_batch}
 use Rattle.ob_recover.specs.Calls.{CallLaw, Ended as EndOf, Fetched, LifeCall, acts_of, repeated}
@@ -12,6 +12,8 @@ use Rattle.ob_log.specs.Appends.{append_notes}
 use Rattle.ob_recover.specs.Repeats.{content_of_ring}
 use Rattle.ob_ring.specs.Writing.{entry_of}
 use Rattle.ob_vault.specs.SealActs.{IsRingVault}
+pub use Rattle.ob_vault.specs.Stages.{AreBatchesSmall, IsBatchSmall}
+use Rattle.ob_vault.specs.Stages.{AreStages, IsStage, stages_of}
 use Rattle.ob_recover.specs.Known.{fills_of, fills_with_lifts, public_of_kept, slot_kept}
 use Rattle.ob_recover.specs.Lives.{IsLifeAt, LifeShowsFills, life_batch, word_kept}
 use Rattle.ob_recover.specs.Telling.{IsRowShown}
@@ -22,9 +24,11 @@ use Rattle.ob_seal.specs.declared.keys.Keys.{Keys}
 use Rattle.ob_serial.specs.VaultKinds.{AllCalled, Kind}
 use Rattle.ob_serial.specs.Vaults.{End, Ended, Fetch, Values, VaultAnswer, VaultCall}
 use Rattle.ob_stand.specs.Stands.{RingStanding}
+use Rattle.ob_store.specs.Calls.{Notes}
 use Rattle.ob_store.specs.Disk.{Disk, Image}
 use Rattle.ob_store.specs.Images.{LeavesOnly}
-use Rattle.ob_store.specs.Told.{IsCut}
+use Rattle.ob_store.specs.Told.{IsCut, events_of}
+use Rattle.ob_store.specs.declared.event.Event.{Event}
 use Rattle.ob_store.specs.declared.watch.Note.{Note}
 use Rattle.ob_tables.specs.declared.entry.Entry.{Entry}
 use Rattle.ob_opening.specs.OpeningActs.{IsLeftAt, StandsInLife}
@@ -36,14 +40,6 @@ use Rattle.ob_opening.specs.declared.opening.Opening.{Opening}
 -- the tape gave the words of this generation, as far as they were drawn
 abbrev pub AreTapeWords : (WordId → ℕ) → (generation : ℕ) → List ℕ → Type 0
 AreTapeWords word_of generation drawn = (i : ℕ) → i < length drawn → word_of (record { generation = generation; place = i }) ≡ slice_index drawn i
-
--- the places of a batch's words are below 2^64
-abbrev pub IsBatchSmall : LifeBatch → Type 0
-IsBatchSmall b = (b.first).place + length b.asks ≤ 2 ^ 64
-
--- The same of each batch of a log. It holds of the empty log with which a life begins, and each run hands it on to the next.
-abbrev pub AreBatchesSmall : List LifeBatch → Type 0
-AreBatchesSmall bs = (b : LifeBatch) → Has bs b → IsBatchSmall b
 
 -- A run is where the life is: the store stands for an epoch that the run is at, of the life's number and generation, with its content and
 -- its log; each batch of that was shown in this attempt; and so many words of the generation were drawn.
@@ -82,6 +78,19 @@ module _ {S : Type 0} (disk : S → Disk) (word_of : WordId → ℕ) (old new : 
       ⊎ ((made ≡ []) × (done : List Note) × IsCut (append_notes (old.run).params (suc (old.run).epoch) (next_batch old.run)) done notes)
   IsShownBy (End writes) made = (made ≡ acts_of (life_call (End writes))) ⊎ (made ≡ ShowLifts ∷ [])
 
+  -- What the store was called for by the end of the first stage, where the other one follows: a fetch's record, and no read of its batch; or all of an end,
+  -- its lifts too, but for the set of the epoch's register.
+  abbrev pub IsCalledFor : VaultCall → Option (List Event) → Type 0
+  IsCalledFor (Fetch asks) seen = Notes (events_of (append_notes (old.run).params (suc (old.run).epoch) (next_batch old.run))) (disk old.store).seen seen
+  IsCalledFor (End writes) seen = IsEndMadeButSet old.lanes old.run (disk old.store).seen seen
+
+  -- All stages of a call that was answered, else the first ones. Where there is none nothing was done.
+  pub record IsStaged (s : LifeState) (call : VaultCall) (answered : Bool) : Type 0 where
+    pub ends : List S
+    pub stages : AreStages (IsStage disk ((old.run).sealer).keys (old.run).params word_of s) (λ stage end. IsCalledFor call (disk end).seen) 0 (stages_of None (life_call call)) old.store ends new.store
+    pub whole : answered ≡ true → length ends ≡ 2
+    pub idle : ends ≡ [] → LeavesOnly (disk old.store) (disk new.store) (IsLeftAt ((old.run).sealer).keys (old.run).params word_of s None)
+
   -- the image is one that an opening can go on from: the first acts of the call were made, and the next may be in flight
   pub record IsLeftWithin (s : LifeState) (call : VaultCall) (image : Image) : Type 0 where
     pub made : List LifeAct
@@ -94,8 +103,8 @@ module _ {S : Type 0} (disk : S → Disk) (word_of : WordId → ℕ) (old new : 
     pub left : IsLeftAt ((old.run).sealer).keys (old.run).params word_of (reached (old.run).params word_of s made) pending image
 
   -- It makes the acts of its call, where it was answered; else the first of them, and the next may be in flight: where that is a record,
-  -- no more was shown than its own writes. What it showed these acts show. An opening goes on from what it leaves, and from what a crash at any moment of it leaves;
-  -- and behind a call that was answered the run is where the life is.
+  -- no more was shown than its own writes. What it showed these acts show. An opening goes on from what it leaves, and from what a crash at any
+  -- moment of it leaves, stage by stage; and behind a call that was answered the run is where the life is.
   pub record IsCallInLife (s : LifeState) (call : VaultCall) (answered : Bool) : Type 0 where
     pub made : List LifeAct
     pub in_flight : Option LifeAct
@@ -105,7 +114,7 @@ module _ {S : Type 0} (disk : S → Disk) (word_of : WordId → ℕ) (old new : 
     -- their words are drawn in turn
     pub turn : (k : WordsKept) → k.drawn ≡ s.drawn → DrawInTurn (old.run).params word_of s k made in_flight
     pub left : (c : Image) → (disk new.store).may_leave c → IsLeftAt ((old.run).sealer).keys (old.run).params word_of (reached (old.run).params word_of s made) in_flight c
-    pub moments : LeavesOnly (disk old.store) (disk new.store) (IsLeftWithin s call)
+    pub staged : IsStaged s call answered
     pub small : AreBatchesSmall (reached (old.run).params word_of s made).log × ((b : LifeBatch) → in_flight ≡ Some (Append b) → IsBatchSmall b)
     pub onward : answered ≡ true → RunsInLife word_of (reached (old.run).params word_of s made) new.run (disk new.store)
 
@@ -115,6 +124,11 @@ module _ {S : Type 0} (disk : S → Disk) (word_of : WordId → ℕ) (old new : 
 abbrev pub RingCallsLive : {S : Type 0} → (S → Disk) → Type 0
 RingCallsLive {S} disk = (word_of : WordId → ℕ) (s : LifeState) (old new : Running S) (notes : List Note) (call : VaultCall) (answer : VaultAnswer)
     → RunsInLife word_of s old.run (disk old.store) → AreTapeWords word_of ((old.run).sealer).generation new.drawn → RingCalled disk old new notes call answer → IsCallInLife disk word_of old new notes s call (is_answered answer)
+
+-- So is each moment of it: the first acts were made, and the next may be in flight.
+abbrev pub StagesAreMoments : {S : Type 0} → (S → Disk) → Type 0
+StagesAreMoments {S} disk = (word_of : WordId → ℕ) (s : LifeState) (old new : Running S) (notes : List Note) (call : VaultCall) (answered : Bool)
+    → RunsInLife word_of s old.run (disk old.store) → IsStaged disk word_of old new notes s call answered → LeavesOnly (disk old.store) (disk new.store) (IsLeftWithin disk word_of old new notes s call)
 
 -- Behind an opening of what stood, which begins a generation and repeats each batch of the log, the run that is made of it is where the
 -- life is.

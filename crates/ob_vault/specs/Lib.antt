@@ -16,8 +16,10 @@ pub mod RingKind
 pub mod RingSteps
 pub mod RingLaws
 pub mod SealActs
+pub mod Stages
 pub mod Acts
 pub mod Shown
 pub mod Lives
 pub mod Joined
+pub mod Spans
 pub mod SealCounts

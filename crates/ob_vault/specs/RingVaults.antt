@@ -14,10 +14,11 @@ use Rattle.ob_cells.specs.Writes.{Seals}
 use Rattle.ob_tables.specs.Content.{Content}
 use Rattle.ob_end.specs.Closings.{SameGeneration}
 use Rattle.ob_end.specs.EndRuns.{AreEntriesWritten, EndAnswers, EndDamage, EndDraws, EndImages, EndStands, IfEnded, IsAtContent, IsEndUndamaged, LeadsOn, TakeBucketWords, end_writes, seals_for_end, table_ended}
+use Rattle.ob_end.specs.Moments.{EndStages}
 use Rattle.ob_end.specs.Shown.{EndShows}
 use Rattle.ob_end.specs.Lifts.{IsUndamaged}
 use Rattle.ob_fetch.specs.declared.run.Run.{Run}
-use Rattle.ob_fetch.specs.Fetches.{FetchAnswers, FetchDraws, FetchShows, IsFetchRefusal, IsOpenIfShown, IsWornForBatch, MovesPlanner, RunIsAt, next_batch, record_next, words_since}
+use Rattle.ob_fetch.specs.Fetches.{FetchAnswers, FetchDraws, FetchShows, FetchStages, IsFetchRefusal, IsOpenIfShown, IsWornForBatch, MovesPlanner, RunIsAt, next_batch, record_next, words_since}
 use Rattle.ob_log.specs.Appends.{IsWornOut, append_notes}
 use Rattle.ob_log.specs.Logs.{BatchRecord, OpenRecords}
 use Rattle.ob_pads.specs.Seals.{CellsAreSealed, ClearBy, answer_of_end}
@@ -188,6 +189,8 @@ module _ {S : Type 0} (disk : S → Disk) (old new : Running S) (notes : List No
       -- where the store stood, it stands with the record behind it, and with it or without it at each moment
       pub stands : (s : RingStanding) → RunIsAt old.run s (disk old.store) → OnOk result (RunIsAt new.run (with_record s record_of_fetch) (disk new.store))
       pub images : (s : RingStanding) → RunIsAt old.run s (disk old.store) → LeavesOnly (disk old.store) (disk new.store) (OneOf ((old.run).sealer).keys (old.run).params s (with_record s record_of_fetch))
+      -- first the record, then the batch
+      pub stages : (s : RingStanding) → RunIsAt old.run s (disk old.store) → FetchStages disk old.run s record_of_fetch old.store new.store result
 
   -- An end: the i-th write takes the i-th word, and the buckets the words behind.
   module _ (writes : List Write) where
@@ -231,6 +234,8 @@ module _ {S : Type 0} (disk : S → Disk) (old new : Running S) (notes : List No
       -- where the store stood, it stands for the next epoch behind it, and for either once the register's gate is written
       pub stands : (s : RingStanding) → RunIsAt old.run s (disk old.store) → EndStands s writes_of_end (disk new.store) new.run result
       pub images : (s : RingStanding) → RunIsAt old.run s (disk old.store) → LeavesOnly (disk old.store) (disk new.store) (EndImages ((old.run).sealer).keys (old.run).params s writes_of_end new.run result)
+      -- first all else, then the register
+      pub stages : (s : RingStanding) → RunIsAt old.run s (disk old.store) → EndStages disk old.lanes s writes_of_end old.run new.run old.store new.store result
 
   abbrev pub RingCalled : VaultCall → VaultAnswer → Type 0
   RingCalled (Fetch asks) (Values out) = FetchCalled asks (Ok tt)

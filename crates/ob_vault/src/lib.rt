@@ -14,13 +14,16 @@ mod runs;
 mod vault;
 
 pub use acts::{calls_are_acts, ring_chains_are_runs, seals_are_public};
-pub use lives::{calls_are_lives, calls_show_lives, chains_are_lives, openings_are_lives};
+pub use lives::{
+    calls_are_lives, calls_show_lives, chains_are_lives, openings_are_lives,
+    openings_come_in_stages, stages_are_moments,
+};
 pub use phases::{calls_are_told_by_shape, phases_follow};
 pub use ring::{
     calls_begin, calls_do, formats_are_told, openings_are_told, refusals_are_told, rows_are_cut,
 };
 pub use runs::{
-    drawn_is_shown, formats_begin, openings_go_on, openings_stop, runs_are_lives,
-    runs_are_one_life, runs_go_on, tapes_exist,
+    drawn_is_shown, formats_begin, openings_go_on, openings_stop, rows_of_stages, runs_are_lives,
+    runs_are_one_life, runs_go_on, runs_stop_in_stages, tapes_exist,
 };
 pub use vault::RingVault;

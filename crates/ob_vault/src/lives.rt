@@ -2,7 +2,8 @@
 //! over any number of openings, calls and crashes.
 
 ghost use Rattle.ob_serial.specs.VaultKinds.{kind_of};
-ghost use Rattle.ob_vault.specs.Acts.{EndsShowLives, FetchesShowLives, OpenedRunsLive, RingCallsLive, RingChainsInLife};
+ghost use Rattle.ob_vault.specs.Acts.{EndsShowLives, FetchesShowLives, OpenedRunsLive, RingCallsLive, RingChainsInLife, StagesAreMoments};
+ghost use Rattle.ob_vault.specs.Stages.{OpeningsComeInStages};
 
 use ob_serial::Vault;
 use ob_store::Store;
@@ -13,6 +14,19 @@ use ob_store::Store;
 /// of the tape.
 pub fn calls_are_lives<S: Store>()
     ensures { RingCallsLive (λ store. S.disk store) }
+{}
+
+/// At each moment of a call, in whichever of its stages, the first of its acts were made, and the
+/// next may be in flight: an opening can go on from what a crash leaves then.
+pub fn stages_are_moments<S: Store>()
+    ensures { StagesAreMoments (λ store. S.disk store) }
+{}
+
+/// An opening comes in stages too: up to its first sync a crash leaves what it might have left
+/// before; up to the sync behind its generation's gate what was found, and maybe that generation;
+/// and no batch is shown again before that is in every image.
+pub fn openings_come_in_stages<S: Store>()
+    ensures { OpeningsComeInStages (λ store. S.disk store) }
 {}
 
 /// Behind an opening the run over it is where the life is.

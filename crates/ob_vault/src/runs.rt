@@ -5,6 +5,7 @@ ghost use Rattle.ob_serial.specs.VaultKinds.{kind_of};
 ghost use Rattle.ob_vault.specs.Shown.{DrawnIsShown};
 ghost use Rattle.ob_vault.specs.Joined.{RunsAreOneLife, TapesExist};
 ghost use Rattle.ob_vault.specs.Lives.{FormatsBegin, OpeningsGoOn, OpeningsStop, RunsAreLives, RunsGoOn};
+ghost use Rattle.ob_vault.specs.Spans.{RowsOfStages, RunsStopInStages};
 
 use ob_serial::Vault;
 use ob_store::Store;
@@ -47,6 +48,18 @@ pub fn runs_are_lives<S: Store>()
 /// hole that is shown again is filled as before.
 pub fn runs_are_one_life<S: Store>()
     ensures { RunsAreOneLife (λ store. S.disk store) }
+{}
+
+/// A run that is cut off in a stage of a call goes on with the life as one whose call was refused,
+/// from whichever image a crash left at a moment of that stage; of the call that counts which may
+/// have been seen by the stage's end.
+pub fn runs_stop_in_stages<V: Vault, S: Store>()
+    ensures { RunsStopInStages (kind_of V.Vault) (λ store. S.disk store) }
+{}
+
+/// And a row of runs that are cut off so is one life too.
+pub fn rows_of_stages<S: Store>()
+    ensures { RowsOfStages (λ store. S.disk store) }
 {}
 
 /// For any such row there are words such that the tape of each run gave those of its generation:

@@ -53,7 +53,8 @@ returns-clause-closes g c = λ s end at tells synced stands is.
     let same : c.write_end.new.sealer.keys ≡ keys = c.in-Ok.ensures.seals.some.keys in
     let one : c.args.epoch ≡ s.epoch + 1 = omega (arith, at) in
     let told = c.in-Ok.ensures.serves.tells tells in
-    closed keys p s end old mid new c.args.epoch (g.met.S.Store.only_now c.args.store.now) at c.requires.epoch ending (writes.written tells) c.set.result
+    closed g.S.Store.disk (end_write_notes c.args.ring.now c.args.epoch) keys p s end c.args.store.now c.write_end.new.store c.set.new.store c.args.epoch (g.met.S.Store.only_now c.args.store.now) (g.met.S.Store.only_now c.write_end.new.store) at c.requires.epoch ending
+    (writes.written tells) told (c.in-Ok.ensures.durable tells) c.in-Ok.ensures.does.all.seen c.set.result
     (subst (λ (x : Keys). LeavesOnly mid new (SetLeaves (tagging x) 5 mid.cells s.epoch c.args.epoch c.set.result)) same
     (c.set.ensures.old_or_new s.epoch one told (c.in-Ok.ensures.durable tells) (subst (λ (x : Keys). StandsAt (tagging x) 5 mid.cells s.epoch) (sym same) (mid_stands keys p s end old mid ending).epoch)))
     (on_ok _ _ c.set.result (λ put. subst (λ (x : Keys). IsPut (tagging x) 5 mid.cells c.args.epoch new.cells) same put) (c.set.ensures.done told))

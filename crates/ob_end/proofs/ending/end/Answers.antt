@@ -1,4 +1,4 @@
-use Rattle.std.proofs.Common.{◌≡◌, ◌≤◌, ◌+◌, ◌∙◌, inl, suc, true, Ok, Err, ap, arith, refl, subst, sym}
+use Rattle.std.proofs.Common.{◌≡◌, ◌≤◌, ◌+◌, ℕ, ◌∙◌, inl, suc, false, true, Ok, Err, ap, arith, refl, subst, sym}
 use Rattle.ob_base.specs.Planned.{most_jobs}
 use Rattle.ob_cells.specs.Jobs.{Manned}
 use Rattle.ob_end.specs.Lifts.{lift_cells, lift_jobs, lift_notes}
@@ -12,8 +12,8 @@ use Rattle.ob_fetch.specs.Fetches.{words_since}
 use Rattle.ob_serial.specs.declared.vault.EndErr.{EndErr}
 use Rattle.ob_serial.specs.declared.vault.EndErr.TheVariants as end
 use Rattle.ob_serial.specs.VaultViews.{IsEndFault, IsStoreEnd}
-use Rattle.ob_store.specs.Calls.{Serves, IsStoreFault}
-use Rattle.ob_store.specs.Images.{LeavesOnly}
+use Rattle.ob_store.specs.Calls.{Notes, Serves, IsStoreFault}
+use Rattle.ob_store.specs.Told.{events_of}
 use Rattle.ob_twin.specs.Clear.{AreInClear, AreInClearBut}
 use Rattle.ob_twin.proofs.Clear.{both_clear, clear_but}
 use Rattle.ob_twin.specs.Keyed.{tagging}
@@ -22,13 +22,15 @@ use Rattle.ob_twin.specs.Opening.{GatesAre, is_closed_first}
 use Rattle.ob_twin.specs.Register.{place_of}
 use Rattle.ob_twin.specs.declared.gates.Gates.{Gates}
 use Rattle.ob_ring.specs.Ring.{StandsFor}
-use Rattle.ob_end.specs.EndRuns.{AreEntriesWritten, EndAnswers, EndDamage, EndDoes, EndDraws, EndImages, IfEnded, IsAtContent, IsEndUndamaged, LeadsOn, TakeBucketWords, end_err_of, end_writes, seals_for_end, table_ended}
+use Rattle.ob_end.specs.EndRuns.{AreEntriesWritten, EndAnswers, EndDamage, EndDoes, EndDraws, IfEnded, IsAtContent, IsEndUndamaged, LeadsOn, TakeBucketWords, end_err_of, end_writes, seals_for_end, table_ended}
 use Rattle.ob_pads.specs.Seals.{CellsAreSealed}
 use Rattle.ob_end.proofs.ActLaws.{damage_closed, damage_made, end_acts, end_moments, few_drawn, further_same, read_moments, sealed_closed, sealed_from, undamaged_closed}
 use Rattle.ob_end.proofs.CloseLaws.{close_fault, gates_kept}
-use Rattle.ob_end.proofs.EndCases.{answers_closed, at_spent, gates_at, one_more, read_leaves, does_as, does_closed, does_made, images_closed, images_ended, if_ended, images_refused, ready_spent}
+use Rattle.ob_end.proofs.EndCases.{answers_closed, at_spent, gates_at, one_more, read_leaves, does_as, does_closed, does_made, if_ended, ready_spent}
 use Rattle.ob_end.proofs.EndCases.{seals_closed, seals_ended, serves_closed, serves_ended, draws_closed, draws_made, before_blames, before_fault}
 use Rattle.ob_end.proofs.EndStage as stage
+use Rattle.ob_end.proofs.Moments.{ends_in_stages, made_but, moments_before, moments_closed, moments_ended}
+use Rattle.ob_end.specs.Moments.{EndMoments, end_setting}
 use Rattle.ob_end.proofs.ScheduledEnds.{front_at, lifts_scheduled}
 use Rattle.ob_end.proofs.ToldEnds.{cells_are, closed_told, cut_short, has_written, lifts_as, made_told, reads_are, refused_as}
 use Rattle.ob_store.proofs.Serving.{serves_err}
@@ -142,7 +144,7 @@ returns-in-Err-clause-images g c = λ s was.
     let mids = g.S.Store.disk c.make_end.new.store in
     let words = words_since (g.T.Tape.drawn c.args.tape.now) (g.T.Tape.drawn c.make_end.new.tape) in
     let kept = c.make_end.ensures.kept in
-    images_refused run.sealer.keys run.params s (end_writes run.params c.args.writes.now words run.sealer.generation run.drawn) mid old mids c.in-Err.fault
+    moments_before g.S.Store.disk c.args.crew.now.lanes s (end_writes run.params c.args.writes.now words run.sealer.generation run.drawn) run mid c.args.store.now c.make_end.new.store c.make_end.new.store c.in-Err.fault
     (read_leaves run.sealer.keys run.params s old mids (g.met.S.Store.only_now c.args.store.now) was.settled was.stands c.make_end.ensures.passes)
 
 pub returns-in-Err-close_epoch-clause-serves : goal.returns-in-Err-close_epoch-clause-serves
@@ -233,9 +235,21 @@ returns-in-Err-close_epoch-clause-images g c = λ s was.
     (stage.synced_mid run1 mid old writes words kept ready made low short may s at mids keeps passes)
     (stage.stands_mid run1 mid old writes words kept ready made low short may s at mids keeps passes)
     (stage.is_end run1 mid old writes words kept ready made low short may s at mids keeps passes) in
-    subst (λ (e : EndErr). LeavesOnly old new (EndImages run.sealer.keys run.params s ws then (Err e))) (sym c.end_err.ensures)
-    (images_closed run.sealer.keys run.params s ws then old new mid.sealer.keys mid.ring.p ending mids (last.stash.rows ≡ rows_left mid.ring) c.in-Err-close_epoch.refused closes c.in-Err-close_epoch.ensures.rows
-    (stage.refused_leaves run1 mid old writes words kept ready made low short may s at mids keeps passes new only) (λ rows. stage.either_leaves run1 mid old writes words kept ready made low short may s at mids keeps passes new only last stash rows))
+    let fit = ready.planner in
+    let one : mid.epoch + 1 ≡ suc run.epoch = (let same : mid.epoch ≡ run.epoch = ap (λ (m : Run). m.epoch) kept in omega (arith, same)) in
+    subst (λ (e : EndErr). EndMoments g.S.Store.disk c.args.crew.now.lanes s ws run then c.args.store.now c.close_epoch.new.store (Err e)) (sym c.end_err.ensures)
+    (moments_closed g.S.Store.disk c.args.crew.now.lanes s ws run then c.args.store.now c.make_end.new.store c.close_epoch.new.store (end_write_notes mid.ring (mid.epoch + 1)) mid.sealer.keys mid.ring.p ending
+    (last.stash.rows ≡ rows_left mid.ring) c.in-Err-close_epoch.refused closes c.in-Err-close_epoch.ensures.rows
+    (stage.refused_leaves run1 mid old writes words kept ready made low short may s at mids keeps passes new only)
+    (λ rows both. ends_in_stages g.S.Store.disk c.args.crew.now.lanes s ws run then c.args.store.now c.make_end.new.store c.close_epoch.new.store (end_write_notes mid.ring (mid.epoch + 1)) mid.sealer.keys mid.ring.p ending both
+    (λ x. stage.refused_leaves run1 mid old writes words kept ready made low short may s at mids keeps passes (g.S.Store.disk x) only)
+    (λ x. stage.either_as run1 mid old writes words kept ready made low short may s at mids keeps passes new only last stash rows (g.S.Store.disk x))
+    (λ x seen content rs from.
+    made_but c.args.crew.now.lanes (lift_cells run.params run.ring.metas.versions fit.table) (lift_notes run.params run.ring.metas.versions fit.table) (end_write_notes mid.ring (suc run.epoch)) (end_setting run)
+    (end_phases run.params (public_of_kept run.params content rs run.epoch run.gates) (fills_with_lifts run.params content rs)) old.seen mids.seen (g.S.Store.disk x).seen (g.W.Watch.trace c.args.watch.now) (g.W.Watch.trace c.make_end.new.watch)
+    (has_written c.args.crew.now.lanes mid.ring (suc run.epoch)) (stage.whole run1 mid old writes words kept ready made low short may content rs from).1
+    (c.in-Ok.ensures.told run.ring.metas fit.table (seals_none run.ring.metas) fit.stands)
+    (subst (λ (n : ℕ). Notes (events_of (end_write_notes mid.ring n)) mids.seen (g.S.Store.disk x).seen) one seen))))
 
 pub returns-clause-serves : goal.returns-clause-serves
 returns-clause-serves g c =
@@ -392,8 +406,19 @@ returns-clause-images g c = λ s was.
     (stage.synced_mid run1 mid old writes words kept ready made low short may s at mids keeps passes)
     (stage.stands_mid run1 mid old writes words kept ready made low short may s at mids keeps passes)
     (stage.is_end run1 mid old writes words kept ready made low short may s at mids keeps passes) in
-    let then : Run = record mid { gates = c.close_epoch.new.gates; sealer = c.close_epoch.new.sealer; ring = last; sheet = c.close_epoch.new.sheet } in
-    images_ended run.sealer.keys run.params s ws then old new (stage.either_leaves run1 mid old writes words kept ready made low short may s at mids keeps passes new only last stash rows closes.0)
+    let then : Run = record mid { gates = c.close_epoch.new.gates; sealer = c.close_epoch.new.sealer; epoch = mid.epoch + 1; left = mid.params.batches; spent = false; ring = last; sheet = c.close_epoch.new.sheet } in
+    let fit = ready.planner in
+    let one : mid.epoch + 1 ≡ suc run.epoch = (let same : mid.epoch ≡ run.epoch = ap (λ (m : Run). m.epoch) kept in omega (arith, same)) in
+    moments_ended g.S.Store.disk c.args.crew.now.lanes s ws run then c.args.store.now c.make_end.new.store c.close_epoch.new.store
+    (ends_in_stages g.S.Store.disk c.args.crew.now.lanes s ws run then c.args.store.now c.make_end.new.store c.close_epoch.new.store (end_write_notes mid.ring (mid.epoch + 1)) mid.sealer.keys mid.ring.p ending closes.0
+    (λ x. stage.refused_leaves run1 mid old writes words kept ready made low short may s at mids keeps passes (g.S.Store.disk x) only)
+    (λ x. stage.either_as run1 mid old writes words kept ready made low short may s at mids keeps passes new only last stash rows (g.S.Store.disk x))
+    (λ x seen content rs from.
+    made_but c.args.crew.now.lanes (lift_cells run.params run.ring.metas.versions fit.table) (lift_notes run.params run.ring.metas.versions fit.table) (end_write_notes mid.ring (suc run.epoch)) (end_setting run)
+    (end_phases run.params (public_of_kept run.params content rs run.epoch run.gates) (fills_with_lifts run.params content rs)) old.seen mids.seen (g.S.Store.disk x).seen (g.W.Watch.trace c.args.watch.now) (g.W.Watch.trace c.make_end.new.watch)
+    (has_written c.args.crew.now.lanes mid.ring (suc run.epoch)) (stage.whole run1 mid old writes words kept ready made low short may content rs from).1
+    (c.in-Ok.ensures.told run.ring.metas fit.table (seals_none run.ring.metas) fit.stands)
+    (subst (λ (n : ℕ). Notes (events_of (end_write_notes mid.ring n)) mids.seen (g.S.Store.disk x).seen) one seen)))
 
 pub returns-in-Err-clause-draws : goal.returns-in-Err-clause-draws
 returns-in-Err-clause-draws g c = λ t stands.

@@ -25,7 +25,7 @@ use Rattle.ob_tables.specs.Kept.{Held}
 use Rattle.ob_fetch.proofs.ActLaws.{fetch_acts}
 use Rattle.ob_fetch.proofs.AnswerLaws.{item_got}
 use Rattle.ob_fetch.proofs.FetchLaws.{answers_as, answers_refused, begun_leaves, begun_now, cells_same, does_refused, draws_refused, drawn_many, enough_left, fetch_fault, left_for}
-use Rattle.ob_fetch.proofs.FetchLaws.{worn_for, leaves_none, leaves_read, moves_as, next_is, not_worn, settled_then, tells_as, value_stood, within_next, within_then, written_still}
+use Rattle.ob_fetch.proofs.FetchLaws.{worn_for, leaves_none, leaves_read, moves_as, next_is, not_worn, settled_then, stages_begun, stages_logged, stages_refused, tells_as, value_stood, within_next, within_then, written_still}
 use Rattle.ob_fetch.proofs.ScheduleLaws.{open_begun, open_cut, batch_room, plans_as, plans_more, begun_shown, shown_begun, shown_cut, shown_well}
 use Rattle.ob_fetch.proofs.NextLaws.{answers_then, refused_then, runs_as, runs_next, stands_as, stands_then}
 use Rattle.ob_fetch.specs.Fetches.{AreMapValues, FetchAnswers, FetchDraws, FetchStands, IsFetchRefusal, values_asked, next_batch, record_next, words_since, FetchDoes}
@@ -67,6 +67,7 @@ pub returns-then-is_worn-clause-standing : goal.returns-then-is_worn-clause-stan
 returns-then-is_worn-clause-standing g c = record {
   stands = λ s was. tt;
   images = λ s was. leaves_none c.args.run.now s _ (g.S.Store.disk c.args.store.now) (g.met.S.Store.only_now c.args.store.now) was;
+  stages = λ s was. refl;
 }
 
 -- ---- the conditions of the calls
@@ -204,6 +205,11 @@ returns-in-Err-clause-standing g c =
       images = λ s was.
           begun_leaves run s r old mid was (begun_now run c.args.asks.now words old mid c.requires.some_left c.requires.goes_on.ready.few c.begin_batch.ensures.obeys (within_next run old mid c.begin_batch.ensures.within) was.tells)
           (g.met.S.Store.only_now c.args.store.now) c.begin_batch.ensures.within c.begin_batch.ensures.images;
+      stages = λ s was.
+          stages_begun g.S.Store.disk run s r c.args.store.now c.begin_batch.new.store c.in-Err.fault c.in-Err.ensures.faults
+          (subst (λ (e : ℕ). TellsFirst (append_notes p e (next_batch run)) old.seen mid.seen (g.W.Watch.trace c.args.watch.now) (g.W.Watch.trace c.begin_batch.new.watch)) (next_is run.epoch) c.in-Err.ensures.does.first)
+          (begun_leaves run s r old mid was (begun_now run c.args.asks.now words old mid c.requires.some_left c.requires.goes_on.ready.few c.begin_batch.ensures.obeys (within_next run old mid c.begin_batch.ensures.within) was.tells)
+          (g.met.S.Store.only_now c.args.store.now) c.begin_batch.ensures.within c.begin_batch.ensures.images);
     }
 
 -- ---- refused while the batch was read
@@ -329,6 +335,10 @@ returns-in-Err-read_batch-clause-standing g c =
           leaves_read (OneOf keys p s (with_record s r)) old mid new (g.met.S.Store.only_now c.begin_batch.new.store) (g.met.S.Store.counts_now c.begin_batch.new.store)
           (begun_leaves run s r old mid was (begun_now run c.args.asks.now words old mid c.requires.some_left c.requires.goes_on.ready.few c.begin_batch.ensures.obeys (within_next run old mid c.begin_batch.ensures.within) was.tells)
           (g.met.S.Store.only_now c.args.store.now) c.begin_batch.ensures.within c.begin_batch.ensures.images) c.read_batch.ensures.passes;
+      stages = λ s was.
+          stages_refused g.S.Store.disk run s r c.args.store.now c.read_batch.new.store c.in-Err-read_batch.fault c.in-Err-read_batch.ensures.faults
+          (stages_logged g.S.Store.disk run s c.args.asks.now words c.args.store.now c.begin_batch.new.store c.read_batch.new.store (g.met.S.Store.only_now c.args.store.now) (g.met.S.Store.only_now c.begin_batch.new.store) was
+          c.requires.some_left c.requires.goes_on.ready.few c.begin_batch.ensures.obeys c.begin_batch.ensures.within c.begin_batch.ensures.images (c.in-Ok.ensures.written was.tells) (c.in-Ok.ensures.durable was.tells) c.in-Ok.ensures.does.all.seen c.read_batch.ensures.passes);
     }
 
 -- ---- read
@@ -517,6 +527,9 @@ returns-clause-standing g c =
           leaves_read (OneOf keys p s (with_record s r)) old mid new (g.met.S.Store.only_now c.begin_batch.new.store) (g.met.S.Store.counts_now c.begin_batch.new.store)
           (begun_leaves run s r old mid was (begun_now run c.args.asks.now words old mid c.requires.some_left c.requires.goes_on.ready.few c.begin_batch.ensures.obeys (within_next run old mid c.begin_batch.ensures.within) was.tells)
           (g.met.S.Store.only_now c.args.store.now) c.begin_batch.ensures.within c.begin_batch.ensures.images) c.read_batch.ensures.passes;
+      stages = λ s was.
+          stages_logged g.S.Store.disk run s c.args.asks.now words c.args.store.now c.begin_batch.new.store c.read_batch.new.store (g.met.S.Store.only_now c.args.store.now) (g.met.S.Store.only_now c.begin_batch.new.store) was
+          c.requires.some_left c.requires.goes_on.ready.few c.begin_batch.ensures.obeys c.begin_batch.ensures.within c.begin_batch.ensures.images (c.in-Ok.ensures.written was.tells) (c.in-Ok.ensures.durable was.tells) c.in-Ok.ensures.does.all.seen c.read_batch.ensures.passes;
     }
 
 -- ---- the batch may be begun

@@ -100,7 +100,7 @@ returns-in-Err-replay-clause-begins_err g c =
     let number : (h : ℕ) → (g.S.Store.disk old).tells → StandsAt (tagging keys) 1 (g.S.Store.disk old).cells h → found.generation ≡ h = λ h tells stands. generation_is keys p (g.S.Store.disk old).cells found h (c.requires.gates tells) stands in
     let begun = subst (λ (s : Sealing). BeginsFrom g.S.Store.disk s.keys found.generation old mid) c.new-known.ensures c.in-Ok.ensures.leaves in
     inr (record {
-      begins = begins_then g.S.Store.disk keys p (next_notes found) found.generation old mid new c.in-Ok.ensures.durable kept c.in-Ok.ensures.does.all.seen c.in-Err-replay.ensures.serves.goes c.in-Err-replay.ensures.keeps c.in-Err-replay.ensures.passes;
+      begins = begins_then g.S.Store.disk keys p (next_notes found) found.generation old mid new begun c.in-Ok.ensures.durable kept c.in-Ok.ensures.does.all.seen c.in-Err-replay.ensures.serves.goes c.in-Err-replay.ensures.keeps c.in-Err-replay.ensures.passes;
       opens = opens_then g.S.Store.disk keys p old mid new (begun_opens g.S.Store.disk keys p found.generation old mid number begun) (g.met.S.Store.only_now mid) c.in-Err-replay.ensures.passes c.in-Ok.ensures.durable
           (λ h tells stands.
           let at = number h tells stands in
@@ -167,7 +167,8 @@ returns-clause-begins g c =
     let kept : (g.S.Store.disk old).tells → StandsAt (tagging keys) 1 (g.S.Store.disk old).cells found.generation → KeepsAt (tagging keys) 1 (g.S.Store.disk old).cells (suc found.generation) (g.S.Store.disk mid).cells =
     λ tells stands. subst (λ (s : Sealing). KeepsAt (tagging s.keys) 1 (g.S.Store.disk old).cells (suc found.generation) (g.S.Store.disk mid).cells) c.new-known.ensures
     (c.in-Ok.ensures.stands tells (subst (λ (s : Sealing). StandsAt (tagging s.keys) 1 (g.S.Store.disk old).cells found.generation) (sym c.new-known.ensures) stands)) in
-    begins_then g.S.Store.disk keys p (next_notes found) found.generation old mid new c.in-Ok.ensures.durable kept c.in-Ok.ensures.does.all.seen c.in-Ok-replay.ensures.serves.goes c.in-Ok-replay.ensures.keeps c.in-Ok-replay.ensures.passes
+    begins_then g.S.Store.disk keys p (next_notes found) found.generation old mid new (subst (λ (s : Sealing). BeginsFrom g.S.Store.disk s.keys found.generation old mid) c.new-known.ensures c.in-Ok.ensures.leaves) c.in-Ok.ensures.durable kept
+    c.in-Ok.ensures.does.all.seen c.in-Ok-replay.ensures.serves.goes c.in-Ok-replay.ensures.keeps c.in-Ok-replay.ensures.passes
 
 pub returns-clause-tape : goal.returns-clause-tape
 returns-clause-tape g c = record { present_is = c.start.ensures.in_force ∙ c.in-Ok.ensures.next.0; none_drawn = c.start.ensures.none_drawn }

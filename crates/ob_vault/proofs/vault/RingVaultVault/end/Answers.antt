@@ -45,7 +45,7 @@ returns-clause-sound g c = λ v sound.
     let at = (serves run old v holds c.requires.serves).at in
     let stands = c.end-result.ensures.stands (s run old v holds c.requires.serves) at in
     end_sound run old v holds c.requires.serves ws (writes_of writes) plain c.end-result.new.run new c.end-result.ensures.params some.keys some.generation (g.met.S.Store.counts_now c.end-result.new.store) c.end-result.result stands
-    (c.end-result.ensures.images (s run old v holds c.requires.serves) at)
+    (c.end-result.ensures.images (s run old v holds c.requires.serves) at).leaves
     (end_holds run old v holds c.requires.serves ws (writes_of writes) plain c.end-result.new.run new c.end-result.ensures.params c.end-result.result c.end-result.ensures.counts.served c.end-result.ensures.counts.refused stands)
 
 pub returns-clause-images : goal.returns-clause-images
@@ -58,7 +58,7 @@ returns-clause-images g c = λ v sound.
     let ws = end_writes run.params writes words run.sealer.generation run.drawn in
     let plain = writes_plain run.params writes (take run.params.writes words) (run.sealer.generation, run.drawn) in
     let holds = sound.holds in
-    lent_leaves _ _ _ _ old new _ (end_images run old v holds c.requires.serves ws (writes_of writes) plain c.end-result.new.run new c.end-result.result (c.end-result.ensures.images (s run old v holds c.requires.serves) (serves run old v holds c.requires.serves).at))
+    lent_leaves _ _ _ _ old new _ (end_images run old v holds c.requires.serves ws (writes_of writes) plain c.end-result.new.run new c.end-result.result (c.end-result.ensures.images (s run old v holds c.requires.serves) (serves run old v holds c.requires.serves).at).leaves)
 
 pub returns-clause-alike : goal.returns-clause-alike
 returns-clause-alike g c =
@@ -120,7 +120,8 @@ returns-clause-called g c =
             filled = c.end-result.ensures.tables.filled;
             content = c.end-result.ensures.tables.content;
             stands = c.end-result.ensures.stands;
-            images = c.end-result.ensures.images;
+            images = λ s at. (c.end-result.ensures.images s at).leaves;
+            stages = λ s at. (c.end-result.ensures.images s at).stages;
           }),
     )
 

@@ -127,6 +127,7 @@ returns-clause-called g c =
             moves = c.fetch-result.ensures.moves;
             stands = λ s at. fetch_stood s r asks new c.fetch-result.new.run c.fetch-result.new.out c.fetch-result.result (c.fetch-result.ensures.standing.stands s at);
             images = c.fetch-result.ensures.standing.images;
+            stages = c.fetch-result.ensures.standing.stages;
           }),
     )
 

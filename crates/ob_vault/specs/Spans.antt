@@ -1,0 +1,51 @@
+-- A run that is cut off in a stage of a call, as a part of a row of runs.
+use Rattle.std.specs.Prelude.{◌≡◌, ◌↔◌, ℕ, zero, suc, ◌+◌, ◌%◌, List, [], ◌∷◌, Some}
+use Rattle.std.specs.Ordering.{nat_cmp}
+use Rattle.ob_base.specs.declared.params.Params.{Params}
+use Rattle.ob_schedule.specs.Phases.{phases_of}
+use Rattle.ob_schedule.specs.Schedule.{Fills, record_notes}
+use Rattle.ob_seal.specs.declared.keys.Keys.{Keys}
+use Rattle.ob_serial.specs.Serial.{Map}
+use Rattle.ob_serial.specs.VaultKinds.{Called, Kind}
+use Rattle.ob_serial.specs.Vaults.{Fetch, VaultAnswer, VaultCall}
+use Rattle.ob_store.specs.Disk.{Disk, Image}
+use Rattle.ob_store.specs.declared.event.Event.{Event}
+use Rattle.ob_vault.specs.Hidden.{AreFirst, RingHidden}
+use Rattle.ob_vault.specs.Joined.{RunsAreOneLife}
+use Rattle.ob_vault.specs.KindShown.{AreDrawn}
+use Rattle.ob_vault.specs.Lives.{RingGoesOn}
+use Rattle.ob_vault.specs.RingKind.{IsRingMap, RingFound, ring_hidden, ring_kind}
+use Rattle.ob_vault.specs.RingSteps.{HasRingWords, RingAt}
+use Rattle.ob_vault.specs.RingVaults.{Running}
+use Rattle.ob_vault.specs.Seen.{RingPublic}
+use Rattle.ob_vault.specs.Shapes.{Shape}
+
+-- A stretch of a store's time, from the one to the other: it tells what it does at its end, and a crash leaves what it might have left at any
+-- moment of the stretch.
+abbrev pub span : {S : Type 0} → (S → Disk) → S × S → Disk
+span disk x = record (disk x.1) { may_leave = (disk x.1).left_since (disk x.0).moment }
+
+-- What may have been seen of a call by the end of its stage of this number, from 0: by that of a batch's first one no more than the first of
+-- its record's steps.
+abbrev pub IsSeenIn : (most : ℕ) → Params → RingPublic → VaultCall → (stage : ℕ) → (seen : List Event) → Type 0
+IsSeenIn most p q (Fetch asks) zero seen = AreFirst most (phases_of (record_notes p (((q.known).epoch + 1) % 2) q.shown)) seen
+IsSeenIn most p q call stage seen = Unit {0}
+
+-- stages, one behind the other from the first store to the last, each of which is so
+abbrev pub AreSpans : {S : Type 0} → (ℕ → S × S → Type 0) → (stage : ℕ) → (old : S) → (ends : List S) → (new : S) → Type 0
+AreSpans IsSo stage old [] new = new ≡ old
+AreSpans IsSo stage old (end ∷ ends) new = IsSo stage (old, end) × AreSpans IsSo (suc stage) end ends new
+
+-- Behind calls that were answered, where a map was found, the next call has stages, whatever it answers. A run that is cut off in one of them
+-- goes on with the life as one whose call was refused: it is left as a crash may leave it at any moment of the stage, and what was seen of the
+-- call is what may have been seen by the stage's end.
+abbrev pub RunsStopInStages : {V S : Type 0} → Kind V → (S → Disk) → Type 0
+RunsStopInStages {V} {S} k disk = (runs : V → Running S) → HasRingWords k disk runs → (keys : Keys) (most : ℕ) (p : Params) (f : RingFound) (first : V) (calls : List VaultCall) (steps : List (Shape × Fills)) (q : RingPublic) (h : RingHidden) (n : ℕ) (v : V)
+    → AreDrawn ring_kind p (ring_hidden f) calls steps h → RingAt k disk runs keys most p f (disk (runs first).store) q h n v → (m : Map nat_cmp) → IsRingMap keys p (disk (runs first).store) f m
+    → (call : VaultCall) (answer : VaultAnswer) (w : V) → Called k v call answer w
+    → (ends : List S) × AreSpans (λ stage x. (seen : List Event) → IsSeenIn most p q call stage seen → RingGoesOn keys most p f (disk (runs first).store) calls steps h (Some call) (runs w).drawn seen (span disk x)) 0 (runs v).store ends (runs w).store
+
+-- So rows of runs that are cut off in stages are one life too; and a store alone is left as it may be left now.
+pub record RowsOfStages {S : Type 0} (disk : S → Disk) : Type 0 where
+  pub one_life : RunsAreOneLife (span disk)
+  pub alone : (x : S) (c : Image) → (span disk (x, x)).may_leave c ↔ (disk x).may_leave c
