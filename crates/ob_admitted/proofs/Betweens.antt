@@ -1,5 +1,5 @@
 -- What the next run finds.
-use Rattle.std.specs.Prelude.{◌≡◌, ◌<◌, ◌≤◌, ◌⊎◌, ℕ, nat_lt, ◌+◌, ◌-◌, ◌%◌, Bool, true, cond, List, [], ◌∷◌, ◌++◌, map, filter, length, Option, Some, None}
+use Rattle.std.specs.Prelude.{◌≡◌, ◌<◌, ◌≤◌, ◌⊎◌, ℕ, ◌+◌, ◌-◌, ◌%◌, Bool, true, cond, List, [], ◌∷◌, ◌++◌, map, filter, length, Option, Some, None}
 use Rattle.std.proofs.Common.{zero, suc, arith, refl, sym, ap, ◌∙◌, subst, inl, inr, add-one, length-append}
 use Rattle.std.proofs.lemmas.Bool.{cases_lt, le-ltb, lt-ltb}
 use Rattle.ob_base.specs.Layout.{EpochTwin, log_cell, record_cells}
@@ -8,7 +8,7 @@ use Rattle.ob_base.specs.declared.params.Params.{Params}
 use Rattle.ob_store.specs.declared.watch.Note.{Note}
 use Rattle.ob_store.specs.declared.watch.Note.TheVariants.{Sync, Write}
 use Rattle.ob_schedule.specs.Paths.{by_falling_level}
-use Rattle.ob_schedule.specs.Schedule.{Fills, body_cell, bucket_writes, check_cells, end_lifts, gate_cell, is_lifted_by_end, log_gates, record_notes, set_twin, writes_of, Public}
+use Rattle.ob_schedule.specs.Schedule.{Fills, body_cell, bucket_writes, check_cells, end_lifts, gate_cell, is_lifted_by_end, log_gates, record_notes, writes_of, Public}
 use Rattle.ob_recover.specs.Life.{WordId, LifeAct, LifeBatch, LifeState, Append, Open, ShowBatch, ShowLifts, End as EndAct, IsLife, life_step, reached}
 use Rattle.ob_serial.specs.Vaults.{End, Fetch, VaultCall}
 use Rattle.ob_vault.specs.Shapes.{Shape}
@@ -16,7 +16,7 @@ use Rattle.ob_vault.specs.Shown.{AreShownBy}
 use Rattle.ob_vault.proofs.OpenedRun.{IsFurther, further}
 use Rattle.ob_histories.specs.Fills.{AllFills, fills_at, public_in_epoch}
 use Rattle.ob_histories.specs.Histories.{AreRecordsLeft, EpochEnded, EpochStays, IsBatchLeft, IsEndLeft, IsGateLeft, IsTurnLeft}
-use Rattle.ob_histories.specs.Runs.{HistoryTurn, RunFound, first_turn, next_turn, notes_of_batch, notes_of_end, notes_of_turn, turn_behind}
+use Rattle.ob_histories.specs.Runs.{HistoryTurn, RunFound, next_turn, notes_of_batch, notes_of_end, notes_of_turn, turn_behind}
 use Rattle.ob_admitted.specs.Between.{AreActsLeft, IsFoundAsShown, MayComeNext, RunsLeaveHistories, turn_of_run}
 use Rattle.ob_admitted.specs.Cuts.{life_behind_calls}
 use Rattle.ob_admitted.specs.Repeats.{begin_acts}

@@ -1,25 +1,33 @@
 -- A run that was cut off shows a history's.
-use Rattle.std.specs.Prelude.{◌≡◌, ◌<◌, ◌≤◌, ℕ, ◌+◌, Bool, true, cond, List, [], ◌∷◌, ◌++◌, take, length, Option}
-use Rattle.std.proofs.Common.{suc, arith, sym, ap, ◌∙◌, subst}
-use Rattle.std.proofs.lemmas.Bool.{le-ltb}
-use Rattle.ob_base.specs.Layout.{EpochTwin}
+use Rattle.std.specs.Prelude.{◌≡◌, ◌<◌, ◌≤◌, ℕ, ◌+◌, ◌%◌, Bool, cond, map, List, [], ◌∷◌, ◌++◌, take, length, Option}
+use Rattle.std.proofs.Common.{suc, arith, sym, ap, ◌∙◌, subst, length-append}
+use Rattle.std.proofs.lemmas.Bool.{le-ltb, lt-ltb}
+use Rattle.std.proofs.lemmas.List.{length-map, take-append-le}
+use Rattle.ob_base.specs.Layout.{EpochTwin, log_cell, record_cells}
+use Rattle.ob_base.specs.Tree.{below, width}
 use Rattle.ob_base.specs.declared.params.Params.{Params}
 use Rattle.ob_store.specs.declared.watch.Note.{Note}
-use Rattle.ob_schedule.specs.Schedule.{Fills, end_notes, gate_cell}
-use Rattle.ob_recover.specs.Life.{WordId, LifeAct, LifeBatch, LifeState, ShowLifts, IsLife, formatted_life, life_slots, reached}
+use Rattle.ob_store.specs.declared.watch.Note.TheVariants.{Sync, Write}
+use Rattle.ob_schedule.specs.Schedule.{Fills, batch_leaves, batch_notes, end_notes, gate_cell, phase_notes, record_notes, writes_of}
+use Rattle.ob_tables.specs.Rank.{IsRanking}
+use Rattle.ob_recover.specs.Life.{WordId, LifeAct, LifeBatch, LifeState, ShowLifts, IsLife, formatted_life, life_slots, planned_labels, reached}
+use Rattle.ob_fresh.specs.PublicLives.{AreEndsShown}
 use Rattle.ob_recover.specs.LifePublic.{public_in}
 use Rattle.ob_serial.specs.Vaults as vault
 use Rattle.ob_serial.specs.Vaults.{VaultCall}
-use Rattle.ob_vault.specs.Shapes.{shape_of}
+use Rattle.ob_vault.specs.Shapes.{Fetches, Shape, shape_of}
 use Rattle.ob_vault.specs.Seen.{RingPublic, ring_notes}
 use Rattle.ob_vault.specs.Shown.{AreFilledBy}
 use Rattle.ob_histories.specs.Fills.{AllFills, fills_at, public_in_epoch}
-use Rattle.ob_histories.specs.Runs.{notes_of_batch, notes_of_end, notes_of_turn}
+use Rattle.ob_histories.specs.Runs.{notes_of_batch, notes_of_end, notes_of_turn, run_notes}
 use Rattle.ob_histories.proofs.Finding.{epoch_at}
 use Rattle.ob_admitted.specs.Calls.{public_of_life, turn_of_life}
-use Rattle.ob_admitted.specs.Cuts.{CutOpeningsShowHistories, CutRunsShowHistories, IsCutFilled}
+use Rattle.ob_admitted.specs.Cuts.{CutOpeningsShowHistories, CutRunsShowHistories, IsCutFilled, life_behind_calls, public_of_calls}
+use Rattle.ob_admitted.specs.Fills.{FillsAll}
 use Rattle.ob_admitted.specs.Publics.{AreRecordsWhole}
-use Rattle.ob_admitted.specs.Wholes.{found_of_life}
+use Rattle.ob_admitted.specs.Repeats.{phase_of_fills}
+use Rattle.ob_admitted.specs.Served.{IsRecordAlone}
+use Rattle.ob_admitted.specs.Wholes.{AreGatesKept, IsRunFilled, found_of_life, notes_of_run, run_of_life}
 use Rattle.ob_admitted.proofs.Calling.{AreSlotsFilled, At, Follows, batch_shows, earlier, public_of}
 use Rattle.ob_admitted.proofs.Fronts.{fronts_are}
 use Rattle.ob_admitted.proofs.Notes.{end_is}
@@ -64,3 +72,46 @@ cut_openings_show p word_of slot before f ranked life ends whole filled c found 
     let s : LifeState = reached p word_of (formatted_life slot) before in
     let front = fronts_are p f (found_of_life p s found) (suc (length s.log + 0)) count in
     (front.run, (front.finds, ap (λ (ns : List Note). take count ns) (runs_show p word_of slot before f ranked life ends whole filled c found gates [] [] [] kept is) ∙ sym front.shows))
+
+-- ---- a record alone
+
+-- a record has as many notes in either area
+pub record_many : (p : Params) (area b : ℕ) → length (record_notes p area b) ≡ length (below (record_cells p)) + 3
+record_many p area b =
+    let cells : List ℕ = map (log_cell p area b) (below (record_cells p)) in
+    length-append (writes_of cells) (Sync ∷ Write (log_cell p area b (record_cells p)) ∷ Sync ∷ [])
+    ∙ ap (λ (n : ℕ). n + 3) (length-map cells (λ c. Write c) ∙ length-map (below (record_cells p)) (log_cell p area b))
+
+module _ (p : Params) (word_of : WordId → ℕ) (f : AllFills) (s : LifeState) (records count : ℕ) (gates : ℕ → Bool) (few : records ≤ length s.log) (low : length s.log < p.batches) (d : Fills) where
+  abbrev e : ℕ
+  e = (public_in_epoch p f s.epoch (length s.log)).epoch
+
+  abbrev row_at : ℕ → List Note
+  row_at epoch = record_notes p ((epoch + 1) % 2) (length s.log)
+
+  turn_is : notes_of_turn p f (turn_of_life p s records gates) ≡ row_at e ++ phase_of_fills p f s.epoch (length s.log)
+  turn_is =
+      ap (λ (b : Bool). cond b (notes_of_batch p f (turn_of_life p s records gates)) (notes_of_end p f (turn_of_life p s records gates))) (lt-ltb (length s.log) p.batches low)
+      ∙ ap (λ (b : Bool). cond b (phase_of_fills p f s.epoch (length s.log)) (batch_notes p (public_in_epoch p f s.epoch (length s.log)) (fills_at p f s.epoch) (length s.log))) (le-ltb (length s.log) records few)
+
+  record_row : count ≤ length (record_notes p 0 (length s.log)) → take count (ring_notes p (public_of_life p word_of s gates) Fetches d) ≡ take count (notes_of_turn p f (turn_of_life p s records gates))
+  record_row short =
+      let many : (epoch : ℕ) → count ≤ length (row_at epoch) = λ epoch. (let one = record_many p 0 (length s.log) in let two = record_many p ((epoch + 1) % 2) (length s.log) in omega (arith, short, one, two)) in
+      take-append-le count (row_at s.epoch) (phase_notes p (public_in p word_of s gates) d (batch_leaves p d (length s.log))) (many s.epoch)
+      ∙ ap (λ (epoch : ℕ). take count (row_at epoch)) (sym (epoch_at p f s.epoch))
+      ∙ sym (take-append-le count (row_at e) (phase_of_fills p f s.epoch (length s.log)) (many e))
+      ∙ ap (λ (ns : List Note). take count ns) (sym turn_is)
+
+pub records_show : (p : Params) (word_of : WordId → ℕ) (slot : ℕ → ℕ → ℕ) (before : List LifeAct) (f : AllFills) → ((u : ℕ) → IsRanking (width p) (slot u)) → IsLife p word_of (formatted_life slot) before
+    → AreEndsShown p word_of (formatted_life slot) before → AreRecordsWhole p before → FillsAll p word_of f (planned_labels p word_of (reached p word_of (formatted_life slot) before)) []
+    → (c : Fills) (found gates : ℕ → Bool) (calls : List VaultCall) (steps : List (Shape × Fills)) (acts : List LifeAct) → AreGatesKept p (reached p word_of (formatted_life slot) before).epoch found gates
+    → IsRunFilled p word_of f (reached p word_of (formatted_life slot) before) c calls steps acts
+    → (asks : List (Option ℕ)) (d : Fills) (count : ℕ) → IsRecordAlone p (life_behind_calls p word_of (reached p word_of (formatted_life slot) before) acts) (vault.Fetch asks) count
+    → notes_of_run p word_of (reached p word_of (formatted_life slot) before) c found gates steps
+    ++ take count (ring_notes p (public_of_calls p word_of (reached p word_of (formatted_life slot) before) gates steps) Fetches d)
+    ≡ run_notes p f (record (run_of_life p (reached p word_of (formatted_life slot) before) found steps) { shown = count })
+records_show p word_of slot before f ranked life ends whole filled c found gates calls steps acts kept is asks d count alone =
+    let some : 0 < p.dummies = (let one = p.in_range.some_dummies in omega (arith, one)) in
+    let follows : Follows p word_of f some (λ t. IsRecordAlone p t (vault.Fetch asks) count) (λ (q : RingPublic). take count (ring_notes p q Fetches d)) count =
+    (λ t records g at begun few is_open last. record_row p word_of f t records count g few last.0 d last.1) in
+    runs_go p word_of slot before f some (λ t. IsRecordAlone p t (vault.Fetch asks) count) (λ (q : RingPublic). take count (ring_notes p q Fetches d)) count follows ranked life ends whole filled c found gates calls steps acts kept is alone

@@ -1,30 +1,35 @@
 -- A front of a history's run is one, of fewer steps.
-use Rattle.std.specs.Prelude.{◌≡◌, ◌≤◌, ◌⊎◌, ℕ, ◌+◌, List, [], ◌++◌, take, length}
-use Rattle.std.proofs.Common.{zero, suc, refl, sym, ap, ◌∙◌, inl, inr}
+use Rattle.std.specs.Prelude.{◌≡◌, ◌<◌, ◌≤◌, ◌⊎◌, ℕ, ◌+◌, List, [], ◌++◌, take, length}
+use Rattle.std.proofs.Common.{zero, suc, arith, refl, sym, ap, ◌∙◌, inl, inr}
 use Rattle.ob_base.specs.declared.params.Params.{Params}
 use Rattle.ob_store.specs.declared.watch.Note.{Note}
 use Rattle.ob_histories.specs.Fills.{AllFills}
 use Rattle.ob_histories.specs.Runs.{HistoryTurn, RunFound, first_turn, next_turn, notes_from, notes_of_turn, notes_shown, opening_step}
 use Rattle.ob_histories.proofs.Lists.{front_cases}
-use Rattle.ob_admitted.specs.Fronts.{FrontsAreRuns, IsFrontOfRun}
+use Rattle.ob_admitted.specs.Fronts.{FrontsAreRuns}
 
 none_shown : (count : ℕ) → ◌≡◌ {A = List Note} (take count []) []
 none_shown zero = refl
 none_shown (suc count) = refl
 
 module _ (p : Params) (f : AllFills) where
-  abbrev Front : HistoryTurn → List Note → Type 0
-  Front t notes = (steps : ℕ) × ((shown : ℕ) × (notes_from p f t steps shown ≡ notes))
+  -- so many whole turns, and some of the next one, or all of them
+  abbrev pub Front : ℕ → HistoryTurn → List Note → Type 0
+  Front steps t notes = (whole : ℕ) × (shown : ℕ) × (notes_from p f t whole shown ≡ notes) × ((whole < steps) ⊎ ((whole ≡ steps) × (shown ≡ 0)))
 
-  front_turns : (steps : ℕ) (t : HistoryTurn) (count : ℕ) → Front t (take count (notes_from p f t steps 0))
-  front_turns zero t count = (0, (0, sym (none_shown count)))
+  pub front_turns : (steps : ℕ) (t : HistoryTurn) (count : ℕ) → Front steps t (take count (notes_from p f t steps 0))
+  front_turns zero t count = (0, 0, sym (none_shown count), inr (refl, refl))
   front_turns (suc steps) t count = go (front_cases count (notes_of_turn p f t) (notes_from p f (next_turn p t) steps 0)) (λ m. front_turns steps (next_turn p t) m)
     where
+      one_more : (whole shown : ℕ) → (whole < steps) ⊎ ((whole ≡ steps) × (shown ≡ 0)) → (suc whole < suc steps) ⊎ ((suc whole ≡ suc steps) × (shown ≡ 0))
+      one_more whole shown (inl few) = inl (omega (arith, few))
+      one_more whole shown (inr (all, none)) = inr (ap suc all, none)
+
       go : ((count ≤ length (notes_of_turn p f t)) × (take count (notes_of_turn p f t ++ notes_from p f (next_turn p t) steps 0) ≡ take count (notes_of_turn p f t)))
           ⊎ ((m : ℕ) × ((count ≡ length (notes_of_turn p f t) + m) × (take count (notes_of_turn p f t ++ notes_from p f (next_turn p t) steps 0) ≡ notes_of_turn p f t ++ take m (notes_from p f (next_turn p t) steps 0))))
-          → ((m : ℕ) → Front (next_turn p t) (take m (notes_from p f (next_turn p t) steps 0))) → Front t (take count (notes_of_turn p f t ++ notes_from p f (next_turn p t) steps 0))
-      go (inl (few, same)) later = (0, (count, sym same))
-      go (inr (m, (is, same))) later = (let rest = later m in (suc rest.0, (rest.1.0, ap (λ (ns : List Note). notes_of_turn p f t ++ ns) rest.1.1 ∙ sym same)))
+          → ((m : ℕ) → Front steps (next_turn p t) (take m (notes_from p f (next_turn p t) steps 0))) → Front (suc steps) t (take count (notes_of_turn p f t ++ notes_from p f (next_turn p t) steps 0))
+      go (inl (few, same)) later = (0, count, sym same, inl (omega arith))
+      go (inr (m, (is, same))) later = (let rest = later m in (suc rest.0, rest.1, ap (λ (ns : List Note). notes_of_turn p f t ++ ns) rest.2 ∙ sym same, one_more rest.0 rest.1 rest.3))
 
   front_run : (found : RunFound) (steps count : ℕ) → (n : ℕ) × ((shown : ℕ) × (notes_shown p f found n shown ≡ take count (notes_shown p f found steps 0)))
   front_run found zero count = (0, (0, sym (none_shown count)))
@@ -34,7 +39,7 @@ module _ (p : Params) (f : AllFills) where
           ⊎ ((m : ℕ) × ((count ≡ length (opening_step p f found) + m) × (take count (opening_step p f found ++ notes_from p f (first_turn found) steps 0) ≡ opening_step p f found ++ take m (notes_from p f (first_turn found) steps 0))))
           → (n : ℕ) × ((shown : ℕ) × (notes_shown p f found n shown ≡ take count (opening_step p f found ++ notes_from p f (first_turn found) steps 0)))
       go (inl (few, same)) = (0, (count, sym same))
-      go (inr (m, (is, same))) = (let rest = front_turns steps (first_turn found) m in (suc rest.0, (rest.1.0, ap (λ (ns : List Note). opening_step p f found ++ ns) rest.1.1 ∙ sym same)))
+      go (inr (m, (is, same))) = (let rest = front_turns steps (first_turn found) m in (suc rest.0, (rest.1, ap (λ (ns : List Note). opening_step p f found ++ ns) rest.2 ∙ sym same)))
 
 pub fronts_are : FrontsAreRuns
 fronts_are p f found steps count =

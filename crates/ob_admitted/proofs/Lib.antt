@@ -13,3 +13,9 @@ pub mod Stopping
 pub mod Rowing
 pub mod Serving
 pub mod Lives
+pub mod Shown
+pub mod Acts
+pub mod Parts
+pub mod Walking
+pub mod Walks
+pub mod Openings

@@ -1,7 +1,8 @@
 -- A row of runs is a history.
-use Rattle.std.specs.Prelude.{◌≡◌, ℕ, Bool, true, false, cond, List, [], ◌∷◌, ◌++◌, Option, Some, None}
+use Rattle.std.specs.Prelude.{◌≡◌, ◌⊎◌, ℕ, Bool, true, false, cond, List, [], ◌∷◌, ◌++◌, length, Option, Some, None}
 use Rattle.std.specs.List.{flat_map}
-use Rattle.std.proofs.Common.{refl, sym, ap, subst, inl}
+use Rattle.std.proofs.Common.{refl, sym, ap, subst, inl, inr}
+use Rattle.std.proofs.lemmas.Bool.{le-ltb}
 use Rattle.std.proofs.lemmas.List.{append-nil}
 use Rattle.ob_base.specs.declared.params.Params.{Params}
 use Rattle.ob_store.specs.declared.watch.Note.{Note}
@@ -12,9 +13,9 @@ use Rattle.ob_recover.specs.Life.{WordId, LifeAct, LifeState, formatted_life, re
 use Rattle.ob_histories.specs.Fills.{AllFills}
 use Rattle.ob_histories.specs.Histories.{AreRunsBehind, IsHistory, MayFind, found_formatted, lines_of_notes, run_lines}
 use Rattle.ob_histories.specs.Laws.{AreAdmitted}
-use Rattle.ob_histories.specs.Runs.{HistoryRun, RunFound, is_settled}
+use Rattle.ob_histories.specs.Runs.{HistoryRun, RunFound, is_settled, opening_reads}
 use Rattle.ob_histories.proofs.Admitting as histories
-use Rattle.ob_admitted.specs.Rows.{AreRunsShown, IsRunShown, LeavesFound, RowsAreAdmitted, lines_of_runs}
+use Rattle.ob_admitted.specs.Rows.{AreBarelyOpened, AreRunsShown, LeavesFound, RowsAreAdmitted, RunNotes, lines_of_runs, rows_of}
 use Rattle.ob_admitted.specs.Wholes.{found_of_life}
 
 abbrev lines_of_row : List Note → List Line
@@ -29,18 +30,36 @@ module _ (p : Params) (word_of : WordId → ℕ) (f : AllFills) where
   abbrev Row : Option HistoryRun → List (List Note) → Type 0
   Row last rows = (runs : List HistoryRun) × (AreRunsBehind p f last runs × (flat_map lines_of_row rows ≡ flat_map (run_lines p f) runs))
 
-  rows_go : (rows : List (List Note)) (s : LifeState) (found : ℕ → Bool) (last : Option HistoryRun) → MayFind p f last (found_of_life p s found) → AreRunsShown p word_of f s found rows → Row last rows
+  -- openings that only read are runs of a history too, and leave what may be found behind them as it was
+  barely_go : (run : HistoryRun) (last : Option HistoryRun) → ((x : RunFound) → LeavesFound p f run x → MayFind p f last x) → (barely : List (List Note)) → AreBarelyOpened p f run barely → (rows : List (List Note)) → Row last rows → Row last (barely ++ rows)
+  barely_go run last may [] are rows later = later
+  barely_go run last may (notes ∷ more) ((x, leaves, is), rest) rows later =
+      let behind = barely_go run last may more rest rows later in
+      let one : HistoryRun = record { found = x; steps = 0; shown = is.count } in
+      let unsettled : is_settled p f x 0 is.count ≡ false = le-ltb (length (opening_reads p f x)) is.count is.few in
+      (one ∷ behind.0, ((may x leaves, subst (λ (b : Bool). AreRunsBehind p f (cond b (Some one) last) behind.0) (sym unsettled) behind.1.0), (λ i. lines_of_row (is.shows i) ++ behind.1.1 i)))
+
+  rows_go : (runs : List RunNotes) (s : LifeState) (found : ℕ → Bool) (last : Option HistoryRun) → MayFind p f last (found_of_life p s found) → AreRunsShown p word_of f s found runs → Row last (rows_of runs)
   rows_go [] s found last may shown = ([], (tt, refl))
-  rows_go (notes ∷ rows) s found last may (one, acts, next, left, rest) =
+  rows_go (notes ∷ runs) s found last may (one, barely, behind) =
       let here : MayFind p f last one.run.found = subst (λ (x : RunFound). MayFind p f last x) (sym one.finds) may in
       let settled : Bool = is_settled p f one.run.found one.run.steps one.run.shown in
-      let later = rows_go rows (reached p word_of s acts) next (cond settled (Some one.run) last) (goes_on one.run last (found_of_life p (reached p word_of s acts) next) settled here left) rest in
-      (one.run ∷ later.0, ((here, later.1.0), (λ i. lines_of_row (one.shows i) ++ later.1.1 i)))
+      let after : Option HistoryRun = cond settled (Some one.run) last in
+      let may_then : (x : RunFound) → LeavesFound p f one.run x → MayFind p f after x = (λ x left. goes_on one.run last x settled here left) in
+      let later : Row after (rows_of runs) = rows_then after may_then (λ u gates begins rest. rows_go runs u gates after begins rest) behind in
+      let all = barely_go one.run after may_then notes.1 barely (rows_of runs) later in
+      (one.run ∷ all.0, ((here, all.1.0), (λ i. lines_of_row (one.shows i) ++ all.1.1 i)))
+    where
+      rows_then : (after : Option HistoryRun) → ((x : RunFound) → LeavesFound p f one.run x → MayFind p f after x)
+          → ((u : LifeState) (gates : ℕ → Bool) → MayFind p f after (found_of_life p u gates) → AreRunsShown p word_of f u gates runs → Row after (rows_of runs))
+          → ((runs ≡ []) ⊎ ((acts : List LifeAct) × (next : ℕ → Bool) × LeavesFound p f one.run (found_of_life p (reached p word_of s acts) next) × AreRunsShown p word_of f (reached p word_of s acts) next runs)) → Row after (rows_of runs)
+      rows_then after may_then go (inl none) = subst (λ (rest : List RunNotes). Row after (rows_of rest)) (sym none) ([], (tt, refl))
+      rows_then after may_then go (inr (acts, next, left, rest)) = go (reached p word_of s acts) next (may_then (found_of_life p (reached p word_of s acts) next) left) rest
 
 pub rows_are : RowsAreAdmitted
-rows_are p word_of slot f found rows filled generation_gate epoch_gate shown =
+rows_are p word_of slot f found runs filled generation_gate epoch_gate shown =
     let formatted : found_of_life p (formatted_life slot) found ≡ found_formatted = (λ i. record { epoch = 0; generation = 1; records = 0; generation_gate = generation_gate i; epoch_gate = epoch_gate i }) in
-    let row = rows_go p word_of f rows (formatted_life slot) found None formatted shown in
-    let is : IsHistory p (lines_of_runs p rows) =
+    let row = rows_go p word_of f runs (formatted_life slot) found None formatted shown in
+    let is : IsHistory p (lines_of_runs p (rows_of runs)) =
     record { fills = f; runs = row.0; filled = filled; found = row.1.0; are = ap (λ (lines : List Line). L.Start p ∷ lines_of_notes (format_notes p) ++ lines) row.1.1 } in
-    (is, subst (λ (lines : List Line). AreAdmitted lines) (append-nil (lines_of_runs p rows)) (histories.admitted (lines_of_runs p rows ∷ []) ((p, inl is), tt)))
+    (is, subst (λ (lines : List Line). AreAdmitted lines) (append-nil (lines_of_runs p (rows_of runs))) (histories.admitted (lines_of_runs p (rows_of runs) ∷ []) ((p, inl is), tt)))

@@ -59,11 +59,11 @@ module _ (p : Params) (f : AllFills) (e records : ℕ) (gate : Bool) where
       ∙ ap (λ (k : ℕ). (phase_of_fills p f e b ++ flat_map (phase_of_fills p f e) (range_with_len (b + 1) n)) ++ notes_from p f (turn_at k) m shown) same
 
 module _ (p : Params) (word_of : WordId → ℕ) where
-  repeats_ended : (s : LifeState) (n : ℕ) → AreEndsShown p word_of s (repeated n)
+  pub repeats_ended : (s : LifeState) (n : ℕ) → AreEndsShown p word_of s (repeated n)
   repeats_ended s zero = tt
   repeats_ended s (suc n) = repeats_ended (life_step p word_of s ShowBatch) n
 
-  repeats_whole : (n : ℕ) → AreRecordsWhole p (repeated n)
+  pub repeats_whole : (n : ℕ) → AreRecordsWhole p (repeated n)
   repeats_whole zero = tt
   repeats_whole (suc n) = repeats_whole n
 

@@ -1,9 +1,8 @@
 -- What a run of a life has shown that was cut off is what a run of a history has shown.
-use Rattle.std.specs.Prelude.{◌≡◌, ℕ, Bool, List, [], ◌∷◌, ◌++◌, take, length}
+use Rattle.std.specs.Prelude.{◌≡◌, ℕ, Bool, List, [], ◌++◌, take}
 use Rattle.std.proofs.Common.{suc}
 use Rattle.ob_base.specs.Tree.{width}
 use Rattle.ob_base.specs.declared.params.Params.{Params}
-use Rattle.ob_store.specs.declared.watch.Note.{Note}
 use Rattle.ob_tables.specs.Rank.{IsRanking}
 use Rattle.ob_schedule.specs.Schedule.{Fills}
 use Rattle.ob_recover.specs.Life.{WordId, LifeAct, LifeState, IsLife, formatted_life, life_slots, planned_labels, reached}

@@ -10,3 +10,6 @@ pub mod Between
 pub mod Rows
 pub mod Served
 pub mod Lives
+pub mod Parts
+pub mod Walks
+pub mod Openings

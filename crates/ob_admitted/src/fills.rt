@@ -11,11 +11,16 @@ ghost use Rattle.ob_admitted.specs.Fills.{LivesHaveFills};
 ghost use Rattle.ob_admitted.specs.Fronts.{FrontsAreRuns};
 ghost use Rattle.ob_admitted.specs.Lives.{LivesAreAdmitted};
 ghost use Rattle.ob_admitted.specs.Notes.{CallsGoByFills};
+ghost use Rattle.ob_admitted.specs.Openings.{OpeningsAreRuns};
+ghost use Rattle.ob_admitted.specs.Parts.{PartsAreRuns};
 ghost use Rattle.ob_admitted.specs.Publics.{LivesGoByFills};
 ghost use Rattle.ob_admitted.specs.Repeats.{OpeningsGoByFills};
 ghost use Rattle.ob_admitted.specs.Rows.{RowsAreAdmitted};
 ghost use Rattle.ob_admitted.specs.Served.{ServedRunsAreShown};
+ghost use Rattle.ob_admitted.specs.Walks.{RowsOfRunsAreAdmitted};
 ghost use Rattle.ob_admitted.specs.Wholes.{RunsShowHistories};
+
+use ob_store::Store;
 
 /// Each life from a format on, of any number of runs, crashes and repeats, has fills of all epochs
 /// as a public history has: in range, with no slot of a version twice, and all that an attempt
@@ -91,9 +96,10 @@ pub fn repeats_leave_histories()
     ensures { RepeatsLeaveHistories }
 {}
 
-/// The lines of a format, and of runs of a life behind it, are a public history's, and so they are
-/// admitted. Premises: each run shows a run of a history that finds the life where it is, and leaves
-/// what the next one finds there.
+/// The lines of a format, of runs of a life behind it, and of openings between them that stopped
+/// before their first sync, are a public history's, and so they are admitted. Premises: each run shows
+/// a run of a history that finds the life where it is, and leaves what the next one finds there, and
+/// what each of the openings behind it found.
 pub fn rows_are_admitted()
     ensures { RowsAreAdmitted }
 {}
@@ -105,7 +111,30 @@ pub fn served_runs_are_shown()
 {}
 
 /// The lines of a format and of runs of one life behind it, which served calls or stopped in their
-/// openings, are a public history's, and so they are admitted. Premises: those of the laws above.
+/// openings or behind these, and of openings between them that only read, are a public history's, and
+/// so they are admitted. Premises: those of the laws above.
 pub fn lives_are_admitted()
     ensures { LivesAreAdmitted }
+{}
+
+/// A run of a vault that goes on with a life, and showed what its opening, its calls and the one that
+/// was refused show, is such a run. Premise: what it leaves to be found is as the notes tell, which
+/// the refused call showed.
+pub fn parts_are_runs<S: Store>()
+    ensures { PartsAreRuns (λ store. S.disk store) }
+{}
+
+/// Runs over a formatted store, each of which begins at an image that a crash left behind the one
+/// before, and served calls until one was refused or the crash came, are one life, which has fills of
+/// all epochs. Where each leaves what it showed, the lines of the format and of these runs are a
+/// public history's, and so they are admitted.
+pub fn rows_of_runs_are_admitted<S: Store>()
+    ensures { RowsOfRunsAreAdmitted (λ store. S.disk store) }
+{}
+
+/// An opening that was refused, over an image that stood for the life, is such a run too: it stopped
+/// before, within or behind the batches that it repeats. Premise: of the opening of what stood it
+/// showed so many notes, and all that the running epoch may show is these fills.
+pub fn openings_are_runs()
+    ensures { OpeningsAreRuns }
 {}

@@ -1,0 +1,286 @@
+-- A run of a row, with what it showed, is a run as a history's.
+use Rattle.std.specs.Prelude.{◌≡◌, ◌⊎◌, ◌||◌, ℕ, ◌+◌, ◌*◌, ◌%◌, Bool, true, false, List, [], ◌∷◌, ◌++◌, length, Option, None, Some}
+use Rattle.std.specs.List.{flat_map}
+use Rattle.std.specs.Ordering.{nat_cmp}
+use Rattle.std.proofs.Common.{suc, arith, refl, sym, ap, ◌∙◌, subst, inl, inr, ⊎_elim}
+use Rattle.std.proofs.lemmas.Bool.{cases_eq}
+use Rattle.std.proofs.lemmas.List.{length-map}
+use Rattle.ob_base.specs.Layout.{EpochTwin}
+use Rattle.ob_base.specs.Repeats.{Has}
+use Rattle.ob_base.specs.Tree.{below, width}
+use Rattle.ob_base.specs.declared.params.Params.{Params}
+use Rattle.ob_store.specs.Disk.{Disk, Image}
+use Rattle.ob_store.specs.declared.event.Event.{Event}
+use Rattle.ob_store.specs.declared.watch.Note.{Note}
+use Rattle.ob_tables.specs.Rank.{IsRanking}
+use Rattle.ob_twin.specs.declared.gates.Gates.{Gates}
+use Rattle.ob_twin.specs.declared.gates.Open.{Open as OpenGates}
+use Rattle.ob_twin.specs.Opening.{GatesAre, is_marked}
+use Rattle.ob_twin.specs.Register.{IsOpen}
+use Rattle.ob_schedule.specs.Schedule.{Fills, Public, batch_leaves, before_repeats, gate_cell, head_notes, open_notes, repeats}
+use Rattle.ob_seal.specs.declared.keys.Keys.{Keys}
+use Rattle.ob_ring.specs.FlatTable.{reads}
+use Rattle.ob_recover.specs.Calls.{Finds}
+use Rattle.ob_recover.specs.Known.{fills_of, gates_open, public_of_kept}
+use Rattle.ob_recover.specs.Life.{WordId, LifeAct, LifeBatch, LifeContent, LifeState, SlotFill, Append, End as EndAct, Open, ShowBatch, ShowLifts, IsLife, formatted_life, life_slots, life_step, planned_labels, reached}
+use Rattle.ob_recover.specs.LifePublic.{public_in}
+use Rattle.ob_recover.specs.Lives.{life_batch}
+use Rattle.ob_recover.proofs.LifeLabels.{planned_lasts}
+use Rattle.ob_serial.specs.Serial.{Map}
+use Rattle.ob_serial.specs.Vaults.{End, Fetch, VaultCall}
+use Rattle.ob_opening.specs.OpeningActs.{StandsInLife}
+use Rattle.ob_vault.specs.Hidden.{RingDrawsCut, RingHidden}
+use Rattle.ob_vault.specs.KindShown.{public_behind, steps_notes}
+use Rattle.ob_vault.specs.Lives.{AreShowing, IsBarelySeen, IsLeftInLife, IsOpenedInLife, IsRunInLife, opening_acts}
+use Rattle.ob_vault.specs.RingKind.{IsRingMap, RingFound, ring_kind, ring_public}
+use Rattle.ob_vault.specs.Seen.{RingPublic, opening_shows, ring_notes}
+use Rattle.ob_vault.specs.Shapes.{Shape, shape_of}
+use Rattle.ob_vault.specs.Shown.{AreActsOf, AreFilledBy}
+use Rattle.ob_vault.proofs.OpenedRun.{IsFurther, further}
+use Rattle.ob_vault.proofs.Whole.{reached_join}
+use Rattle.ob_histories.specs.Fills.{AllFills}
+use Rattle.ob_admitted.specs.Calls.{public_of_life}
+use Rattle.ob_admitted.specs.Cuts.{IsCutFilled, life_behind_calls, public_of_calls}
+use Rattle.ob_admitted.specs.Fills.{FillsAll}
+use Rattle.ob_admitted.specs.Lives.{IsLifeFilled}
+use Rattle.ob_admitted.specs.Parts.{IsLeftAsShown, IsRefusedShown, IsServedShown, PartsAreRuns}
+use Rattle.ob_admitted.specs.Served.{IsRecordAlone, IsRefusedFilled, IsServedThen, notes_of_refused}
+use Rattle.ob_admitted.specs.Wholes.{AreGatesKept, IsRunFilled, notes_of_run}
+use Rattle.ob_admitted.proofs.Acts.{Sound, acts_left, batch_whole, calls_sound, slots_first, slots_last}
+use Rattle.ob_admitted.proofs.Shown.{batch_draws, front_refused, front_take}
+
+-- ---- gates
+
+or_false : (b : Bool) → (b || false) ≡ b
+or_false true = refl
+or_false false = refl
+
+abbrev pub IsPlace : ℕ → Type 0
+IsPlace m = (m ≡ 0) ⊎ (m ≡ 1)
+
+pub two_places : (n : ℕ) → IsPlace (n % 2)
+two_places n = ⊎_elim (λ e. inl e) (λ ne. inr (omega arith)) (cases_eq (n % 2) 0)
+
+pub marked : (gates : Gates) (m : ℕ) → IsPlace m → gates_open gates (5 + 2 * m + 1) ≡ is_marked gates.epoch m
+marked gates m (inl is) = subst (λ (n : ℕ). gates_open gates (5 + 2 * n + 1) ≡ is_marked gates.epoch n) (sym is) (or_false (gates.epoch).zero)
+marked gates m (inr is) = subst (λ (n : ℕ). gates_open gates (5 + 2 * n + 1) ≡ is_marked gates.epoch n) (sym is) refl
+
+pub open_marked : (known : OpenGates) (image : Image) → GatesAre known 5 image → (m : ℕ) → IsPlace m → IsOpen 5 image m → is_marked known m ≡ true
+open_marked known image are m (inl is) opened = subst (λ (n : ℕ). is_marked known n ≡ true) (sym is) ((are.zero).1 (subst (λ (n : ℕ). IsOpen 5 image n) is opened))
+open_marked known image are m (inr is) opened = subst (λ (n : ℕ). is_marked known n ≡ true) (sym is) ((are.one).1 (subst (λ (n : ℕ). IsOpen 5 image n) is opened))
+
+-- ---- an opening's notes
+
+-- they go by the epoch, and by what is public of the buckets
+pub opening_by : (p : Params) (c : Fills) (found : ℕ → Bool) (q r : Public) (g h m n : ℕ) → q.epoch ≡ r.epoch → q.homes ≡ r.homes → q.counts ≡ r.counts → q.counter ≡ r.counter → g ≡ h → m ≡ n → open_notes p q c found g m ≡ open_notes p r c found h n
+opening_by p c found q r g h m n epoch homes counts counter generation many = λ i.
+    before_repeats p (record { epoch = epoch i; homes = homes i; counts = counts i; counter = counter i; gates = found; leaves = [] }) found (generation i)
+    ++ repeats p (record { epoch = epoch i; homes = homes i; counts = counts i; counter = counter i; gates = found; leaves = [] }) c 0 (many i)
+
+module _ {S : Type 0} (disk : S → Disk) (keys : Keys) (p : Params) (word_of : WordId → ℕ) (slot : ℕ → ℕ → ℕ) (f : AllFills) (before : List LifeAct) (ranked : (u : ℕ) → IsRanking (width p) (slot u)) (here : IsLifeFilled p word_of slot f before)
+    (most : ℕ) (old : S) (found : RingFound) (opened : S) (calls : List VaultCall) (steps : List (Shape × Fills)) (behind : RingHidden) (refused : Option VaultCall) (words : List ℕ) (seen : List Event) (new : S) where
+  abbrev s : LifeState
+  s = reached p word_of (formatted_life slot) before
+
+  abbrev began : LifeState
+  began = reached p word_of s (opening_acts s)
+
+  abbrev Run : Type 0
+  Run = IsRunInLife keys most p word_of s found (disk opened) calls steps behind refused words seen (disk new)
+
+  module _ (stands : StandsInLife keys p word_of s (disk old).cells) (o : IsOpenedInLife p word_of found s) (notes : List Note) (shown : IsServedShown keys most p (disk old).cells found calls steps behind refused words seen notes) where
+    abbrev gates : ℕ → Bool
+    gates = gates_open ((shown.found_in).found).gates
+
+    abbrev known : ℕ → Bool
+    known = gates_open (found.run).gates
+
+    on : IsFurther (life_step p word_of s (Open (suc s.generation))) began (length s.log)
+    on = further p word_of (life_step p word_of s (Open (suc s.generation))) (length s.log)
+
+    log_began : length found.records ≡ length began.log
+    log_began = sym (ap (λ (log : List LifeBatch). length log) ((o.then).life).log ∙ length-map found.records life_batch)
+
+    log_many : length found.records ≡ length s.log
+    log_many = log_began ∙ ap (λ (log : List LifeBatch). length log) on.log
+
+    generation : ((found.run).sealer).generation ≡ suc s.generation
+    generation = sym (o.then).generation ∙ on.generation
+
+    opening_is : opening_shows p found.content found.records (found.run).epoch ((found.run).sealer).generation ((shown.found_in).found).gates
+        ≡ open_notes p (public_in p word_of s known) (fills_of p found.content found.records) gates (suc s.generation) (length s.log)
+    opening_is =
+        opening_by p (fills_of p found.content found.records) gates (public_of_kept p found.content [] (found.run).epoch ((shown.found_in).found).gates) (public_in p word_of s known) ((found.run).sealer).generation (suc s.generation) (length found.records) (length s.log)
+        (ap (λ (q : Public). q.epoch) o.known ∙ on.epoch) (ap (λ (q : Public). q.homes) o.known ∙ ap (λ (c : LifeContent). c.home) on.content)
+        (ap (λ (q : Public). q.counts) o.known ∙ (λ i u. reads p ((on.content) i).table u)) (ap (λ (q : Public). q.counter) o.known ∙ ap (λ (c : LifeContent). (c.table).counter) on.content) generation log_many
+
+    public_is : ring_public p found ≡ public_of_life p word_of began known
+    public_is = λ i. record { known = (o.known) i; shown = log_began i }
+
+    -- ---- the gates
+
+    epoch_same : (n : ℕ) → known (gate_cell p EpochTwin n) ≡ gates (gate_cell p EpochTwin n)
+    epoch_same n =
+        marked (found.run).gates (n % 2) (two_places n) ∙ ap (λ (g : Gates). is_marked g.epoch (n % 2)) ((shown.found_in).goes_on).gates
+        ∙ sym (marked ((shown.found_in).found).gates (n % 2) (two_places n))
+
+    durable : known (gate_cell p EpochTwin s.epoch) ≡ true
+    durable =
+        epoch_same s.epoch ∙ marked ((shown.found_in).found).gates (s.epoch % 2) (two_places s.epoch)
+        ∙ open_marked (((shown.found_in).found).gates).epoch (disk old).cells ((shown.found_in).found_in).epoch_gates (s.epoch % 2) (two_places s.epoch)
+        (subst (λ (n : ℕ). IsOpen 5 (disk old).cells (n % 2)) stands.epoch ((stands.stands).epoch).open_at)
+
+    kept : AreGatesKept p s.epoch gates known
+    kept = record { durable = durable; next = epoch_same (s.epoch + 1) }
+
+    -- ---- the refused call's notes
+
+    abbrev q : RingPublic
+    q = public_behind ring_kind p (ring_public p found) steps
+
+    abbrev drawn_of : (r : Option VaultCall) → IsRefusedShown most p q behind r words seen shown.more → Fills
+    drawn_of None is = record { label = λ b i. 0; slot = λ hole. 0 }
+    drawn_of (Some call) is = is.0
+
+    notes_refused : (r : Option VaultCall) (is : IsRefusedShown most p q behind r words seen shown.more) → shown.more ≡ notes_of_refused p q r (drawn_of r is) (length shown.more)
+    notes_refused None is = is
+    notes_refused (Some call) is = front_take (ring_notes p q (shape_of call) is.0) shown.more (front_refused most p q is.0 seen shown.more call is.1 is.3)
+
+    abbrev drawn : Fills
+    drawn = drawn_of refused shown.refused_shown
+
+    all_notes : notes ≡ notes_of_run p word_of s (fills_of p found.content found.records) gates known steps ++ notes_of_refused p (public_of_calls p word_of s known steps) refused drawn (length shown.more)
+    all_notes =
+        shown.notes_are
+        ∙ (λ i. (head_notes ++ opening_is i ++ steps_notes ring_kind p (public_is i) steps) ++ (notes_refused refused shown.refused_shown ∙ ap (λ (r : RingPublic). notes_of_refused p (public_behind ring_kind p r steps) refused drawn (length shown.more)) public_is) i)
+
+    module _ (run : Run) (m : Map nat_cmp) (is : IsRingMap keys p (disk opened) found m) (rest acts : List LifeAct) (finds : Finds ((run.goes).left m is).in_flight rest)
+        (acts_are : acts ≡ (opening_acts s ++ (run.goes).acts) ++ (((run.goes).left m is).made ++ rest)) (filled : FillsAll p word_of f (planned_labels p word_of (reached p word_of s acts)) (life_slots p word_of s acts)) where
+      abbrev t : LifeState
+      t = life_behind_calls p word_of s (run.goes).acts
+
+      left : IsLeftInLife keys most p word_of t behind refused words seen (disk new)
+      left = (run.goes).left m is
+
+      -- ---- the fills of a part of its acts
+
+      there : (xs : List LifeAct) → reached p word_of s ((opening_acts s ++ (run.goes).acts) ++ xs) ≡ reached p word_of t xs
+      there xs = reached_join p word_of s (opening_acts s ++ (run.goes).acts) xs ∙ ap (λ (u : LifeState). reached p word_of u xs) (reached_join p word_of s (opening_acts s) (run.goes).acts)
+
+      cut_fills : (first tail : List LifeAct) → ((run.goes).left m is).made ++ rest ≡ first ++ tail → FillsAll p word_of f (planned_labels p word_of (reached p word_of t first)) (life_slots p word_of t first)
+      cut_fills first tail split =
+          let all : acts ≡ (opening_acts s ++ (run.goes).acts) ++ (first ++ tail) = acts_are ∙ ap (λ (xs : List LifeAct). (opening_acts s ++ (run.goes).acts) ++ xs) split in
+          let end : reached p word_of s acts ≡ reached p word_of (reached p word_of t first) tail = ap (λ (xs : List LifeAct). reached p word_of s xs) all ∙ there (first ++ tail) ∙ reached_join p word_of t first tail in
+          record {
+            leaves = λ l h. filled.leaves l (subst (λ (u : LifeState). Has (planned_labels p word_of u) l) (sym end) (planned_lasts p word_of (reached p word_of t first) tail l h));
+            slots_are = λ x h. filled.slots_are x (subst (λ (xs : List LifeAct). Has (life_slots p word_of s xs) x) (sym all)
+                (slots_last p word_of s (opening_acts s ++ (run.goes).acts) (first ++ tail) x
+                (subst (λ (u : LifeState). Has (life_slots p word_of u (first ++ tail)) x) (sym (reached_join p word_of s (opening_acts s) (run.goes).acts)) (slots_first p word_of t first tail x h))));
+          }
+
+      slots_before : (x : SlotFill) → Has (life_slots p word_of s (opening_acts s ++ (run.goes).acts)) x → Has (life_slots p word_of s acts) x
+      slots_before x h = subst (λ (xs : List LifeAct). Has (life_slots p word_of s xs) x) (sym acts_are) (slots_first p word_of s (opening_acts s ++ (run.goes).acts) (((run.goes).left m is).made ++ rest) x h)
+
+      calls_are : Sound p word_of began (run.goes).acts
+      calls_are = calls_sound p word_of calls steps began (run.goes).acts (o.then).begun (run.goes).shown
+
+      run_filled : IsRunFilled p word_of f s (fills_of p found.content found.records) calls steps (run.goes).acts
+      run_filled = record {
+        begins = o.is_life;
+        life = (run.goes).is_life;
+        whole = calls_are.whole;
+        opening = record { labels = o.labels ∙ ap (λ (n : ℕ). flat_map (λ b. batch_leaves p (fills_of p found.content found.records) b) (below n)) log_many; slots = o.slots };
+        opening_slots = record { leaves = λ l h. absurd h; slots_are = λ x h. filled.slots_are x (slots_before x (slots_first p word_of s (opening_acts s) (run.goes).acts x h)) };
+        steps_are = shown.steps_are;
+        shown = (run.goes).shown;
+        fills = record {
+          leaves = (cut_fills [] (((run.goes).left m is).made ++ rest) refl).leaves;
+          slots_are = λ x h. filled.slots_are x (slots_before x (slots_last p word_of s (opening_acts s) (run.goes).acts x h));
+        };
+      }
+
+      -- ---- the refused call's fills
+
+      module _ (next : Option (ℕ → Bool)) (told : IsLeftAsShown p word_of f s t gates steps refused ((run.goes).left m is).made acts (length shown.more) next) where
+        batch_cut : (asks : List (Option ℕ)) (b : LifeBatch) (c : Fills) → b.asks ≡ asks → ((run.goes).left m is).made ≡ Append b ∷ ShowBatch ∷ [] → AreFilledBy p word_of t ((run.goes).left m is).made (Fetch asks) c → IsCutFilled p word_of f t (Fetch asks) c
+        batch_cut asks b c asked made fills =
+            let own : AreFilledBy p word_of t (Append b ∷ ShowBatch ∷ []) (Fetch asks) c = subst (λ (xs : List LifeAct). AreFilledBy p word_of t xs (Fetch asks) c) made fills in
+            record {
+              cut = record { acts = Append b ∷ ShowBatch ∷ []; shows = (b, asked, refl); is_life = subst (λ (xs : List LifeAct). IsLife p word_of t xs) made ((run.goes).left m is).is_life; filled = own };
+              whole = (batch_whole p word_of t b asks c ((run.goes).then).begun own, tt);
+              fills = cut_fills (Append b ∷ ShowBatch ∷ []) rest (ap (λ (xs : List LifeAct). xs ++ rest) made);
+            }
+
+        end_cut : (writes : List (ℕ × Option (List ℕ))) (tail : List LifeAct) (c : Fills) → ((run.goes).left m is).made ≡ ShowLifts ∷ tail → AreFilledBy p word_of t ((run.goes).left m is).made (End writes) c → IsCutFilled p word_of f t (End writes) c
+        end_cut writes tail c made fills = record {
+          cut = record {
+            acts = ShowLifts ∷ [];
+            shows = refl;
+            is_life = (let life = subst (λ (xs : List LifeAct). IsLife p word_of t xs) made ((run.goes).left m is).is_life in (life.0, tt));
+            filled = record { labels = refl; slots = λ x h. fills.slots x (subst (λ (xs : List LifeAct). Has (life_slots p word_of t xs) x) (sym made) (slots_first p word_of t (ShowLifts ∷ []) tail x h)) };
+          };
+          whole = tt;
+          fills = cut_fills (ShowLifts ∷ []) (tail ++ rest) (ap (λ (xs : List LifeAct). xs ++ rest) made);
+        }
+
+        none_more : (asks : List (Option ℕ)) (b : LifeBatch) → ((run.goes).left m is).made ≡ Append b ∷ ShowBatch ∷ [] → shown.more ≡ [] → IsRecordAlone p t (Fetch asks) (length shown.more)
+        none_more asks b made none =
+            let life = subst (λ (xs : List LifeAct). IsLife p word_of t xs) made ((run.goes).left m is).is_life in
+            let many : length shown.more ≡ 0 = ap (λ (ns : List Note). length ns) none in
+            (life.0.0, omega (arith, many))
+
+        batch_filled : (asks : List (Option ℕ)) (b : LifeBatch) (c : Fills) → b.asks ≡ asks → ((run.goes).left m is).made ≡ Append b ∷ ShowBatch ∷ [] → ((d : Fills) → RingDrawsCut p behind (Fetch asks) d words → AreFilledBy p word_of t ((run.goes).left m is).made (Fetch asks) d)
+            → RingDrawsCut p behind (Fetch asks) c words ⊎ (shown.more ≡ []) → IsCutFilled p word_of f t (Fetch asks) c ⊎ IsRecordAlone p t (Fetch asks) (length shown.more)
+        batch_filled asks b c asked made fills (inl draws) = inl (batch_cut asks b c asked made (fills c draws))
+        batch_filled asks b c asked made fills (inr none) = inr (none_more asks b made none)
+
+        abbrev FillsOf : VaultCall → Type 0
+        FillsOf call = (d : Fills) → RingDrawsCut p behind call d words → AreFilledBy p word_of t ((run.goes).left m is).made call d
+
+        abbrev IsShownOf : VaultCall → Type 0
+        IsShownOf call = ((AreActsOf call ((run.goes).left m is).made ⊎ AreShowing call ((run.goes).left m is).made) × FillsOf call) ⊎ ((((run.goes).left m is).made ≡ []) × IsBarelySeen most p t call seen)
+
+        batch_by : (asks : List (Option ℕ)) (e : refused ≡ Some (Fetch asks)) (is_shown : IsRefusedShown most p q behind (Some (Fetch asks)) words seen shown.more) → IsShownOf (Fetch asks)
+            → IsCutFilled p word_of f t (Fetch asks) is_shown.0 ⊎ IsRecordAlone p t (Fetch asks) (length shown.more)
+        batch_by asks e is_shown (inl (inl are, fills)) = batch_filled asks are.0 is_shown.0 are.1 are.2 fills (batch_draws most p q is_shown.0 seen shown.more behind asks words is_shown.1 is_shown.2 is_shown.3)
+        batch_by asks e is_shown (inl (inr are, fills)) = batch_filled asks are.0 is_shown.0 are.1 are.2 fills (batch_draws most p q is_shown.0 seen shown.more behind asks words is_shown.1 is_shown.2 is_shown.3)
+        batch_by asks e is_shown (inr (none, barely)) = inr (told.alone asks e none)
+
+        end_by : (writes : List (ℕ × Option (List ℕ))) (is_shown : IsRefusedShown most p q behind (Some (End writes)) words seen shown.more) → IsShownOf (End writes) → IsCutFilled p word_of f t (End writes) is_shown.0
+        end_by writes is_shown (inl (inl are, fills)) = end_cut writes (EndAct are.0 are.1 are.2 ∷ []) is_shown.0 are.3 (fills is_shown.0 (is_shown.2).0)
+        end_by writes is_shown (inl (inr are, fills)) = end_cut writes [] is_shown.0 are (fills is_shown.0 (is_shown.2).0)
+        end_by writes is_shown (inr (none, barely)) = absurd barely
+
+        refused_filled : (r : Option VaultCall) → refused ≡ r → (is_shown : IsRefusedShown most p q behind r words seen shown.more) → IsRefusedFilled p word_of f t r (drawn_of r is_shown) (length shown.more)
+        refused_filled None e is_shown = ap (λ (ns : List Note). length ns) is_shown
+        refused_filled (Some (Fetch asks)) e is_shown = batch_by asks e is_shown (((run.goes).left m is).shown (Fetch asks) e)
+        refused_filled (Some (End writes)) e is_shown = inl (end_by writes is_shown (((run.goes).left m is).shown (End writes) e))
+
+        pub part_is_run : IsServedThen p word_of f s gates next notes acts
+        part_is_run = (
+          record {
+            opening = fills_of p found.content found.records;
+            gates = known;
+            calls = calls;
+            steps = steps;
+            made = (run.goes).acts;
+            refused = refused;
+            drawn = drawn;
+            count = length shown.more;
+            kept = kept;
+            filled = run_filled;
+            cut = refused_filled refused refl shown.refused_shown;
+            shown = all_notes;
+          },
+          λ found_then is_next. record {
+            more = ((run.goes).left m is).made ++ rest;
+            left = acts_left refused ((run.goes).left m is).made rest ((run.goes).left m is).in_flight ((run.goes).left m is).first finds;
+            acts_are = acts_are;
+            stays = told.stays found_then is_next;
+            as_shown = told.as_shown found_then is_next;
+          },
+        )
+
+pub parts_are : {S : Type 0} (disk : S → Disk) → PartsAreRuns disk
+parts_are disk keys p word_of slot f before ranked here most old found opened calls steps behind refused words seen new stands small begins run m is rest acts finds acts_are filled notes shown next told =
+    part_is_run disk keys p word_of slot f before ranked here most old found opened calls steps behind refused words seen new stands (begins word_of (reached p word_of (formatted_life slot) before) stands small) notes shown run m is rest acts finds acts_are filled next told
