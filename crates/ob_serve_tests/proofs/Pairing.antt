@@ -3,7 +3,7 @@ use Rattle.std.proofs.Common.{◌≡◌, ◌∙◌, ◌≤◌, ℕ, suc, Bool, f
 use Rattle.std.proofs.lemmas.List.Elements.{All-nil, All-cons, All-same, All-weaker}
 use Rattle.ob_base.specs.declared.params.Params.{Params}
 use Rattle.ob_serial.specs.Vaults.{VaultCounts}
-use Rattle.ob_desk.specs.Desk.{DeskState, new_desk}
+use Rattle.ob_desk.specs.Desk.{DeskState, new_desk, setup_of}
 use Rattle.ob_session.specs.Clients.{has_signed_off}
 use Rattle.ob_hall.specs.Passes.{Steps, Hall, Pass, opening_of, may_raise}
 use Rattle.ob_hall.specs.Opening.{IsFreshPass, ArePasses}
@@ -26,7 +26,7 @@ module _ {U : Type 0} (client bound : U → ℕ) (fits : U → Steps → Type 0)
   below_all keys is two = All-weaker (λ u. bound u ≤ 8) (λ u. bound u ≤ keys) (λ u low. omega (arith, low, is)) runners two.below
 
 -- The passes of a new hall of both clients: the first one is the driver's, and the others may begin.
-module _ (hall : Hall) (p : Params) (c : VaultCounts) (all : List Pass) (passes : ArePasses hall two_clients all) (opening : opening_of hall ≡ new_desk (record { params = p }) (suc c.epoch) c.left two_clients) (can : CanOpen p c) where
+module _ (hall : Hall) (p : Params) (c : VaultCounts) (all : List Pass) (passes : ArePasses hall two_clients all) (opening : opening_of hall ≡ new_desk (setup_of p) (suc c.epoch) c.left two_clients) (can : CanOpen p c) where
   pub driver_first : (driver : Pass) → driver ≡ slice_index_or all 0 driver → IsFirstPass hall driver p c
   driver_first driver taken = let is : driver ≡ passes.driver = taken ∙ ap (λ (ps : List Pass). slice_index_or ps 0 driver) passes.are in record {
     fresh = subst (λ (q : Pass). IsFreshPass hall 0 q) (sym is) passes.first;

@@ -1,14 +1,19 @@
-//! Tests of clients in threads beside the driver: faults, a batch that is read meanwhile, want of
-//! memory, sessions, and that no thread is left behind.
+//! Tests of clients in threads beside the driver: faults, a batch that is read meanwhile, an end that
+//! is held meanwhile, want of memory, sessions, and that no thread is left behind.
 #![tactic(auto)]
 
 #[cfg(test)]
 mod ending;
+mod first;
 #[cfg(test)]
 mod gate;
+#[cfg(test)]
+mod overlap;
 #[cfg(test)]
 mod runs;
 #[cfg(test)]
 mod sessions;
 #[cfg(test)]
 mod starved;
+
+pub use first::First;

@@ -2,7 +2,7 @@
 
 ghost use Rattle.std.specs.Prelude.{◌≡◌, suc};
 ghost use Rattle.ob_mem.specs.Memory.{disk_of_store};
-ghost use Rattle.ob_desk.specs.Desk.{new_desk};
+ghost use Rattle.ob_desk.specs.Desk.{new_desk, setup_of};
 ghost use Rattle.ob_driver.specs.Testing.{two_clients};
 ghost use Rattle.ob_run.specs.Ends.{IsQuiet};
 ghost use Rattle.ob_serve_tests.specs.Pairs.{IsNewPair, AreTwo, CanOpen};
@@ -17,6 +17,7 @@ use ob_run::run;
 use ob_seal::Keys;
 use ob_serial::Vault;
 use ob_session::Runner;
+use ob_shares::NO_SHARES;
 use ob_store::{Blind, Store};
 use std::alloc::Global;
 use std::process::Abort;
@@ -76,20 +77,30 @@ pub fn open<'a, S: Store>(rt: &impl Abort, alloc: Global, store: &'a mut S) -> F
 pub fn desk_at<V: Vault>(rt: &impl Abort, alloc: Global, params: &Params, vault: &V) -> Desk
     ensures opens { CanOpen params.now (V.counts vault.now) }
     ensures desk { result
-        ≡ new_desk (record { params = params.now }) (suc (V.counts vault.now).epoch)
+        ≡ new_desk (setup_of params.now) (suc (V.counts vault.now).epoch)
         (V.counts vault.now).left two_clients }
 {
     assert!(rt; params.keys == 8);
     assert!(rt; !vault.spent());
     assert!(rt; vault.left() <= params.batches);
-    let Ok(desk) = Desk::new(alloc, params, vault.epoch() + 1, vault.left(), &[1, 2]) else {
+    let Ok(desk) = Desk::new(
+        alloc,
+        params,
+        vault.epoch() + 1,
+        vault.left(),
+        &[1, 2],
+        NO_SHARES,
+    ) else {
         panic!(rt; "no memory")
     };
     desk
 }
 
-// Runs the clients 1 and 2 over a vault.
-fn run_over<R: Threads + Wait + Sync + Abort, V: Vault, U: Runner + Send>(
+/// Runs the clients 1 and 2 over a vault.
+///
+/// # Errors
+/// Those of the run.
+pub fn run_over<R: Threads + Wait + Sync + Abort, V: Vault, U: Runner + Send>(
     rt: &R,
     alloc: Global,
     params: &Params,

@@ -29,8 +29,8 @@ use std::thread;
 use std::thread::Threads;
 use std::time::Duration;
 
-// So often a thread gives way before it waits no more.
-const TURNS: u64 = 10_000_000;
+/// So often a thread gives way before it waits no more.
+pub const TURNS: u64 = 10_000_000;
 
 // The body of the place where the first epoch's end sets the epoch's register.
 const REGISTER: u64 = 7;

@@ -1,4 +1,6 @@
 use Rattle.std.proofs.Common.{◌∙◌, refl}
+use Rattle.ob_desk.specs.Desk.{setup_of}
+use Rattle.ob_shares.proofs.Fitting.{none_fit}
 use Rattle.ob_conduct.proofs.Quitting.{two_open}
 use Rattle.ob_serve_tests.proofs.Pairing.{driver_first, sessions_are}
 use Rattle.ob_serve_tests.proofs.sessions.open_hall.Goals as goal
@@ -6,10 +8,10 @@ use Rattle.ob_serve_tests.proofs.sessions.open_hall.Goals as goal
 pub new-requires : goal.new-requires
 new-requires g c = record {
   opens = (
-    record { params = c.args.params.now },
+    setup_of c.args.params.now,
     _,
     _,
-    two_open (record { params = c.args.params.now }) _ _ 1 2 c.desk_at-desk.ensures.opens.few c.desk_at-desk.ensures.opens.low refl refl,
+    two_open (setup_of c.args.params.now) _ _ 1 2 c.desk_at-desk.ensures.opens.few c.desk_at-desk.ensures.opens.low refl refl (none_fit 2 _ _),
     c.desk_at-desk.ensures.desk,
   );
 }
