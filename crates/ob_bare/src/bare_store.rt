@@ -71,11 +71,11 @@ impl Store for BareStore {
         ensures bytes { out.new ≡ cell_of self.now.cells.items cell }
         ensures ok { IsOk result }
     {
-        *out = if cell < self.cells.len() as u64 {
-            self.cells[cell as usize]
+        if cell < self.cells.len() as u64 {
+            *out = self.cells[cell as usize];
         } else {
-            [0; 128]
-        };
+            *out = [0; 128];
+        }
         Ok(())
     }
 

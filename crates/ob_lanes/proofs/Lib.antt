@@ -9,3 +9,4 @@ pub mod Sharing
 pub mod SlotReads
 mod Taking
 mod Whole
+pub mod Windows

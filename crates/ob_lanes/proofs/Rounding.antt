@@ -1,5 +1,5 @@
 -- Lanes made one by one, and what stands in a list that is taken one by one.
-use Rattle.std.proofs.Common.{◌≡◌, ◌≤◌, ◌<◌, ℕ, ◌+◌, List, [], ◌∷◌, ◌++◌, Option, Some, None, sym, ap, subst, ◌∙◌, arith, length, get_or, take, drop, vec_capacity}
+use Rattle.std.proofs.Common.{◌≡◌, ◌≤◌, ◌<◌, ℕ, List, [], ◌∷◌, ◌++◌, Option, Some, None, sym, ap, subst, ◌∙◌, arith, length, get_or, take, drop, vec_capacity}
 use Rattle.std.specs.List.{All}
 use Rattle.std.specs.Global.{Vec}
 use Rattle.std.proofs.lemmas.List.{flat_map_more}

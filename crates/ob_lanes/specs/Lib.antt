@@ -4,3 +4,4 @@ pub mod Placing
 pub mod Rooms
 pub mod Rounds
 pub mod Shares
+pub mod Windows

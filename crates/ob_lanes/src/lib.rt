@@ -8,6 +8,7 @@ mod lanes;
 mod readers;
 mod reading;
 mod round;
+mod window;
 
 pub use hand::{Hand, Outcome, SealedJobs, Slot};
 pub use job_reading::read_jobs;

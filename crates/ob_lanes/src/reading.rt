@@ -8,6 +8,7 @@ ghost use Rattle.ob_store.specs.Calls.{Notes};
 ghost use Rattle.ob_lanes.specs.JobReads.{IsJobRead, IsDamagedFault, IsSlotRead};
 ghost use Rattle.ob_lanes.specs.Hands.{IsHandDone, IsHandRead, IsHandReady, IsPlaceRead, IsPlaceReady, hand_at};
 
+use crate::window::{UNREAD, WINDOW, claim_some, open_cells, places_at_once, read_cells};
 use crate::{Hand, Outcome, SealedJobs, Slot};
 use ob_base::{Failed, Fault, Job};
 use ob_claims::{Claims, Round};
@@ -63,12 +64,16 @@ fn read_claimed<S: Store>(
         asked.now hand.old hand.new }
     ensures ended { IsHandDone round.now hand.new }
 {
+    let mut places = [0; WINDOW];
+    let mut cells = [UNREAD; WINDOW];
     while hand.part.len() < hand.part.capacity() {
-        let Some(place) = claims.next(&mut hand.seat, round) else {
+        let most = places_at_once(&hand.part, asked.jobs.len());
+        let many = claim_some(claims, &mut hand.seat, round, &mut places, most);
+        read_cells(store, &mut hand.lane, asked, &places, many, &mut cells);
+        open_cells(&mut hand.part, asked, &places, many, &cells);
+        if many < most {
             return;
-        };
-        let slot = read_slot(store, &mut hand.lane, asked, place);
-        hand.part.push_reserved(slot);
+        }
     }
 }
 
