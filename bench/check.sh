@@ -7,7 +7,7 @@
 set -euo pipefail
 top=$(cd "$(dirname "$0")/.." && pwd)
 source "$top/bench/common.sh"
-bench_crate check_bench ob_base ob_io ob_store ob_lanes ob_bare ob_seal ob_cells ob_tables \
+bench_crate check_bench ob_base ob_io ob_store ob_claims ob_lanes ob_bare ob_seal ob_cells ob_tables \
     ob_check <<'PROGRAM'
 //! Writes a checkpoint (w), reads it (r), seals (s) or opens (o) as many cells, runs batches (b) or
 //! opens as many cells as they have (c): the first byte of the input says what, any other nothing.

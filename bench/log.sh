@@ -7,7 +7,7 @@
 set -euo pipefail
 top=$(cd "$(dirname "$0")/.." && pwd)
 source "$top/bench/common.sh"
-bench_crate log_bench ob_base ob_io ob_store ob_lanes ob_bare ob_seal ob_twin ob_cells ob_log <<'PROGRAM'
+bench_crate log_bench ob_base ob_io ob_store ob_claims ob_lanes ob_bare ob_seal ob_twin ob_cells ob_log <<'PROGRAM'
 //! Appends 16 records (a), reads them (r), or seals (s) or opens (o) as many cells as their bodies
 //! have: the first byte of the input says what, any other nothing. Each is done many times, behind
 //! the same preparations.

@@ -17,9 +17,9 @@
 set -euo pipefail
 top=$(cd "$(dirname "$0")/.." && pwd)
 source "$top/bench/common.sh"
-bench_crate ring_bench ob_base ob_io ob_store ob_lanes ob_bare ob_seal ob_twin ob_cells ob_start ob_log \
+bench_crate ring_bench ob_base ob_io ob_store ob_claims ob_lanes ob_bare ob_seal ob_twin ob_cells ob_start ob_log \
     ob_flat ob_tables ob_schedule ob_ring ob_recover ob_stand ob_check ob_serial ob_plain_serial \
-    ob_pads ob_opening ob_fetch ob_end ob_vault <<'PROGRAM'
+    ob_pads ob_opening ob_fetch ob_end ob_fresh ob_vault <<'PROGRAM'
 //! Runs epochs of a ring vault (a to d, i and j) or of a plain one (A to C) in memory, or plans the ring's
 //! alone (e to h, k and l): the first byte of the input says which, and the second how many rounds.
 #![tactic(auto)]

@@ -11,7 +11,7 @@
 set -euo pipefail
 top=$(cd "$(dirname "$0")/.." && pwd)
 source "$top/bench/common.sh"
-bench_crate ring_open_bench ob_base ob_pads ob_io ob_store ob_lanes ob_bare ob_seal ob_twin ob_cells ob_start \
+bench_crate ring_open_bench ob_base ob_pads ob_io ob_store ob_claims ob_lanes ob_bare ob_seal ob_twin ob_cells ob_start \
     ob_log ob_flat ob_tables ob_schedule ob_ring ob_recover ob_stand ob_check ob_serial ob_opening <<'PROGRAM'
 //! Makes a ring store, and formats it again (f), opens it (p), or seals (s) or opens (o) as many
 //! cells; makes a plain store of as many keys, and opens it (q) or not (k); makes a larger ring

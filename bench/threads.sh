@@ -15,7 +15,7 @@ top=$(cd "$(dirname "$0")/.." && pwd)
 program=${1:+$(realpath "$1")}
 keep=${KEEP:+$(realpath "$KEEP")}
 source "$top/bench/common.sh"
-bench_crate threads_bench ob_base ob_pads ob_io ob_script ob_report ob_store ob_lanes ob_bare ob_mem ob_seal \
+bench_crate threads_bench ob_base ob_pads ob_io ob_script ob_report ob_store ob_claims ob_lanes ob_bare ob_mem ob_seal \
     ob_twin ob_cells ob_start ob_flat ob_serial ob_order ob_queue ob_key_versions ob_versions ob_shares ob_desk \
     ob_turn ob_session ob_hall ob_threads ob_runner ob_conduct ob_driver ob_run <<'PROGRAM'
 //! Serves the script that comes in, over a plain vault in memory. The first byte of the input says how:

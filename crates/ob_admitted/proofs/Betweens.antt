@@ -1,6 +1,7 @@
 -- What the next run finds.
-use Rattle.std.specs.Prelude.{◌≡◌, ◌<◌, ◌≤◌, ◌⊎◌, ℕ, ◌+◌, ◌-◌, ◌%◌, Bool, true, cond, List, [], ◌∷◌, ◌++◌, map, filter, length, Option, Some, None}
+use Rattle.std.specs.Prelude.{◌≡◌, ◌<◌, ◌≤◌, ◌⊎◌, ℕ, ◌+◌, ◌-◌, ◌%◌, Bool, true, cond, List, [], ◌∷◌, ◌++◌, map, filter, length, take, Option, Some, None}
 use Rattle.std.proofs.Common.{zero, suc, arith, refl, sym, ap, ◌∙◌, subst, inl, inr, add-one, length-append}
+use Rattle.std.proofs.lemmas.List.{length-take-le}
 use Rattle.std.proofs.lemmas.Bool.{cases_lt, le-ltb, lt-ltb}
 use Rattle.ob_base.specs.Layout.{EpochTwin, log_cell, record_cells}
 use Rattle.ob_base.specs.Tree.{below}
@@ -8,7 +9,7 @@ use Rattle.ob_base.specs.declared.params.Params.{Params}
 use Rattle.ob_store.specs.declared.watch.Note.{Note}
 use Rattle.ob_store.specs.declared.watch.Note.TheVariants.{Sync, Write}
 use Rattle.ob_schedule.specs.Paths.{by_falling_level}
-use Rattle.ob_schedule.specs.Schedule.{Fills, body_cell, bucket_writes, check_cells, end_lifts, gate_cell, is_lifted_by_end, log_gates, record_notes, writes_of, Public}
+use Rattle.ob_schedule.specs.Schedule.{Fills, body_cell, bucket_writes, check_cells, end_lifts, gate_cell, is_lifted_by_end, log_gates, record_notes, writes_of, written_by_end, Public}
 use Rattle.ob_recover.specs.Life.{WordId, LifeAct, LifeBatch, LifeState, Append, Open, ShowBatch, ShowLifts, End as EndAct, IsLife, life_step, reached}
 use Rattle.ob_serial.specs.Vaults.{End, Fetch, VaultCall}
 use Rattle.ob_vault.specs.Shapes.{Shape}
@@ -16,7 +17,7 @@ use Rattle.ob_vault.specs.Shown.{AreShownBy}
 use Rattle.ob_vault.proofs.OpenedRun.{IsFurther, further}
 use Rattle.ob_histories.specs.Fills.{AllFills, fills_at, public_in_epoch}
 use Rattle.ob_histories.specs.Histories.{AreRecordsLeft, EpochEnded, EpochStays, IsBatchLeft, IsEndLeft, IsGateLeft, IsTurnLeft}
-use Rattle.ob_histories.specs.Runs.{HistoryTurn, RunFound, next_turn, notes_of_batch, notes_of_end, notes_of_turn, turn_behind}
+use Rattle.ob_histories.specs.Runs.{HistoryTurn, RunFound, next_turn, notes_from, notes_of_batch, notes_of_end, notes_of_turn, turn_behind}
 use Rattle.ob_admitted.specs.Between.{AreActsLeft, IsFoundAsShown, MayComeNext, RunsLeaveHistories, turn_of_run}
 use Rattle.ob_admitted.specs.Cuts.{life_behind_calls}
 use Rattle.ob_admitted.specs.Repeats.{begin_acts}
@@ -24,7 +25,7 @@ use Rattle.ob_admitted.specs.Wholes.{found_of_life}
 use Rattle.ob_admitted.proofs.Wholes.{turn_at, turn_next}
 
 -- the turn is where the life is
-record IsTurnOf (p : Params) (t : HistoryTurn) (s : LifeState) : Type 0 where
+pub record IsTurnOf (p : Params) (t : HistoryTurn) (s : LifeState) : Type 0 where
   pub epoch : t.epoch ≡ s.epoch
   pub batch : t.batch ≡ length s.log
   pub records : t.records ≤ length s.log
@@ -213,8 +214,11 @@ module _ (p : Params) (word_of : WordId → ℕ) (f : AllFills) (s : LifeState) 
   same_generation (Some (End writes)) more (inl (inr lifts)) = ap (λ (xs : List LifeAct). (Next xs).generation) lifts
   same_generation (Some (End writes)) more (inr (ws, drawn, slot, all)) = ap (λ (xs : List LifeAct). (Next xs).generation) all
 
-pub runs_leave : RunsLeaveHistories
-runs_leave p word_of f s found next calls steps acts room life show refused count more may left stays as_shown =
+-- where the life is behind a run's calls
+pub turn_at_end : (p : Params) (word_of : WordId → ℕ) (f : AllFills) (s : LifeState) (found : ℕ → Bool) (calls : List VaultCall) (steps : List (Shape × Fills)) (acts : List LifeAct) → length s.log ≤ p.batches
+    → IsLife p word_of (reached p word_of s (begin_acts s (suc s.generation))) acts → AreShownBy p word_of (reached p word_of s (begin_acts s (suc s.generation))) calls steps acts
+    → IsTurnOf p (turn_of_run p s found steps) (life_behind_calls p word_of s acts) × ((life_behind_calls p word_of s acts).generation ≡ suc s.generation)
+turn_at_end p word_of f s found calls steps acts room life show =
     let n : ℕ = length s.log in
     let g : ℕ = suc s.generation in
     let t : LifeState = reached p word_of s (begin_acts s g) in
@@ -227,8 +231,31 @@ runs_leave p word_of f s found next calls steps acts room life show refused coun
     let same : 0 + n ≡ n = omega arith in
     let turns : turn_of_run p s found steps ≡ turn_behind p first (length steps) =
     turns_pass p f s.epoch n x.epoch_gate n 0 (length steps) (omega (arith, room)) ∙ ap (λ (b : ℕ). turn_behind p (turn_at p f s.epoch n x.epoch_gate b) (length steps)) same in
-    let at_end : IsTurnOf p (turn_of_run p s found steps) (life_behind_calls p word_of s acts) = subst (λ (u : HistoryTurn). IsTurnOf p u (life_behind_calls p word_of s acts)) (sym turns) led.0 in (
-      same_generation p word_of f (life_behind_calls p word_of s acts) (turn_of_run p s found steps) at_end count next refused more left ∙ led.1 ∙ on.generation,
+    (subst (λ (u : HistoryTurn). IsTurnOf p u (life_behind_calls p word_of s acts)) (sym turns) led.0, led.1 ∙ on.generation)
+
+pub runs_leave : RunsLeaveHistories
+runs_leave p word_of f s found next calls steps acts room life show refused count more may left stays as_shown =
+    let end = turn_at_end p word_of f s found calls steps acts room life show in (
+      same_generation p word_of f (life_behind_calls p word_of s acts) (turn_of_run p s found steps) end.0 count next refused more left ∙ end.1,
       stays,
-      turn_left p word_of f (life_behind_calls p word_of s acts) (turn_of_run p s found steps) at_end count next refused more may left as_shown,
+      turn_left p word_of f (life_behind_calls p word_of s acts) (turn_of_run p s found steps) end.0 count next refused more may left as_shown,
     )
+
+-- ---- how many notes
+
+-- an end's writes, of which the last ones set the register
+pub written_long : (p : Params) (q : Public) → 5 ≤ length (written_by_end p q)
+written_long p q =
+    let e : ℕ = q.epoch + 1 in
+    let setting : List Note = Write (body_cell p EpochTwin e) ∷ Sync ∷ Write (gate_cell p EpochTwin e) ∷ Sync ∷ [] in
+    let closing : List Note = cond (q.gates (gate_cell p EpochTwin e)) (Write (gate_cell p EpochTwin e) ∷ Sync ∷ []) [] in
+    long [] (bucket_writes p (λ u. 1 - q.homes u) (filter (is_lifted_by_end p q) (by_falling_level (p.levels + 1)))) (writes_of (check_cells p (e % 2))) (writes_of (log_gates p ((e + 1) % 2))) (closing ++ setting) (behind_all 4 closing setting (omega arith))
+
+-- a run's notes, by those of the turn that it was in
+pub turns_many : (p : Params) (f : AllFills) (t : HistoryTurn) (n shown : ℕ) → length (notes_from p f t n shown) ≡ length (notes_from p f t n 0) + length (take shown (notes_of_turn p f (turn_behind p t n)))
+turns_many p f t zero shown = (let none : length (take 0 (notes_of_turn p f t)) ≡ 0 = length-take-le 0 (notes_of_turn p f t) (omega arith) in omega (arith, none))
+turns_many p f t (suc n) shown =
+    let later = turns_many p f (next_turn p t) n shown in
+    let all = length-append (notes_of_turn p f t) (notes_from p f (next_turn p t) n shown) in
+    let none = length-append (notes_of_turn p f t) (notes_from p f (next_turn p t) n 0) in
+    omega (arith, later, all, none)

@@ -2,7 +2,7 @@
 use Rattle.std.specs.Prelude.{◌≡◌, ◌<◌, ◌≤◌, ℕ, ◌+◌, ◌%◌, Bool, cond, map, List, [], ◌∷◌, ◌++◌, take, length, Option}
 use Rattle.std.proofs.Common.{suc, arith, sym, ap, ◌∙◌, subst, length-append}
 use Rattle.std.proofs.lemmas.Bool.{le-ltb, lt-ltb}
-use Rattle.std.proofs.lemmas.List.{length-map, take-append-le}
+use Rattle.std.proofs.lemmas.List.{length-map, length-take-le, take-append-le, take_all}
 use Rattle.ob_base.specs.Layout.{EpochTwin, log_cell, record_cells}
 use Rattle.ob_base.specs.Tree.{below, width}
 use Rattle.ob_base.specs.declared.params.Params.{Params}
@@ -19,8 +19,9 @@ use Rattle.ob_vault.specs.Shapes.{Fetches, Shape, shape_of}
 use Rattle.ob_vault.specs.Seen.{RingPublic, ring_notes}
 use Rattle.ob_vault.specs.Shown.{AreFilledBy}
 use Rattle.ob_histories.specs.Fills.{AllFills, fills_at, public_in_epoch}
-use Rattle.ob_histories.specs.Runs.{notes_of_batch, notes_of_end, notes_of_turn, run_notes}
+use Rattle.ob_histories.specs.Runs.{first_turn, notes_from, notes_of_batch, notes_of_end, notes_of_turn, opening_step, run_notes}
 use Rattle.ob_histories.proofs.Finding.{epoch_at}
+use Rattle.ob_admitted.specs.Between.{turn_of_run}
 use Rattle.ob_admitted.specs.Calls.{public_of_life, turn_of_life}
 use Rattle.ob_admitted.specs.Cuts.{CutOpeningsShowHistories, CutRunsShowHistories, IsCutFilled, life_behind_calls, public_of_calls}
 use Rattle.ob_admitted.specs.Fills.{FillsAll}
@@ -28,6 +29,7 @@ use Rattle.ob_admitted.specs.Publics.{AreRecordsWhole}
 use Rattle.ob_admitted.specs.Repeats.{phase_of_fills}
 use Rattle.ob_admitted.specs.Served.{IsRecordAlone}
 use Rattle.ob_admitted.specs.Wholes.{AreGatesKept, IsRunFilled, found_of_life, notes_of_run, run_of_life}
+use Rattle.ob_admitted.proofs.Betweens.{turns_many}
 use Rattle.ob_admitted.proofs.Calling.{AreSlotsFilled, At, Follows, batch_shows, earlier, public_of}
 use Rattle.ob_admitted.proofs.Fronts.{fronts_are}
 use Rattle.ob_admitted.proofs.Notes.{end_is}
@@ -115,3 +117,30 @@ records_show p word_of slot before f ranked life ends whole filled c found gates
     let follows : Follows p word_of f some (λ t. IsRecordAlone p t (vault.Fetch asks) count) (λ (q : RingPublic). take count (ring_notes p q Fetches d)) count =
     (λ t records g at begun few is_open last. record_row p word_of f t records count g few last.0 d last.1) in
     runs_go p word_of slot before f some (λ t. IsRecordAlone p t (vault.Fetch asks) count) (λ (q : RingPublic). take count (ring_notes p q Fetches d)) count follows ranked life ends whole filled c found gates calls steps acts kept is alone
+
+-- ---- how many notes
+
+-- a call that was refused has as many as the turn that comes behind those that were answered
+pub rows_many : (p : Params) (word_of : WordId → ℕ) (slot : ℕ → ℕ → ℕ) (before : List LifeAct) (f : AllFills) → ((u : ℕ) → IsRanking (width p) (slot u)) → IsLife p word_of (formatted_life slot) before
+    → AreEndsShown p word_of (formatted_life slot) before → AreRecordsWhole p before → FillsAll p word_of f (planned_labels p word_of (reached p word_of (formatted_life slot) before)) []
+    → (c : Fills) (found gates : ℕ → Bool) (calls : List VaultCall) (steps : List (Shape × Fills)) (acts : List LifeAct) → AreGatesKept p (reached p word_of (formatted_life slot) before).epoch found gates
+    → IsRunFilled p word_of f (reached p word_of (formatted_life slot) before) c calls steps acts
+    → (call : VaultCall) (d : Fills) → IsCutFilled p word_of f (life_behind_calls p word_of (reached p word_of (formatted_life slot) before) acts) call d
+    → length (ring_notes p (public_of_calls p word_of (reached p word_of (formatted_life slot) before) gates steps) (shape_of call) d) ≡ length (notes_of_turn p f (turn_of_run p (reached p word_of (formatted_life slot) before) found steps))
+rows_many p word_of slot before f ranked life ends whole filled c found gates calls steps acts kept is call d cut =
+    let s : LifeState = reached p word_of (formatted_life slot) before in
+    let row : List Note = ring_notes p (public_of_calls p word_of s gates steps) (shape_of call) d in
+    let turn : List Note = notes_of_turn p f (turn_of_run p s found steps) in
+    let run : List Note = notes_of_run p word_of s c found gates steps in
+    let opened : List Note = opening_step p f (found_of_life p s found) in
+    let shown : ℕ → List Note = (λ k. notes_from p f (first_turn (found_of_life p s found)) (length s.log + length steps) k) in
+    let same : (k : ℕ) → length run + length (take k row) ≡ length opened + length (shown k) =
+    (λ k. sym (length-append run (take k row)) ∙ ap (λ (ns : List Note). length ns) (cut_runs_show p word_of slot before f ranked life ends whole filled c found gates calls steps acts kept is call d k cut) ∙ length-append opened (shown k)) in
+    let many : ℕ = length row + length turn in
+    let all = same many in
+    let none = same 0 in
+    let turned = turns_many p f (first_turn (found_of_life p s found)) (length s.log + length steps) many in
+    let row_all : length (take many row) ≡ length row = ap (λ (ns : List Note). length ns) (take_all many row (omega arith)) in
+    let turn_all : length (take many turn) ≡ length turn = ap (λ (ns : List Note). length ns) (take_all many turn (omega arith)) in
+    let row_none : length (take 0 row) ≡ 0 = length-take-le 0 row (omega arith) in
+    omega (arith, all, none, turned, row_all, turn_all, row_none)

@@ -19,3 +19,4 @@ pub mod Parts
 pub mod Walking
 pub mod Walks
 pub mod Openings
+pub mod Noting

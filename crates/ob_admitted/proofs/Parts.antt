@@ -2,9 +2,9 @@
 use Rattle.std.specs.Prelude.{◌≡◌, ◌⊎◌, ◌||◌, ℕ, ◌+◌, ◌*◌, ◌%◌, Bool, true, false, List, [], ◌∷◌, ◌++◌, length, Option, None, Some}
 use Rattle.std.specs.List.{flat_map}
 use Rattle.std.specs.Ordering.{nat_cmp}
-use Rattle.std.proofs.Common.{suc, arith, refl, sym, ap, ◌∙◌, subst, inl, inr, ⊎_elim}
+use Rattle.std.proofs.Common.{suc, add-one, arith, length-append, refl, sym, ap, ◌∙◌, subst, inl, inr, ⊎_elim}
 use Rattle.std.proofs.lemmas.Bool.{cases_eq}
-use Rattle.std.proofs.lemmas.List.{length-map}
+use Rattle.std.proofs.lemmas.List.{append-nil, length-map}
 use Rattle.ob_base.specs.Layout.{EpochTwin}
 use Rattle.ob_base.specs.Repeats.{Has}
 use Rattle.ob_base.specs.Tree.{below, width}
@@ -17,7 +17,7 @@ use Rattle.ob_twin.specs.declared.gates.Gates.{Gates}
 use Rattle.ob_twin.specs.declared.gates.Open.{Open as OpenGates}
 use Rattle.ob_twin.specs.Opening.{GatesAre, is_marked}
 use Rattle.ob_twin.specs.Register.{IsOpen}
-use Rattle.ob_schedule.specs.Schedule.{Fills, Public, batch_leaves, before_repeats, gate_cell, head_notes, open_notes, repeats}
+use Rattle.ob_schedule.specs.Schedule.{Fills, Public, batch_leaves, before_repeats, gate_cell, head_notes, open_notes, record_notes, repeats}
 use Rattle.ob_seal.specs.declared.keys.Keys.{Keys}
 use Rattle.ob_ring.specs.FlatTable.{reads}
 use Rattle.ob_recover.specs.Calls.{Finds}
@@ -31,22 +31,30 @@ use Rattle.ob_serial.specs.Vaults.{End, Fetch, VaultCall}
 use Rattle.ob_opening.specs.OpeningActs.{StandsInLife}
 use Rattle.ob_vault.specs.Hidden.{RingDrawsCut, RingHidden}
 use Rattle.ob_vault.specs.KindShown.{public_behind, steps_notes}
-use Rattle.ob_vault.specs.Lives.{AreShowing, IsBarelySeen, IsLeftInLife, IsOpenedInLife, IsRunInLife, opening_acts}
+use Rattle.ob_vault.specs.Lives.{AreFirstActs, AreShowing, IsBarelySeen, IsLeftInLife, IsOpenedInLife, IsRunInLife, opening_acts}
 use Rattle.ob_vault.specs.RingKind.{IsRingMap, RingFound, ring_kind, ring_public}
-use Rattle.ob_vault.specs.Seen.{RingPublic, opening_shows, ring_notes}
-use Rattle.ob_vault.specs.Shapes.{Shape, shape_of}
-use Rattle.ob_vault.specs.Shown.{AreActsOf, AreFilledBy}
+use Rattle.ob_vault.specs.Seen.{RingPublic, opening_shows, ring_next, ring_notes}
+use Rattle.ob_vault.specs.Shapes.{Ends, Fetches, Shape, shape_of}
+use Rattle.ob_vault.specs.Shown.{AreActsOf, AreFilledBy, AreShownBy}
+use Rattle.ob_fresh.proofs.Publics.{open_formatted}
+use Rattle.ob_vault.proofs.Fetching.{none_pending}
 use Rattle.ob_vault.proofs.OpenedRun.{IsFurther, further}
 use Rattle.ob_vault.proofs.Whole.{reached_join}
 use Rattle.ob_histories.specs.Fills.{AllFills}
-use Rattle.ob_admitted.specs.Calls.{public_of_life}
+use Rattle.ob_histories.specs.Runs.{HistoryTurn, RunFound, notes_of_turn}
+use Rattle.ob_admitted.specs.Between.{AreActsLeft, IsFoundAsShown, turn_of_run}
+use Rattle.ob_admitted.specs.Calls.{AreStepsOf, public_of_life}
 use Rattle.ob_admitted.specs.Cuts.{IsCutFilled, life_behind_calls, public_of_calls}
 use Rattle.ob_admitted.specs.Fills.{FillsAll}
 use Rattle.ob_admitted.specs.Lives.{IsLifeFilled}
 use Rattle.ob_admitted.specs.Parts.{IsLeftAsShown, IsRefusedShown, IsServedShown, PartsAreRuns}
 use Rattle.ob_admitted.specs.Served.{IsRecordAlone, IsRefusedFilled, IsServedThen, notes_of_refused}
-use Rattle.ob_admitted.specs.Wholes.{AreGatesKept, IsRunFilled, notes_of_run}
+use Rattle.ob_admitted.specs.Told.{AreGatesLeft, AreGatesShown, IsRunNoted, record_row}
+use Rattle.ob_admitted.specs.Wholes.{AreGatesKept, IsRunFilled, found_of_life, notes_of_run}
 use Rattle.ob_admitted.proofs.Acts.{Sound, acts_left, batch_whole, calls_sound, slots_first, slots_last}
+use Rattle.ob_admitted.proofs.Betweens.{IsTurnOf, turn_at_end}
+use Rattle.ob_admitted.proofs.Cutting.{record_many, rows_many}
+use Rattle.ob_admitted.proofs.Publics.{formatted_goes, goes_along}
 use Rattle.ob_admitted.proofs.Shown.{batch_draws, front_refused, front_take}
 
 -- ---- gates
@@ -76,6 +84,48 @@ pub opening_by : (p : Params) (c : Fills) (found : ℕ → Bool) (q r : Public) 
 opening_by p c found q r g h m n epoch homes counts counter generation many = λ i.
     before_repeats p (record { epoch = epoch i; homes = homes i; counts = counts i; counter = counter i; gates = found; leaves = [] }) found (generation i)
     ++ repeats p (record { epoch = epoch i; homes = homes i; counts = counts i; counter = counter i; gates = found; leaves = [] }) c 0 (many i)
+
+-- ---- what is left
+
+no_acts : (a : LifeAct) (more : List LifeAct) → [] ≡ a ∷ more → ⊥
+no_acts a more e = cc e
+
+no_fetch : (ws : List (ℕ × Option (List ℕ))) (asks : List (Option ℕ)) → ◌≡◌ {A = Option VaultCall} (Some (End ws)) (Some (Fetch asks)) → ⊥
+no_fetch ws asks e = cc e
+
+same_asks : (a b : List (Option ℕ)) → ◌≡◌ {A = Option VaultCall} (Some (Fetch a)) (Some (Fetch b)) → a ≡ b
+same_asks a b e = cc e
+
+nothing_found : (found : List LifeAct) → Finds None found → found ≡ []
+nothing_found found (inl none) = none
+nothing_found found (inr (a, pending, is)) = none_pending (found ≡ []) a pending
+
+-- so many batches of the epoch were shown as its log has
+shown_behind : (p : Params) (word_of : WordId → ℕ) (calls : List VaultCall) (steps : List (Shape × Fills)) (q : RingPublic) (s : LifeState) (acts : List LifeAct) → q.shown ≡ length s.log → AreStepsOf calls steps → AreShownBy p word_of s calls steps acts
+    → (public_behind ring_kind p q steps).shown ≡ length (reached p word_of s acts).log
+shown_behind p word_of [] [] q s acts same steps_are show = same ∙ ap (λ (xs : List LifeAct). length (reached p word_of s xs).log) (sym show)
+shown_behind p word_of [] (step ∷ steps) q s acts same steps_are show = absurd show
+shown_behind p word_of (call ∷ calls) [] q s acts same steps_are show = absurd show
+shown_behind p word_of (Fetch asks ∷ calls) (step ∷ steps) q s acts same steps_are show =
+    let r : LifeBatch = show.3.0 in
+    let rest : List LifeAct = show.1 in
+    let are : acts ≡ Append r ∷ ShowBatch ∷ rest = show.2 ∙ ap (λ (xs : List LifeAct). xs ++ rest) show.3.2 in
+    let behind = subst (λ (xs : List LifeAct). AreShownBy p word_of (reached p word_of s xs) calls steps rest) show.3.2 show.5 in
+    let s2 : LifeState = life_step p word_of (life_step p word_of s (Append r)) ShowBatch in
+    ap (λ (shape : Shape). (public_behind ring_kind p (ring_next p q shape step.1) steps).shown) steps_are.0
+    ∙ shown_behind p word_of calls steps (ring_next p q Fetches step.1) s2 rest (ap suc same ∙ sym (add-one (length s.log)) ∙ sym (length-append s.log (r ∷ []))) steps_are.1 behind
+    ∙ ap (λ (xs : List LifeAct). length (reached p word_of s xs).log) (sym are)
+shown_behind p word_of (End writes ∷ calls) (step ∷ steps) q s acts same steps_are show =
+    let ws = show.3.0 in
+    let drawn : ℕ = show.3.1 in
+    let slot = show.3.2 in
+    let rest : List LifeAct = show.1 in
+    let are : acts ≡ ShowLifts ∷ EndAct ws drawn slot ∷ rest = show.2 ∙ ap (λ (xs : List LifeAct). xs ++ rest) show.3.3 in
+    let behind = subst (λ (xs : List LifeAct). AreShownBy p word_of (reached p word_of s xs) calls steps rest) show.3.3 show.5 in
+    let e2 : LifeState = life_step p word_of (life_step p word_of s ShowLifts) (EndAct ws drawn slot) in
+    ap (λ (shape : Shape). (public_behind ring_kind p (ring_next p q shape step.1) steps).shown) steps_are.0
+    ∙ shown_behind p word_of calls steps (ring_next p q Ends step.1) e2 rest refl steps_are.1 behind
+    ∙ ap (λ (xs : List LifeAct). length (reached p word_of s xs).log) (sym are)
 
 module _ {S : Type 0} (disk : S → Disk) (keys : Keys) (p : Params) (word_of : WordId → ℕ) (slot : ℕ → ℕ → ℕ) (f : AllFills) (before : List LifeAct) (ranked : (u : ℕ) → IsRanking (width p) (slot u)) (here : IsLifeFilled p word_of slot f before)
     (most : ℕ) (old : S) (found : RingFound) (opened : S) (calls : List VaultCall) (steps : List (Shape × Fills)) (behind : RingHidden) (refused : Option VaultCall) (words : List ℕ) (seen : List Event) (new : S) where
@@ -201,7 +251,7 @@ module _ {S : Type 0} (disk : S → Disk) (keys : Keys) (p : Params) (word_of : 
 
       -- ---- the refused call's fills
 
-      module _ (next : Option (ℕ → Bool)) (told : IsLeftAsShown p word_of f s t gates steps refused ((run.goes).left m is).made acts (length shown.more) next) where
+      module _ (alone : (asks : List (Option ℕ)) → refused ≡ Some (Fetch asks) → ((run.goes).left m is).made ≡ [] → IsRecordAlone p t (Fetch asks) (length shown.more)) where
         batch_cut : (asks : List (Option ℕ)) (b : LifeBatch) (c : Fills) → b.asks ≡ asks → ((run.goes).left m is).made ≡ Append b ∷ ShowBatch ∷ [] → AreFilledBy p word_of t ((run.goes).left m is).made (Fetch asks) c → IsCutFilled p word_of f t (Fetch asks) c
         batch_cut asks b c asked made fills =
             let own : AreFilledBy p word_of t (Append b ∷ ShowBatch ∷ []) (Fetch asks) c = subst (λ (xs : List LifeAct). AreFilledBy p word_of t xs (Fetch asks) c) made fills in
@@ -244,7 +294,7 @@ module _ {S : Type 0} (disk : S → Disk) (keys : Keys) (p : Params) (word_of : 
             → IsCutFilled p word_of f t (Fetch asks) is_shown.0 ⊎ IsRecordAlone p t (Fetch asks) (length shown.more)
         batch_by asks e is_shown (inl (inl are, fills)) = batch_filled asks are.0 is_shown.0 are.1 are.2 fills (batch_draws most p q is_shown.0 seen shown.more behind asks words is_shown.1 is_shown.2 is_shown.3)
         batch_by asks e is_shown (inl (inr are, fills)) = batch_filled asks are.0 is_shown.0 are.1 are.2 fills (batch_draws most p q is_shown.0 seen shown.more behind asks words is_shown.1 is_shown.2 is_shown.3)
-        batch_by asks e is_shown (inr (none, barely)) = inr (told.alone asks e none)
+        batch_by asks e is_shown (inr (none, barely)) = inr (alone asks e none)
 
         end_by : (writes : List (ℕ × Option (List ℕ))) (is_shown : IsRefusedShown most p q behind (Some (End writes)) words seen shown.more) → IsShownOf (End writes) → IsCutFilled p word_of f t (End writes) is_shown.0
         end_by writes is_shown (inl (inl are, fills)) = end_cut writes (EndAct are.0 are.1 are.2 ∷ []) is_shown.0 are.3 (fills is_shown.0 (is_shown.2).0)
@@ -256,30 +306,137 @@ module _ {S : Type 0} (disk : S → Disk) (keys : Keys) (p : Params) (word_of : 
         refused_filled (Some (Fetch asks)) e is_shown = batch_by asks e is_shown (((run.goes).left m is).shown (Fetch asks) e)
         refused_filled (Some (End writes)) e is_shown = inl (end_by writes is_shown (((run.goes).left m is).shown (End writes) e))
 
-        pub part_is_run : IsServedThen p word_of f s gates next notes acts
-        part_is_run = (
+      pub part_is_run : (next : Option (ℕ → Bool)) → IsLeftAsShown p word_of f s t gates steps refused ((run.goes).left m is).made acts (length shown.more) next → IsServedThen p word_of f s gates next notes acts
+      part_is_run next told = (
+        record {
+          opening = fills_of p found.content found.records;
+          gates = known;
+          calls = calls;
+          steps = steps;
+          made = (run.goes).acts;
+          refused = refused;
+          drawn = drawn;
+          count = length shown.more;
+          kept = kept;
+          filled = run_filled;
+          cut = refused_filled told.alone refused refl shown.refused_shown;
+          shown = all_notes;
+        },
+        λ found_then is_next. record {
+          more = ((run.goes).left m is).made ++ rest;
+          left = acts_left refused ((run.goes).left m is).made rest ((run.goes).left m is).in_flight ((run.goes).left m is).first finds;
+          acts_are = acts_are;
+          stays = told.stays found_then is_next;
+          as_shown = told.as_shown found_then is_next;
+        },
+      )
+
+      -- ---- by what its notes tell
+
+      abbrev made : List LifeAct
+      made = ((run.goes).left m is).made
+
+      abbrev flies : Option LifeAct
+      flies = ((run.goes).left m is).in_flight
+
+      abbrev count : ℕ
+      count = length shown.more
+
+      abbrev Noted : (r : Option VaultCall) → IsRefusedShown most p q behind r words seen shown.more → Type 0
+      Noted r is_shown = IsRunNoted most p q behind r words seen shown.more is_shown made flies
+
+      abbrev turn : HistoryTurn
+      turn = turn_of_run p s gates steps
+
+      at_end : IsTurnOf p turn t
+      at_end = (turn_at_end p word_of f s gates calls steps (run.goes).acts ((goes_along p word_of f (let one = p.in_range.some_dummies in omega (arith, one)) (formatted_life slot) before here.life here.ends here.whole (open_formatted p word_of (let one = p.in_range.some_dummies in omega (arith, one)) slot ranked)
+          (formatted_goes p word_of f slot) (here.filled).leaves).room) (run.goes).is_life (run.goes).shown).0
+
+      log_shown : q.shown ≡ length t.log
+      log_shown = shown_behind p word_of calls steps (ring_public p found) began (run.goes).acts log_began shown.steps_are (run.goes).shown
+
+      row_many : (b : ℕ) → length (record_row p q) ≡ length (record_notes p 0 b)
+      row_many b = record_many p (((q.known).epoch + 1) % 2) q.shown ∙ sym (record_many p 0 b)
+
+      whole_by : (r : Option VaultCall) (is_shown : IsRefusedShown most p q behind r words seen shown.more) → Noted r is_shown → (asks : List (Option ℕ)) → r ≡ Some (Fetch asks) → length asks ≡ p.places
+      whole_by None is_shown noted asks same = absurd (cc same)
+      whole_by (Some (Fetch a)) is_shown noted asks same = subst (λ (xs : List (Option ℕ)). length xs ≡ p.places) (same_asks a asks same) (noted.0).1
+      whole_by (Some (End ws)) is_shown noted asks same = absurd (no_fetch ws asks same)
+
+      pub whole_of : Noted refused shown.refused_shown → (asks : List (Option ℕ)) → refused ≡ Some (Fetch asks) → length asks ≡ p.places
+      whole_of noted asks same = whole_by refused shown.refused_shown noted asks same
+
+      alone_by : (r : Option VaultCall) (is_shown : IsRefusedShown most p q behind r words seen shown.more) → Noted r is_shown → (asks : List (Option ℕ)) → r ≡ Some (Fetch asks) → made ≡ [] → IsRecordAlone p t (Fetch asks) count
+      alone_by None is_shown noted asks same none = absurd (cc same)
+      alone_by (Some (Fetch a)) is_shown ((room, asked), inl (inl (nothing, idle, short))) asks same none = (let many = row_many (length t.log) in let log = log_shown in (omega (arith, room, log), omega (arith, short, many)))
+      alone_by (Some (Fetch a)) is_shown ((room, asked), inl (inr (nothing, one))) asks same none = (let many = row_many (length t.log) in let log = log_shown in (omega (arith, room, log), omega (arith, one, many)))
+      alone_by (Some (Fetch a)) is_shown ((room, asked), inr (batch, all)) asks same none = absurd (no_acts (Append batch.0) (ShowBatch ∷ []) (sym none ∙ batch.2))
+      alone_by (Some (End ws)) is_shown noted asks same none = absurd (no_fetch ws asks same)
+
+      -- the acts that are found
+      there_found : reached p word_of s acts ≡ reached p word_of t (made ++ rest)
+      there_found = ap (λ (xs : List LifeAct). reached p word_of s xs) acts_are ∙ there (made ++ rest)
+
+      idle_found : flies ≡ None → (first : List LifeAct) → made ≡ first → reached p word_of s acts ≡ reached p word_of t first
+      idle_found idle first is_made =
+          let none : rest ≡ [] = nothing_found rest (subst (λ (a : Option LifeAct). Finds a rest) idle finds) in
+          there_found ∙ ap (λ (xs : List LifeAct). reached p word_of t xs) (ap (λ (xs : List LifeAct). made ++ xs) none ∙ append-nil made ∙ is_made)
+
+      -- a batch whose acts were made
+      batch_found : (asks : List (Option ℕ)) → refused ≡ Some (Fetch asks) → AreActsOf (Fetch asks) made → length (reached p word_of s acts).log ≡ suc (length t.log)
+      batch_found asks e batch =
+          let first : AreFirstActs (Some (Fetch asks)) made flies = subst (λ (r : Option VaultCall). AreFirstActs r made flies) e ((run.goes).left m is).first in
+          go (acts_left (Some (Fetch asks)) made rest flies first finds)
+        where
+          many : length (made ++ rest) ≡ 2 + length rest
+          many = (let all = length-append made rest in let two : length made ≡ 2 = ap (λ (xs : List LifeAct). length xs) batch.2 in omega (arith, all, two))
+
+          go : AreActsLeft (Some (Fetch asks)) (made ++ rest) → length (reached p word_of s acts).log ≡ suc (length t.log)
+          go (inl none) = (let few : length (made ++ rest) ≡ 0 = ap (λ (xs : List LifeAct). length xs) none in absurd (omega (arith, many, few)))
+          go (inr (r, inl one)) = (let few : length (made ++ rest) ≡ 1 = ap (λ (xs : List LifeAct). length xs) one in absurd (omega (arith, many, few)))
+          go (inr (r, inr both)) =
+              ap (λ (u : LifeState). length u.log) (there_found ∙ ap (λ (xs : List LifeAct). reached p word_of t xs) both) ∙ length-append t.log (r ∷ []) ∙ add-one (length t.log)
+
+      end_row_many : (writes : List (ℕ × Option (List ℕ))) (c : Fills) → IsCutFilled p word_of f t (End writes) c → length (ring_notes p q Ends c) ≡ length (notes_of_turn p f turn)
+      end_row_many writes c cut =
+          ap (λ (r : RingPublic). length (ring_notes p (public_behind ring_kind p r steps) Ends c)) public_is
+          ∙ rows_many p word_of slot before f ranked here.life here.ends here.whole here.filled (fills_of p found.content found.records) gates known calls steps (run.goes).acts kept run_filled (End writes) c cut
+
+      module _ (next : ℕ → Bool) where
+        abbrev Next : RunFound
+        Next = found_of_life p (reached p word_of s acts) next
+
+        found_by : (r : Option VaultCall) → refused ≡ r → (is_shown : IsRefusedShown most p q behind r words seen shown.more) → Noted r is_shown → IsRefusedFilled p word_of f t r (drawn_of r is_shown) count → AreGatesShown p f turn r count Next → IsFoundAsShown p f turn r count Next
+        found_by None e is_shown noted filled_so gated = (ap (λ (ns : List Note). length ns) is_shown, gated)
+        found_by (Some (Fetch asks)) e is_shown (room, inl (inl (nothing, idle, short))) filled_so gated =
+            let many = row_many turn.batch in
+            let log : Next.records ≡ turn.batch = ap (λ (u : LifeState). length u.log) (idle_found idle [] nothing) ∙ sym at_end.batch in
+            (λ more. absurd (omega (arith, more, log)), λ all. absurd (omega (arith, all, many, short)), gated)
+        found_by (Some (Fetch asks)) e is_shown (room, inl (inr (nothing, one))) filled_so gated =
+            let many = row_many turn.batch in
+            (λ more. omega (arith, one, many), λ all. absurd (omega (arith, all, many, one)), gated)
+        found_by (Some (Fetch asks)) e is_shown (room, inr (batch, whole)) filled_so gated =
+            let many = row_many turn.batch in
+            let log : Next.records ≡ suc turn.batch = batch_found asks e batch ∙ ap suc (sym at_end.batch) in
+            (λ more. omega (arith, whole, many), λ all. log, gated)
+        found_by (Some (End writes)) e is_shown noted (inr alone) gated = absurd alone
+        found_by (Some (End writes)) e is_shown (lifts, inl (idle, short)) (inl cut) gated =
+            let many = end_row_many writes is_shown.0 cut in
+            let still : Next.epoch ≡ turn.epoch = ap (λ (u : LifeState). u.epoch) (idle_found idle (ShowLifts ∷ []) lifts) ∙ sym at_end.epoch in
+            (λ ended. absurd (omega (arith, ended, still)), λ all. absurd (omega (arith, all, many, short)), gated.1)
+        found_by (Some (End writes)) e is_shown (lifts, inr one) (inl cut) gated =
+            let many = end_row_many writes is_shown.0 cut in
+            (λ ended. (omega (arith, one, many), gated.0 ended), λ all. absurd (omega (arith, all, many, one)), gated.1)
+
+      pub left_as_shown : Noted refused shown.refused_shown → (next : Option (ℕ → Bool)) → AreGatesLeft p word_of f s gates steps refused acts count next → IsLeftAsShown p word_of f s t gates steps refused made acts count next
+      left_as_shown noted next gated =
+          let alone : (asks : List (Option ℕ)) → refused ≡ Some (Fetch asks) → made ≡ [] → IsRecordAlone p t (Fetch asks) count = λ asks same none. alone_by refused shown.refused_shown noted asks same none in
           record {
-            opening = fills_of p found.content found.records;
-            gates = known;
-            calls = calls;
-            steps = steps;
-            made = (run.goes).acts;
-            refused = refused;
-            drawn = drawn;
-            count = length shown.more;
-            kept = kept;
-            filled = run_filled;
-            cut = refused_filled refused refl shown.refused_shown;
-            shown = all_notes;
-          },
-          λ found_then is_next. record {
-            more = ((run.goes).left m is).made ++ rest;
-            left = acts_left refused ((run.goes).left m is).made rest ((run.goes).left m is).in_flight ((run.goes).left m is).first finds;
-            acts_are = acts_are;
-            stays = told.stays found_then is_next;
-            as_shown = told.as_shown found_then is_next;
-          },
-        )
+            whole = whole_of noted;
+            alone = alone;
+            stays = gated.stays;
+            as_shown = λ found_then is_next. found_by found_then refused refl shown.refused_shown noted (refused_filled alone refused refl shown.refused_shown) (gated.shown found_then is_next);
+          }
 
 pub parts_are : {S : Type 0} (disk : S → Disk) → PartsAreRuns disk
 parts_are disk keys p word_of slot f before ranked here most old found opened calls steps behind refused words seen new stands small begins run m is rest acts finds acts_are filled notes shown next told =

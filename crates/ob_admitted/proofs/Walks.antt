@@ -19,10 +19,11 @@ use Rattle.ob_serial.specs.Vaults.{Fetch, VaultCall}
 use Rattle.ob_vault.specs.Hidden.{RingHidden}
 use Rattle.ob_vault.specs.Joined.{AreRunsFrom, RunPart, Served, Stopped}
 use Rattle.ob_vault.specs.Lives.{RingBegins, opening_acts}
-use Rattle.ob_vault.specs.RingKind.{RingFound}
+use Rattle.ob_vault.specs.KindShown.{public_behind}
+use Rattle.ob_vault.specs.RingKind.{RingFound, ring_kind, ring_public}
 use Rattle.ob_vault.specs.Shapes.{Shape}
 use Rattle.ob_vault.proofs.Whole.{reached_join}
-use Rattle.ob_histories.specs.Fills.{AllFills}
+use Rattle.ob_histories.specs.Fills.{AllFills, AreAllFills}
 use Rattle.ob_histories.specs.Histories.{IsHistory}
 use Rattle.ob_histories.specs.Laws.{AreAdmitted}
 use Rattle.ob_admitted.specs.Cuts.{life_behind_calls}
@@ -32,13 +33,14 @@ use Rattle.ob_admitted.specs.Parts.{IsLeftAsShown, IsServedShown}
 use Rattle.ob_admitted.specs.Publics.{AreRecordsWhole}
 use Rattle.ob_admitted.specs.Rows.{RunNotes, lines_of_runs, rows_of}
 use Rattle.ob_admitted.specs.Served.{IsServedLeft, IsServedThen}
-use Rattle.ob_admitted.specs.Walks.{AreLeftAsShown, AreRunsTold, AreServedParts, IsRowInLife, IsServedPart, RowsOfRunsAreAdmitted, first_gates}
+use Rattle.ob_admitted.specs.Told.{AreAllGatesLeft, AreGatesLeft, IsRunNoted, NotedRunsAreAdmitted}
+use Rattle.ob_admitted.specs.Walks.{AreLeftAsShown, AreRunsTold, AreServedParts, IsRowAsShown, IsRowInLife, IsServedPart, RowsOfRunsAreAdmitted, first_gates}
 use Rattle.ob_admitted.specs.Wholes.{found_of_life}
 use Rattle.ob_admitted.proofs.Acts.{LeftSound, Sound, calls_sound, ends_join, left_sound, life_first, life_last, slots_first, slots_last, whole_join}
 use Rattle.ob_admitted.proofs.Lives.{lives_are}
 use Rattle.ob_admitted.proofs.Living.{lives_are_filled}
-use Rattle.ob_admitted.proofs.Parts.{parts_are}
-use Rattle.ob_admitted.proofs.Walking.{row_lives}
+use Rattle.ob_admitted.proofs.Parts.{left_as_shown, parts_are, whole_of}
+use Rattle.ob_admitted.proofs.Walking.{AreLeftAsNoted, row_lives, row_noted}
 use Rattle.ob_admitted.proofs.Wholes.{repeats_ended, repeats_whole}
 
 module _ {S : Type 0} (disk : S → Disk) (keys : Keys) (p : Params) (word_of : WordId → ℕ) (slot : ℕ → ℕ → ℕ) (f : AllFills) (ranked : (u : ℕ) → IsRanking (width p) (slot u)) where
@@ -172,6 +174,31 @@ module _ {S : Type 0} (disk : S → Disk) (keys : Keys) (p : Params) (word_of : 
       let left_then : List LifeAct → (ℕ → Bool) → Type 0 = (λ xs gates. IsServedLeft p word_of f (At before) (gates_open ((one.found_in).found).gates) notes (run.0).0 xs gates) in
       (here, inl (run.0).0, tt, row_behind before first left_then parts rows more (run.0).1 on)
 
+  -- what each run leaves is as it showed, where its refused call left what its notes tell, and the gates are found so
+  row_told : (parts : List (RunPart S)) (rows : List (List Note)) (told : AreRunsTold disk keys p parts rows) (may_leave : Image → Type 0) (before : List LifeAct) (u : LifeState) (acts : List LifeAct) → At before ≡ u → AreRunsFrom disk keys p may_leave parts
+      → (are : AreServedParts disk keys p word_of u parts acts) → IsLifeFilled p word_of slot f before → IsLife p word_of u acts → Filled u acts → AreLeftAsNoted disk keys p word_of u parts rows told acts are
+      → AreAllGatesLeft disk keys p word_of f u parts rows told acts are → AreLeftAsShown disk keys p word_of f u parts rows told acts are
+  row_told [] rows told may_leave before u acts same from are here life filled noted gated = tt
+  row_told (Stopped old new ∷ parts) rows told may_leave before u acts same from are here life filled noted gated = tt
+  row_told (Served most old found opened calls steps behind refused words seen new ∷ parts) [] told may_leave before u acts same from are here life filled noted gated = tt
+  row_told (Served most old found opened calls steps behind refused words seen new ∷ parts) (notes ∷ rows) (one, more) may_leave before u acts same from (first, later, split, is, rest) here life filled noted gated =
+      let life_all : IsLife p word_of u (first ++ later) = subst (λ (xs : List LifeAct). IsLife p word_of u xs) split life in
+      let filled_all : Filled u (first ++ later) = subst (λ (xs : List LifeAct). Filled u xs) split filled in
+      let next : Option (ℕ → Bool) = first_gates disk keys p parts rows more in
+      let Told : LifeState → Type 0 = (λ v. (x : IsServedPart keys most p word_of v (disk old).cells found (disk opened) calls steps behind refused words seen (disk new) first)
+      → IsRunNoted most p (public_behind ring_kind p (ring_public p found) steps) behind refused words seen one.more one.refused_shown (((x.run).goes).left x.map x.is_map).made (((x.run).goes).left x.map x.is_map).in_flight
+      → AreGatesLeft p word_of f v (gates_open ((one.found_in).found).gates) steps refused first (length one.more) next → IsLife p word_of v first → Filled v first
+      → IsLeftAsShown p word_of f v (life_behind_calls p word_of v ((x.run).goes).acts) (gates_open ((one.found_in).found).gates) steps refused (((x.run).goes).left x.map x.is_map).made first (length one.more) next
+      × IsLifeFilled p word_of slot f (before ++ first)) in
+      let here_told : Told (At before) = (λ x so gates_so life_so filled_so. (
+        left_as_shown disk keys p word_of slot f before ranked here most old found opened calls steps behind refused words seen new x.stands ((from.1).0 word_of (At before) x.stands x.small) notes one x.run x.map x.is_map x.rest first x.finds x.are filled_so so next gates_so,
+        behind_part most old found opened calls steps behind refused words seen new (from.1).0 notes one before first x
+            (whole_of disk keys p word_of slot f before ranked here most old found opened calls steps behind refused words seen new x.stands ((from.1).0 word_of (At before) x.stands x.small) notes one x.run x.map x.is_map x.rest first x.finds x.are filled_so so) life_so here filled_so,
+      )) in
+      let part = subst Told same here_told is noted.0 gated.0 (life_first p word_of u first later life_all) (filled_first u first later filled_all) in
+      let there : At (before ++ first) ≡ reached p word_of u first = reached_join p word_of (formatted_life slot) before first ∙ ap (λ (v : LifeState). reached p word_of v first) same in
+      (part.0, row_told parts rows more (disk new).may_leave (before ++ first) (reached p word_of u first) later there from.2 rest part.1 (life_last p word_of u first later life_all) (filled_last u first later filled_all) noted.1 gated.1)
+
   first_closed : (parts : List (RunPart S)) (rows : List (List Note)) (told : AreRunsTold disk keys p parts rows) (P : (ℕ → Bool) → Type 0) → P (λ cell. false) → ((gates : ℕ → Bool) → first_gates disk keys p parts rows told ≡ Some gates → P gates) → P (found_first parts rows told)
   first_closed [] rows told P none some = none
   first_closed (Stopped old new ∷ parts) rows told P none some = none
@@ -182,22 +209,45 @@ same_rows : (rows : List (List Note)) → rows_of (map (λ notes. (notes, [])) r
 same_rows [] = refl
 same_rows (notes ∷ rows) = ap (λ (all : List (List Note)). notes ∷ all) (same_rows rows)
 
+-- before the first run
+nothing_before : (p : Params) (word_of : WordId → ℕ) (slot : ℕ → ℕ → ℕ) (f : AllFills) → IsLifeFilled p word_of slot f []
+nothing_before p word_of slot f = record { life = tt; ends = tt; whole = tt; filled = record { leaves = λ l h. absurd h; slots_are = λ x h. absurd h } }
+
+-- the first run finds a format's gates closed, and each leaves what it showed
+row_admitted : {S : Type 0} (disk : S → Disk) (keys : Keys) (p : Params) (word_of : WordId → ℕ) (may_leave : Image → Type 0) (parts : List (RunPart S)) (rows : List (List Note)) (from : AreRunsFrom disk keys p may_leave parts) (told : AreRunsTold disk keys p parts rows)
+    (row : IsRowInLife disk keys p word_of parts) (f : AllFills) → AreAllFills p f → FillsAll p word_of f (planned_labels p word_of (reached p word_of (formatted_life row.slot) row.acts)) (life_slots p word_of (formatted_life row.slot) row.acts)
+    → IsRowAsShown disk keys p word_of parts rows told row f → IsHistory p (lines_of_runs p rows) × AreAdmitted (lines_of_runs p rows)
+row_admitted disk keys p word_of may_leave parts rows from told row f are filled as_shown =
+    let in_life : AreRunsInLife p word_of row.slot f [] (found_first disk keys p word_of row.slot f row.ranked parts rows told) (map (λ notes. (notes, [])) rows) =
+    row_goes disk keys p word_of row.slot f row.ranked parts rows told may_leave [] (formatted_life row.slot) row.acts refl from row.parts_are (nothing_before p word_of row.slot f) row.is_life filled as_shown.left in
+    let closed = first_closed disk keys p word_of row.slot f row.ranked parts rows told
+    (λ gates. ((found_of_life p (formatted_life row.slot) gates).generation_gate ≡ false) × ((found_of_life p (formatted_life row.slot) gates).epoch_gate ≡ false)) (refl, refl) as_shown.first in
+    subst (λ (all : List (List Note)). IsHistory p (lines_of_runs p all) × AreAdmitted (lines_of_runs p all)) (same_rows rows)
+    (lives_are p word_of row.slot f (found_first disk keys p word_of row.slot f row.ranked parts rows told) (map (λ notes. (notes, [])) rows) row.ranked are closed.0 closed.1 in_life)
+
+row_filled : {S : Type 0} (disk : S → Disk) (keys : Keys) (p : Params) (word_of : WordId → ℕ) (parts : List (RunPart S)) (row : IsRowInLife disk keys p word_of parts) (has : HasFills p word_of (formatted_life row.slot) row.acts)
+    → FillsAll p word_of has.fills (planned_labels p word_of (reached p word_of (formatted_life row.slot) row.acts)) (life_slots p word_of (formatted_life row.slot) row.acts)
+row_filled disk keys p word_of parts row has = record { leaves = (has.planned).leaves; slots_are = (has.shown).slots_are }
+
 pub rows_of_runs : {S : Type 0} (disk : S → Disk) → RowsOfRunsAreAdmitted disk
 rows_of_runs disk keys p drawn made parts rows formatted from told word_of given =
     let row : IsRowInLife disk keys p word_of parts = row_lives disk keys p word_of drawn made parts rows formatted from told given in
     let has : HasFills p word_of (formatted_life row.slot) row.acts = lives_are_filled p word_of row.slot row.acts row.ranked row.is_life in
-    let filled : FillsAll p word_of has.fills (planned_labels p word_of (reached p word_of (formatted_life row.slot) row.acts)) (life_slots p word_of (formatted_life row.slot) row.acts) =
-    record { leaves = (has.planned).leaves; slots_are = (has.shown).slots_are } in
-    let start : IsLifeFilled p word_of row.slot has.fills [] = record { life = tt; ends = tt; whole = tt; filled = record { leaves = λ l h. absurd h; slots_are = λ x h. absurd h } } in (
+    let filled = row_filled disk keys p word_of parts row has in
+    (row, has.fills, has.are, filled, λ as_shown. row_admitted disk keys p word_of (disk made).may_leave parts rows from told row has.fills has.are filled as_shown)
+
+pub noted_runs : {S : Type 0} (disk : S → Disk) → NotedRunsAreAdmitted disk
+noted_runs disk keys p drawn made parts rows formatted from told noted word_of given =
+    let both = row_noted disk keys p word_of drawn made parts rows formatted from told given in
+    let row : IsRowInLife disk keys p word_of parts = both.0 in
+    let has : HasFills p word_of (formatted_life row.slot) row.acts = lives_are_filled p word_of row.slot row.acts row.ranked row.is_life in
+    let filled = row_filled disk keys p word_of parts row has in (
       row,
       has.fills,
       has.are,
       filled,
-      λ as_shown.
-          let in_life : AreRunsInLife p word_of row.slot has.fills [] (found_first disk keys p word_of row.slot has.fills row.ranked parts rows told) (map (λ notes. (notes, [])) rows) =
-          row_goes disk keys p word_of row.slot has.fills row.ranked parts rows told (disk made).may_leave [] (formatted_life row.slot) row.acts refl from row.parts_are start row.is_life filled as_shown.left in
-          let closed = first_closed disk keys p word_of row.slot has.fills row.ranked parts rows told
-          (λ gates. ((found_of_life p (formatted_life row.slot) gates).generation_gate ≡ false) × ((found_of_life p (formatted_life row.slot) gates).epoch_gate ≡ false)) (refl, refl) as_shown.first in
-          subst (λ (all : List (List Note)). IsHistory p (lines_of_runs p all) × AreAdmitted (lines_of_runs p all)) (same_rows rows)
-          (lives_are p word_of row.slot has.fills (found_first disk keys p word_of row.slot has.fills row.ranked parts rows told) (map (λ notes. (notes, [])) rows) row.ranked has.are closed.0 closed.1 in_life),
+      λ gated. row_admitted disk keys p word_of (disk made).may_leave parts rows from told row has.fills has.are filled (record {
+        first = gated.first;
+        left = row_told disk keys p word_of row.slot has.fills row.ranked parts rows told (disk made).may_leave [] (formatted_life row.slot) row.acts refl from row.parts_are (nothing_before p word_of row.slot has.fills) row.is_life filled (both.1 noted) gated.left;
+      }),
     )

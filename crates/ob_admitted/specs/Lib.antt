@@ -13,3 +13,4 @@ pub mod Lives
 pub mod Parts
 pub mod Walks
 pub mod Openings
+pub mod Told

@@ -1,5 +1,7 @@
 //! What fills the holes of all epochs of a life.
 
+ghost use Rattle.ob_serial.specs.VaultKinds.{kind_of};
+ghost use Rattle.ob_vault.specs.Spans.{span};
 ghost use Rattle.ob_admitted.specs.Between.{
   OpeningsLeaveHistories,
   RepeatsLeaveHistories,
@@ -17,9 +19,11 @@ ghost use Rattle.ob_admitted.specs.Publics.{LivesGoByFills};
 ghost use Rattle.ob_admitted.specs.Repeats.{OpeningsGoByFills};
 ghost use Rattle.ob_admitted.specs.Rows.{RowsAreAdmitted};
 ghost use Rattle.ob_admitted.specs.Served.{ServedRunsAreShown};
+ghost use Rattle.ob_admitted.specs.Told.{CallsLeaveAsNoted, NotedRunsAreAdmitted, StagesLeaveAsNoted};
 ghost use Rattle.ob_admitted.specs.Walks.{RowsOfRunsAreAdmitted};
 ghost use Rattle.ob_admitted.specs.Wholes.{RunsShowHistories};
 
+use ob_serial::Vault;
 use ob_store::Store;
 
 /// Each life from a format on, of any number of runs, crashes and repeats, has fills of all epochs
@@ -137,4 +141,28 @@ pub fn rows_of_runs_are_admitted<S: Store>()
 /// showed so many notes, and all that the running epoch may show is these fills.
 pub fn openings_are_runs()
     ensures { OpeningsAreRuns }
+{}
+
+/// What is left of a call that was refused is as its notes tell: a batch's record isn't in the log, and
+/// not in flight, where two of its record's notes or more lack, and it is in the log where none does; an
+/// end isn't in flight where two of its notes or more lack.
+pub fn calls_leave_as_noted<V: Vault, S: Store>()
+    ensures { CallsLeaveAsNoted (kind_of V.Vault) (λ store. S.disk store) }
+{}
+
+/// So runs over a formatted store, as above, show a public history where each refused call left what
+/// its notes tell. Premise: the gates are found as their writes and syncs leave them.
+pub fn noted_runs_are_admitted<S: Store>()
+    ensures { NotedRunsAreAdmitted (λ store. S.disk store) }
+{}
+
+/// And so it is of a call that was cut off in a stage: by the notes that were shown in that stage.
+pub fn stages_leave_as_noted()
+    ensures { StagesLeaveAsNoted }
+{}
+
+/// So rows of runs that were cut off in stages, each left as a crash at a moment of the stage leaves it,
+/// are admitted too. Premise: as above.
+pub fn noted_stages_are_admitted<S: Store>()
+    ensures { NotedRunsAreAdmitted (span (λ store. S.disk store)) }
 {}

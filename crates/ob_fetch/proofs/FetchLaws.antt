@@ -27,11 +27,11 @@ use Rattle.ob_store.specs.Calls.{Keeps, Notes}
 use Rattle.ob_store.specs.Disk.{Clock, Disk, Image, NotAfter}
 use Rattle.ob_store.specs.Images.{IsSynced, LeavesOnly, Passes, Same, SameOff}
 use Rattle.ob_store.specs.Lines.{Trace}
-use Rattle.ob_store.specs.Told.{TellsFirst, events_of}
+use Rattle.ob_store.specs.Told.{Tells, TellsFirst, events_of}
 use Rattle.ob_store.specs.declared.event.Event.{Event}
 use Rattle.ob_store.specs.declared.watch.Note.{Note}
 use Rattle.ob_fetch.proofs.NextLaws.{Begun, at_batch, batch_is, may, seals_listed, stands_listed, stands_then}
-use Rattle.ob_fetch.specs.Fetches.{DrawsWords, FetchAnswers, FetchDoes, FetchDraws, RunIsAt, FetchStages, IsFetchInStages, IsFetchRefusal, IsLoggedFirst, IsWornForBatch, MovesPlanner, next_batch, record_next, words_since}
+use Rattle.ob_fetch.specs.Fetches.{DrawsWords, FetchAnswers, FetchDoes, FetchDraws, RunIsAt, FetchStages, IsFetchInStages, IsRecordInStages, IsFetchRefusal, IsLoggedFirst, IsWornForBatch, MovesPlanner, next_batch, record_next, words_since}
 use Rattle.ob_fetch.specs.declared.run.Run.{Run}
 
 -- ---- refusals, by their kind
@@ -175,11 +175,12 @@ leaves_read P old mid new only counts first passes =
 -- In two stages: its record's gate was synced, and then it was read.
 pub in_stages : {S : Type 0} (disk : S → Disk) (run : Run) (s : RingStanding) (r : BatchRecord) (old mid new : S) → ((c : Image) → (disk mid).left_since (disk mid).moment c → (disk mid).may_leave c)
     → Notes (events_of (append_notes run.params (suc run.epoch) r.batch)) (disk old).seen (disk mid).seen → LeavesOnly (disk old) (disk mid) (OneOf (run.sealer).keys run.params s (with_record s r))
-    → IsSynced (disk mid) → Stands (run.sealer).keys run.params (with_record s r) (disk mid).cells → Passes Same (disk mid) (disk new) → IsFetchInStages disk run s r old new
-in_stages disk run s r old mid new only made until synced stands passes = record {
+    → IsRecordInStages disk run s r old mid → IsSynced (disk mid) → Stands (run.sealer).keys run.params (with_record s r) (disk mid).cells → Passes Same (disk mid) (disk new) → IsFetchInStages disk run s r old new
+in_stages disk run s r old mid new only made until logs synced stands passes = record {
   between = mid;
   made = made;
   until = until;
+  logs = logs;
   since = leaves_of Same (Stands (run.sealer).keys run.params (with_record s r)) (Stands (run.sealer).keys run.params (with_record s r)) (disk mid) (disk new) passes only
       (λ c left. stands_all (run.sealer).keys run.params (with_record s r) c (disk mid).cells (synced c left) stands) (λ tells. stands) (λ c d was step. subst (Stands (run.sealer).keys run.params (with_record s r)) (sym step) was) (λ c was. was);
 }
@@ -198,11 +199,6 @@ module _ {S : Type 0} (disk : S → Disk) (run : Run) (s : RingStanding) (r : Ba
   stages_refused (Worn number) fault both = absurd fault
   stages_refused SourceFault fault both = both
   stages_refused SinkFault fault both = both
-
-  -- refused while the batch was begun
-  pub stages_begun : {before later : Trace} (f : Fault) → f ≡ StoreFault None → TellsFirst (append_notes run.params (suc run.epoch) r.batch) (disk old).seen (disk new).seen before later
-      → LeavesOnly (disk old) (disk new) (OneOf (run.sealer).keys run.params s (with_record s r)) → FetchStages disk run s r old new (Err f)
-  stages_begun f is first leaves = subst (λ (e : Fault). FetchStages disk run s r old new (Err e)) (sym is) (inr ((first.made, first.shown, first.cut, (first.tells).seen), leaves))
 
 -- ---- what is in the cells
 
@@ -242,6 +238,22 @@ drawn_many places old new draws = ap length draws.words ∙ length-append old (w
 
 pub next_is : (epoch : ℕ) → epoch + 1 ≡ suc epoch
 next_is epoch = omega arith
+
+-- its record was opened first
+pub logged_first : {S : Type 0} (disk : S → Disk) (most : ℕ) (keys : Keys) (p : Params) (epoch : ℕ) (r : BatchRecord) (cells : List ℕ) (notes : List Note) (old mid new : S) (before shown later : Trace) (x : Result (Unit {0}) Fault)
+    → Tells (append_notes p (epoch + 1) r.batch) (append_notes p (epoch + 1) r.batch) (disk old).seen (disk mid).seen before shown
+    → ((records : List BatchRecord) → (disk old).tells → length records ≡ r.batch → OpenRecords keys p (epoch + 1) records (disk old).cells → (c : Image) → (disk mid).may_leave c → OpenRecords keys p (epoch + 1) (records ++ r ∷ []) c)
+    → Passes Same (disk mid) (disk new) → BatchTells most cells notes (disk mid).seen (disk new).seen shown later x → IsLoggedFirst disk most keys p (suc epoch) r cells notes old new before later x
+logged_first disk most keys p epoch r cells notes old mid new before shown later x appended opened behind read = record {
+  between = mid;
+  shown = shown;
+  appended = subst (λ (e : ℕ). Tells (append_notes p e r.batch) (append_notes p e r.batch) (disk old).seen (disk mid).seen before shown) (next_is epoch) appended;
+  logged = λ records image tells long held left.
+      subst (λ (e : ℕ). OpenRecords keys p e (records ++ r ∷ []) image) (next_is epoch)
+      (opened records tells long (subst (λ (e : ℕ). OpenRecords keys p e records (disk old).cells) (sym (next_is epoch)) held) image left);
+  behind = behind;
+  read = read;
+}
 
 -- the cells of its record
 abbrev pub RecordStep : Run → ℕ → Image → Image → Type 0
@@ -292,12 +304,12 @@ pub stages_logged : {S : Type 0} (disk : S → Disk) (run : Run) (s : RingStandi
     → ((records : List BatchRecord) → (disk old).tells → IsSynced (disk old) → length records ≡ next_batch run → OpenRecords (run.sealer).keys run.params (run.epoch + 1) records (disk old).cells
     → LeavesOnly (disk old) (disk mid) (HoldsOneOf (run.sealer).keys run.params (run.epoch + 1) records (record_next run asks words)))
     → HoldsRecord (run.sealer).keys run.params (run.epoch + 1) (next_batch run) (record_next run asks words) (disk mid).cells → IsSynced (disk mid)
-    → Notes (events_of (append_notes run.params (run.epoch + 1) (next_batch run))) (disk old).seen (disk mid).seen → Passes Same (disk mid) (disk new) → IsFetchInStages disk run s (record_next run asks words) old new
-stages_logged disk run s asks words old mid new only_old only_mid was some few obeys within images written synced seen passes =
+    → Notes (events_of (append_notes run.params (run.epoch + 1) (next_batch run))) (disk old).seen (disk mid).seen → IsRecordInStages disk run s (record_next run asks words) old mid → Passes Same (disk mid) (disk new) → IsFetchInStages disk run s (record_next run asks words) old new
+stages_logged disk run s asks words old mid new only_old only_mid was some few obeys within images written synced seen logs passes =
     let r : BatchRecord = record_next run asks words in
     let begun = begun_now run asks words (disk old) (disk mid) some few obeys (within_next run (disk old) (disk mid) within) was.tells in
     in_stages disk run s r old mid new only_mid (subst (λ (e : ℕ). Notes (events_of (append_notes run.params e (next_batch run))) (disk old).seen (disk mid).seen) (next_is run.epoch) seen)
-    (begun_leaves run s r (disk old) (disk mid) was begun only_old within images) synced
+    (begun_leaves run s r (disk old) (disk mid) was begun only_old within images) logs synced
     (stands_then run s r (disk old) (disk mid) was begun (subst (λ (e : ℕ). HoldsRecord (run.sealer).keys run.params e (next_batch run) r (disk mid).cells) (next_is run.epoch) written)) passes
 
 -- ---- a batch that was read, by the names that a run has for its parts

@@ -11,7 +11,7 @@ use Rattle.ob_tables.specs.Content.{Content}
 use Rattle.ob_stand.specs.Table.{buckets_of, flat_of}
 use Rattle.ob_log.specs.Appends.{append_notes}
 use Rattle.ob_log.specs.Logs.{BatchRecord, RecordFits, RecordObeys, RecordsFit}
-use Rattle.ob_recover.specs.Repeats.{BatchIsShown, NoneIsShown, asked_of_record, batch_cells, place_notes, repeated_notes, table_after_records}
+use Rattle.ob_recover.specs.Repeats.{BatchIsShown, IsRepeatFault, NoneIsShown, asked_of_record, batch_cells, place_notes, repeated_notes, table_after_records}
 use Rattle.ob_ring.specs.FlatTable.{FlatTable, after_place, leaf_shown}
 use Rattle.ob_ring.specs.Picked.{SameSeals, place_picked}
 use Rattle.ob_ring.specs.Ring.{Kept, StandsFor}
@@ -30,7 +30,7 @@ use Rattle.ob_schedule.proofs.Phased.{steps_phased}
 use Rattle.ob_seal.specs.declared.keys.Keys.{Keys}
 use Rattle.ob_store.specs.Disk.{Disk}
 use Rattle.ob_store.specs.Lines.{Shows, Trace}
-use Rattle.ob_store.specs.Told.{IsCut, Tells, TellsFirst}
+use Rattle.ob_store.specs.Told.{Tells, TellsFirst}
 use Rattle.ob_store.specs.declared.event.Event.{Event}
 use Rattle.ob_store.specs.declared.watch.Note.{Note}
 use Rattle.ob_store.specs.declared.watch.Note.TheVariants as note
@@ -88,25 +88,6 @@ pub record IsShownOf (most : ℕ) (p : Params) (g : ℕ) (gates : Gates) (ring :
   pub shows : Shows notes before later
   pub reads_as : (c : Content) (rs : List BatchRecord) → PlansFrom p g gates ring c rs → length rs ≡ batch
       → IsShown most (batch_phases p (public_of_kept p c rs epoch gates) (fills_of p c (rs ++ r ∷ [])) (length rs)) (batch_notes p (public_of_kept p c rs epoch gates) (fills_of p c (rs ++ r ∷ [])) (length rs)) notes old new
-
-no_store_worn : (A : Type 0) (number : ℕ) → Worn number ≡ StoreFault None → A
-no_store_worn A number e = absurd (cc)
-
--- the record's own writes were cut short
-cut_short : {S : Type 0} (disk : S → Disk) (keys : Keys) (p : Params) (epoch : ℕ) (r : BatchRecord) (made notes : List Note) (old new : S) (x : Result (Unit {0}) Fault)
-    → IfErr x (λ f. f ≡ StoreFault None) → IsCut (append_notes p epoch r.batch) made notes → IsOpenIfShown disk keys p epoch r notes old new x
-cut_short disk keys p epoch r made notes old new (Ok done) is cut = tt
-cut_short disk keys p epoch r made notes old new (Err Memory) is cut = tt
-cut_short disk keys p epoch r made notes old new (Err Usage) is cut = tt
-cut_short disk keys p epoch r made notes old new (Err (BadScript line)) is cut = tt
-cut_short disk keys p epoch r made notes old new (Err (BadParams field)) is cut = tt
-cut_short disk keys p epoch r made notes old new (Err NotStore) is cut = tt
-cut_short disk keys p epoch r made notes old new (Err (Damaged cell check kept computed)) is cut = tt
-cut_short disk keys p epoch r made notes old new (Err (StoreFault unsure)) is cut = inl (made, cut)
-cut_short disk keys p epoch r made notes old new (Err (StashFull rows)) is cut = tt
-cut_short disk keys p epoch r made notes old new (Err (Worn number)) is cut = no_store_worn (notes ≡ []) number is
-cut_short disk keys p epoch r made notes old new (Err SourceFault) is cut = tt
-cut_short disk keys p epoch r made notes old new (Err SinkFault) is cut = tt
 
 -- where the store failed in the record's writes, the first of them are shown
 pub begun_shown : (x : Result (Unit {0}) Fault) → IsErr x → IfErr x (λ f. f ≡ StoreFault None) → (most : ℕ) (logged : List Note) (phases : List Phase) (row shown : List Note) (old new : Option (List Event))
@@ -171,10 +152,6 @@ module _ (most : ℕ) (p : Params) (g : ℕ) (gates : Gates) (ring : Kept) (batc
       pub shown_begun : (first : TellsFirst written old new before later) → IsFrontShown most (phases_of written) written first.shown old new
       shown_begun first = front_step most written old new before later (has_appended most p (suc epoch) r.batch) first
 
-      -- which is no more than these
-      pub open_begun : {S : Type 0} (disk : S → Disk) (keys : Keys) (a b : S) (first : TellsFirst written old new before later) (x : Result (Unit {0}) Fault) → IfErr x (λ f. f ≡ StoreFault None) → IsOpenIfShown disk keys p (suc epoch) r first.shown a b x
-      open_begun disk keys a b first x is = cut_short disk keys p (suc epoch) r first.made first.shown a b x is first.cut
-
     module _ (old mid new : Option (List Event)) (before between later : Trace) (made : Tells written written old mid before between) where
       row_written : IsRowShown most (phases_of written) written written old mid
       row_written = row_step most written old mid (has_appended most p (suc epoch) r.batch) made.seen
@@ -228,44 +205,45 @@ module _ (most : ℕ) (p : Params) (g : ℕ) (gates : Gates) (ring : Kept) (batc
       maybe unsure d (inl read) = shown_store (disk old).seen (disk d.between).seen (disk new).seen before d.shown later d.appended unsure read
       maybe unsure d (inr none) = shown_log (disk old).seen (disk d.between).seen (disk new).seen before d.shown later d.appended unsure none
 
-      by_fault : (f : Fault) → FetchDoes disk most keys p (suc epoch) r cells read_notes old new before later (Err f) → Shown (Refused f) (disk old).seen (disk new).seen before later
-      by_fault Memory d = whole Memory d d.read
-      by_fault Usage d = whole Usage d d.read
-      by_fault (BadScript line) d = whole (BadScript line) d d.read
-      by_fault (BadParams field) d = whole (BadParams field) d d.read
-      by_fault NotStore d = whole NotStore d d.read
-      by_fault (Damaged cell check kept computed) d = whole (Damaged cell check kept computed) d d.read
-      by_fault (StoreFault unsure) (inl first) = record {
-        notes = first.shown;
-        shows = (first.tells).shows;
-        reads_as = λ c rs was many. inl (shown_begun (disk old).seen (disk new).seen before later first);
-      }
-      by_fault (StoreFault unsure) (inr logged) = maybe unsure logged logged.read
-      by_fault (StashFull rows) d = whole (StashFull rows) d d.read
-      by_fault (Worn number) d = shown_none number (disk old).seen (disk new).seen before later d
-      by_fault SourceFault d = whole SourceFault d d.read
-      by_fault SinkFault d = whole SinkFault d d.read
+      by_fault : (f : Fault) → IsRepeatFault f → Logged f → Shown (Refused f) (disk old).seen (disk new).seen before later
+      by_fault Memory fault d = absurd fault
+      by_fault Usage fault d = absurd fault
+      by_fault (BadScript line) fault d = absurd fault
+      by_fault (BadParams field) fault d = absurd fault
+      by_fault NotStore fault d = absurd fault
+      by_fault (Damaged cell check kept computed) fault d = whole (Damaged cell check kept computed) d d.read
+      by_fault (StoreFault unsure) fault d = maybe unsure d d.read
+      by_fault (StashFull rows) fault d = absurd fault
+      by_fault (Worn number) fault d = absurd fault
+      by_fault SourceFault fault d = absurd fault
+      by_fault SinkFault fault d = absurd fault
 
-      -- it was refused
-      pub shown_cut : (f : Fault) → DoesSo (Err f) → Shown (Refused f) (disk old).seen (disk new).seen before later
-      shown_cut f does = by_fault f (does ring.metas t (same_seals ring.metas) stands)
+      -- as a fetch does it whose record was opened, of any buckets and any table
+      abbrev LoggedSo : Fault → Type 0
+      LoggedSo f = (start : Buckets) (u : FlatTable) → SameSeals start ring.metas → StandsFor ring u
+          → IsLoggedFirst disk most keys p (suc epoch) r (batch_cells p start.versions u (asked_of_record p r)) (repeated_notes p start.versions u (asked_of_record p r)) old new before later (Err f)
+
+      -- all of the record's notes come first
+      behind_record : (unsure : Option ℕ) (d : Logged (StoreFault unsure)) (x : BatchIsShown most cells read_notes (disk d.between).seen (disk new).seen d.shown later ⊎ NoneIsShown (disk d.between).seen (disk new).seen d.shown later)
+          → (more : List Note) × ((maybe unsure d x).notes ≡ written ++ more)
+      unfolding maybe shown_store shown_log
+      behind_record unsure d (inl read) = (read_notes, refl)
+      behind_record unsure d (inr none) = ([], refl)
 
       -- what was shown behind the record's writes, was shown behind its opening
-      open_by : (f : Fault) (d : FetchDoes disk most keys p (suc epoch) r cells read_notes old new before later (Err f)) → IsOpenIfShown disk keys p (suc epoch) r (by_fault f d).notes old new (Err f)
-      unfolding by_fault shown_none
-      open_by Memory d = tt
-      open_by Usage d = tt
-      open_by (BadScript line) d = tt
-      open_by (BadParams field) d = tt
-      open_by NotStore d = tt
-      open_by (Damaged cell check kept computed) d = tt
-      open_by (StoreFault unsure) (inl first) = inl (first.made, first.cut)
-      open_by (StoreFault unsure) (inr logged) = inr (record { between = logged.between; logged = logged.logged; behind = logged.behind })
-      open_by (StashFull rows) d = tt
-      open_by (Worn number) d = refl
-      open_by SourceFault d = tt
-      open_by SinkFault d = tt
+      open_by : (f : Fault) (fault : IsRepeatFault f) (d : Logged f) → IsOpenIfShown disk keys p (suc epoch) r (by_fault f fault d).notes old new (Err f)
+      unfolding by_fault
+      open_by Memory fault d = tt
+      open_by Usage fault d = tt
+      open_by (BadScript line) fault d = tt
+      open_by (BadParams field) fault d = tt
+      open_by NotStore fault d = tt
+      open_by (Damaged cell check kept computed) fault d = tt
+      open_by (StoreFault unsure) fault d = inr (record { between = d.between; logged = d.logged; behind = d.behind }, behind_record unsure d d.read)
+      open_by (StashFull rows) fault d = tt
+      open_by (Worn number) fault d = absurd fault
+      open_by SourceFault fault d = tt
+      open_by SinkFault fault d = tt
 
-      pub open_cut : (f : Fault) (does : DoesSo (Err f)) → IsOpenIfShown disk keys p (suc epoch) r (shown_cut f does).notes old new (Err f)
-      unfolding shown_cut
-      open_cut f does = open_by f (does ring.metas t (same_seals ring.metas) stands)
+      pub cut_scheduled : (f : Fault) → IsRepeatFault f → LoggedSo f → (x : Shown (Refused f) (disk old).seen (disk new).seen before later) × IsOpenIfShown disk keys p (suc epoch) r x.notes old new (Err f)
+      cut_scheduled f fault does = (let d = does ring.metas t (same_seals ring.metas) stands in (by_fault f fault d, open_by f fault d))

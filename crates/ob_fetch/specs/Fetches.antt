@@ -10,7 +10,7 @@ use Rattle.ob_cells.specs.Jobs.{Manned}
 use Rattle.ob_tables.specs.Version.{Version}
 use Rattle.ob_tables.specs.Content.{Rows}
 use Rattle.ob_stand.specs.Table.{flat_of}
-use Rattle.ob_log.specs.Appends.{IsWornOut, append_notes}
+use Rattle.ob_log.specs.Appends.{IsWornOut, LeavesOf, append_notes, body_notes, gate_notes}
 use Rattle.ob_log.specs.Logs.{BatchRecord, OpenRecords}
 use Rattle.ob_recover.specs.Fits.{IsPlannerFit}
 use Rattle.ob_recover.specs.Repeats.{AreRepeated, BatchIsRead, BatchTells, IsBatchDamage, IsPlannerOf, asked_of_record, record_of, record_places}
@@ -195,10 +195,18 @@ module _ {S : Type 0} (disk : S → Disk) where
         → OpenRecords keys p epoch (records ++ r ∷ []) c
     pub behind : Passes Same (disk between) (disk new)
 
-  -- Of a fetch that the store refused, these notes are the first of the record's own, or the record was open first; where numbers are worn
-  -- there are none.
+  -- These notes are the first of those of the record's body, and each image that a crash might have left keeps the records that were there.
+  pub record IsBodyAlone (keys : Keys) (p : Params) (epoch batch : ℕ) (notes : List Note) (old new : S) : Type 0 where
+    pub made : List Note
+    pub cut : IsCut (body_notes p epoch batch) made notes
+    pub kept : LeavesOf keys p epoch batch (disk old) (disk old) (disk new) (λ records. OpenRecords keys p epoch records)
+
+  -- Of a fetch that the store refused, these notes are of the record's body alone, and then no image has the record; or they are all of the
+  -- record's but the last sync; or the record was open first, and all of its notes were shown. Where numbers are worn there are none.
   abbrev pub IsOpenIfShown : Keys → Params → ℕ → BatchRecord → List Note → S → S → Result (Unit {0}) Fault → Type 0
-  IsOpenIfShown keys p epoch r notes old new (Err (fault.StoreFault unsure)) = ((made : List Note) × IsCut (append_notes p epoch r.batch) made notes) ⊎ IsOpenBetween keys p epoch r old new
+  IsOpenIfShown keys p epoch r notes old new (Err (fault.StoreFault unsure)) =
+      (IsBodyAlone keys p epoch r.batch notes old new ⊎ (notes ≡ gate_notes p epoch r.batch))
+      ⊎ (IsOpenBetween keys p epoch r old new × ((more : List Note) × (notes ≡ append_notes p epoch r.batch ++ more)))
   IsOpenIfShown keys p epoch r notes old new (Err (fault.Worn number)) = notes ≡ []
   IsOpenIfShown keys p epoch r notes old new _ = Unit {0}
 
@@ -221,19 +229,31 @@ FetchStands s r asks disk run out (Err _) = ⊥
 abbrev pub AreFirstMade : List Note → Option (List Event) → Option (List Event) → Type 0
 AreFirstMade steps old new = (made : List Note) × (shown : List Note) × IsCut steps made shown × Notes (events_of made) old new
 
-module _ {S : Type 0} (disk : S → Disk) (run : Run) (s : RingStanding) (r : BatchRecord) (old new : S) where
+module _ {S : Type 0} (disk : S → Disk) (run : Run) (s : RingStanding) (r : BatchRecord) where
+  -- Until the body of the batch's record was synced a crash leaves what stood; while its gate is opened, that or that with the record.
+  abbrev pub IsRecordInStages : S → S → Type 0
+  IsRecordInStages old new = InTwoStages disk (Notes (events_of (body_notes run.params (suc run.epoch) r.batch))) (Stands (run.sealer).keys run.params s) (OneOf (run.sealer).keys run.params s (with_record s r)) old new
+
   -- Until the sync behind the gate of the batch's record the store was called for the record alone, and a crash leaves what stood, or that with
   -- the record. From then on, while the batch is read, it leaves that with the record.
-  abbrev pub IsFetchInStages : Type 0
-  IsFetchInStages = InTwoStages disk (Notes (events_of (append_notes run.params (suc run.epoch) r.batch))) (OneOf (run.sealer).keys run.params s (with_record s r)) (Stands (run.sealer).keys run.params (with_record s r)) old new
+  pub record IsFetchInStages (old new : S) : Type 0 where
+    pub between : S
+    pub made : Notes (events_of (append_notes run.params (suc run.epoch) r.batch)) (disk old).seen (disk between).seen
+    pub until : LeavesOnly (disk old) (disk between) (OneOf (run.sealer).keys run.params s (with_record s r))
+    pub logs : IsRecordInStages old between
+    pub since : LeavesOnly (disk between) (disk new) (Stands (run.sealer).keys run.params (with_record s r))
 
-  -- Refused by the store it may have come no further than the first of the record's calls; where numbers are worn nothing was done.
-  abbrev pub FetchStages : Result (Unit {0}) Fault → Type 0
-  FetchStages (Err (fault.StoreFault unsure)) =
-      IsFetchInStages
-      ⊎ (AreFirstMade (append_notes run.params (suc run.epoch) r.batch) (disk old).seen (disk new).seen × LeavesOnly (disk old) (disk new) (OneOf (run.sealer).keys run.params s (with_record s r)))
-  FetchStages (Err (fault.Worn number)) = new ≡ old
-  FetchStages result = IsFetchInStages
+  -- No more than the first of the record's calls were made: those of its body alone, and then a crash leaves what stood; or its gate's too.
+  pub record IsFetchCut (old new : S) : Type 0 where
+    pub first : AreFirstMade (append_notes run.params (suc run.epoch) r.batch) (disk old).seen (disk new).seen
+    pub leaves : LeavesOnly (disk old) (disk new) (OneOf (run.sealer).keys run.params s (with_record s r))
+    pub how : (AreFirstMade (body_notes run.params (suc run.epoch) r.batch) (disk old).seen (disk new).seen × LeavesOnly (disk old) (disk new) (Stands (run.sealer).keys run.params s)) ⊎ IsRecordInStages old new
+
+  -- Refused by the store it may have come no further than the record; where numbers are worn nothing was done.
+  abbrev pub FetchStages : S → S → Result (Unit {0}) Fault → Type 0
+  FetchStages old new (Err (fault.StoreFault unsure)) = IsFetchInStages old new ⊎ IsFetchCut old new
+  FetchStages old new (Err (fault.Worn number)) = new ≡ old
+  FetchStages old new result = IsFetchInStages old new
 
 -- So it is for each standing that the run was at; and a crash at any moment leaves what stood, or that with the record, in this order.
 pub record FetchOfStanding {S : Type 0} (disk : S → Disk) (old new : Run) (before behind : S) (r : BatchRecord) (asks : List (Option ℕ)) (out : List (Option (List ℕ))) (result : Result (Unit {0}) Fault) : Type 0 where

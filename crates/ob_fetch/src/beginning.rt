@@ -4,7 +4,7 @@ ghost use Rattle.std.specs.Prelude.{◌≡◌, ◌⊎◌, ◌<◌, ◌≤◌, �
 ghost use Rattle.ob_base.specs.Layout.{log_cell, record_cells};
 ghost use Rattle.ob_base.specs.declared.fault.Fault.TheVariants as fault;
 ghost use Rattle.ob_cells.specs.Writes.{Seals, WritesWithin};
-ghost use Rattle.ob_log.specs.Appends.{HoldsOneOf, HoldsRecord, append_notes, record_for};
+ghost use Rattle.ob_log.specs.Appends.{AppendStages, HoldsOneOf, HoldsRecord, append_notes, record_for};
 ghost use Rattle.ob_log.specs.Logs.{BatchRecord, OpenRecords, RecordObeys};
 ghost use Rattle.ob_pads.specs.Seals.{CellsAreSealed};
 ghost use Rattle.ob_store.specs.Calls.{IsStoreFault, Serves};
@@ -87,6 +87,9 @@ pub fn begin_batch<S: Store, T: Tape, W: Watch>(
         → LeavesOnly (S.disk store.old) (S.disk store.new) (HoldsOneOf sealer.old.keys p.now epoch
         rs (record_for sealer.old batch first asks.now
         (words_since (T.drawn tape.old) (T.drawn tape.new)))) }
+    ensures stages { AppendStages S.disk sealer.old.keys p.now epoch batch (record_for sealer.old
+        batch first asks.now (words_since (T.drawn tape.old) (T.drawn tape.new))) store.old
+        store.new (W.trace watch.old) (W.trace watch.new) result }
     ensures does { Does (append_notes p.now epoch batch) (S.disk store.old).seen
         (S.disk store.new).seen (W.trace watch.old) (W.trace watch.new) result }
 {

@@ -40,7 +40,8 @@ use std::thread::Threads;
 /// value of its key, or none for a pad and for a key that is absent. One batch less is left. It
 /// takes no memory.
 ///
-/// While it runs a crash leaves what stood, or that with the batch's record.
+/// Until the body of the batch's record is synced a crash leaves what stood; until the record is
+/// open, that, or that with the record; and from then on that with the record.
 ///
 /// # Errors
 /// Worn with `2^62` exactly where fewer words than the batch has places, or fewer seals than its
@@ -111,8 +112,8 @@ pub fn fetch<S: Lanes, R: Threads + Sync, T: Tape, W: Watch>(
         (record_next run.old asks.now (words_since (T.drawn tape.old) (T.drawn tape.new)))))
         store.old store.new (W.trace watch.old) (W.trace watch.new) result }
     // It shows the schedule's batch of what the store knows of the epoch, whose reads are dealt to
-    // the crew's lanes, and refused what its answer says of it; of what the store failed in, no
-    // more than the record's notes come before that is open.
+    // the crew's lanes, and refused what its answer says of it. Where the store failed no image
+    // has the record with its body alone shown, and each has it with all of its notes shown.
     ensures scheduled { (notes : List Note) × Shows notes (W.trace watch.old) (W.trace watch.new)
         × IsOpenIfShown S.disk run.old.sealer.keys run.old.params (suc run.old.epoch)
         (record_next run.old asks.now (words_since (T.drawn tape.old) (T.drawn tape.new))) notes
@@ -138,7 +139,8 @@ pub fn fetch<S: Lanes, R: Threads + Sync, T: Tape, W: Watch>(
         run.new.ring c (rs ++ record_next run.old asks.now
         (words_since (T.drawn tape.old) (T.drawn tape.new)) ∷ [])) }
     // Where the store stood, the answers are the map's, and it stands with the record; a crash
-    // before its slots are read leaves what stood, or that with the record, and from then on that.
+    // leaves what stood until the record's body is synced, from when its slots are read on what
+    // stood with the record, and between these one of the two.
     ensures standing { FetchOfStanding S.disk run.old run.new store.old store.new
         (record_next run.old asks.now (words_since (T.drawn tape.old) (T.drawn tape.new)))
         asks.now out.new result }

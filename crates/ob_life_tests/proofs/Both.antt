@@ -11,7 +11,7 @@ use Rattle.ob_top.specs.Outside.{Given}
 use Rattle.ob_top.specs.Pasts.{PastLife, with_acts}
 use Rattle.ob_vault.specs.Acts.{AreTapeWords}
 use Rattle.ob_vault.specs.Formats.{beginning}
-use Rattle.ob_vault.specs.Lives.{ring_lives}
+use Rattle.ob_vault.specs.RingLives.{ring_lives}
 use Rattle.ob_vault.specs.RingKind.{ring_kind}
 use Rattle.ob_life_tests.specs.Held.{HasHeadline, HeadlinesHold, KeepsToHeadline}
 

@@ -10,7 +10,7 @@ use Rattle.ob_top.specs.Formats.{FormatDone, FormatEnds}
 use Rattle.ob_top.specs.Outside.{Given, Outside, blind, outside}
 use Rattle.ob_top.specs.Parts.{Manner}
 use Rattle.ob_top.specs.Runs.{RunDone, Went}
-use Rattle.ob_vault.specs.Lives.{ring_lives}
+use Rattle.ob_vault.specs.RingLives.{ring_lives}
 use Rattle.ob_vault.specs.RingKind.{ring_kind}
 use Rattle.ob_life_tests.specs.Lived.{IsWholeRun}
 

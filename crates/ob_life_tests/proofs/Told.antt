@@ -23,7 +23,7 @@ use Rattle.ob_top.specs.Parts.{Manner, manner}
 use Rattle.ob_top.specs.Pasts.{PastLife}
 use Rattle.ob_top.specs.Promised.{Promised}
 use Rattle.ob_top.specs.Runs.{RunDone}
-use Rattle.ob_vault.specs.Lives.{ring_lives}
+use Rattle.ob_vault.specs.RingLives.{ring_lives}
 use Rattle.ob_vault.specs.RingKind.{ring_kind}
 use Rattle.ob_word_forms.specs.Forms.{ArePlain, IsPlain}
 use Rattle.ob_words.specs.Work.{AreBadLanes, AreLanes, AreParams, HasKeys, IsBadNumber, IsKeysRefused}

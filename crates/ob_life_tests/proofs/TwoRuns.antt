@@ -26,7 +26,8 @@ use Rattle.ob_vault.specs.Joined.{AreGiven, AreRunsFrom, IsOneLife, IsRunTold, R
 use Rattle.ob_vault.specs.Acts.{AreTapeWords}
 use Rattle.ob_vault.specs.Formats.{beginning}
 use Rattle.ob_vault.specs.Kinds.{Stands}
-use Rattle.ob_vault.specs.Lives.{RingBegins, RingGoesOn, ring_lives}
+use Rattle.ob_vault.specs.Lives.{RingBegins, RingGoesOn}
+use Rattle.ob_vault.specs.RingLives.{ring_lives}
 use Rattle.ob_vault.specs.RingKind.{IsRingFound, IsRingMap, RingFound, ring_kind}
 use Rattle.ob_vault.specs.Shapes.{answered, refused}
 use Rattle.ob_words.proofs.Named.{one_keys}

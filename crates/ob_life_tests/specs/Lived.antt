@@ -18,7 +18,7 @@ use Rattle.ob_top.specs.Parts.{Manner}
 use Rattle.ob_top.specs.Runs.{Ran, RunDone}
 use Rattle.ob_vault.specs.Acts.{AreTapeWords}
 use Rattle.ob_vault.specs.Joined.{AreGiven, IsOneLife, RunPart, Served}
-use Rattle.ob_vault.specs.Lives.{ring_lives}
+use Rattle.ob_vault.specs.RingLives.{ring_lives}
 use Rattle.ob_vault.specs.RingKind.{ring_kind}
 use Rattle.ob_vault.specs.Shapes.{answered, refused}
 use Rattle.ob_words.specs.Work.{AreKeys}

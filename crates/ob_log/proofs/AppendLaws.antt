@@ -5,6 +5,7 @@ use Rattle.std.proofs.lemmas.Bool.{cases_eq, cases_lt}
 use Rattle.std.proofs.Math.ListN.{get_or-append}
 use Rattle.std.proofs.Math.Seq.{get_or-append_seam}
 use Rattle.std.proofs.Math.Nat.{mul-le-mul_right}
+use Rattle.ob_base.specs.declared.fault.Failed.{Failed}
 use Rattle.ob_base.specs.declared.fault.Fault.{Fault}
 use Rattle.ob_base.specs.declared.params.Params.{Params}
 use Rattle.ob_base.specs.Layout.{record_cells, log_cell, log_gate}
@@ -30,7 +31,8 @@ use Rattle.ob_store.proofs.Moments.{started, passed_none, then_on, weakened, lea
 use Rattle.ob_twin.specs.Bodies.{open_gate}
 use Rattle.ob_twin.proofs.Moves.{same_or_not}
 use Rattle.ob_log.specs.Logs.{BatchRecord, RecordObeys, OpenRecords, SpellsRecord, record_at, record_bytes, nothing}
-use Rattle.ob_log.specs.Appends.{HoldsRecord, HoldsOneOf, record_for, append_notes}
+use Rattle.ob_twin.specs.Orders.{WriteDoes}
+use Rattle.ob_log.specs.Appends.{HoldsRecord, HoldsOneOf, body_notes, gate_notes, record_for, append_notes}
 
 module _ (p : Params) (a n : ℕ) where
   abbrev base : ℕ
@@ -142,6 +144,10 @@ off_run : (base many k : ℕ) → (k < base) ⊎ (base + (many + 1) ≤ k) → (
 off_run base many k (inl low) = inl low
 off_run base many k (inr high) = inr (omega arith)
 
+off_body : (base many cell cells k : ℕ) → base ≡ cell → many ≡ cells → (k < cell) ⊎ (cell + (cells + 1) ≤ k) → (k < base) ⊎ (base + many ≤ k)
+off_body base many cell cells k at is (inl low) = inl (omega arith)
+off_body base many cell cells k at is (inr high) = inr (omega arith)
+
 off_gate : (base many gate k : ℕ) → gate ≡ base + many → (k < base) ⊎ (base + (many + 1) ≤ k) → k ≢ gate
 off_gate base many gate k is (inl low) = omega arith
 off_gate base many gate k is (inr high) = omega arith
@@ -212,6 +218,32 @@ module _ (keys : Keys) (p : Params) (epoch batch : ℕ) (rs : List BatchRecord) 
         (subst (λ b. SpellsRecord keys p epoch b r mid.cells) (sym long) spells)
         (weakened mid new (λ c. SameBut gate c mid.cells) (λ c. GateStep keys p epoch rs r room_at obeys_at c mid.cells) (λ c same. gate_of c mid.cells same) last)
 
+    -- no cell differs but the batch's
+    abbrev Within : Image → Type 0
+    Within c = SameOff (log_cell p (epoch % 2) batch 0) (record_cells p + 1) c old.cells
+
+    in_body : (k : ℕ) → (k < log_cell p (epoch % 2) batch 0) ⊎ (log_cell p (epoch % 2) batch 0 + (record_cells p + 1) ≤ k) → (k < base) ⊎ (base + many ≤ k)
+    in_body k off = off_body base many (log_cell p (epoch % 2) batch 0) (record_cells p) k base_is many_is off
+
+    not_gate : (k : ℕ) → (k < log_cell p (epoch % 2) batch 0) ⊎ (log_cell p (epoch % 2) batch 0 + (record_cells p + 1) ≤ k) → k ≢ gate
+    not_gate k off = off_gate (log_cell p (epoch % 2) batch 0) (record_cells p) gate k (omega (arith, gate_is)) off
+
+    -- until the body is synced, or refused
+    pub body_alone : LeavesOnly old mid (λ c. OpenRecords keys p epoch rs c × Within c)
+    body_alone = leaves_of (SameOff base many) (λ d. (k : ℕ) → d k ≡ old.cells k) (λ c. OpenRecords keys p epoch rs c × Within c) old mid passes only settled (λ tells k. refl)
+        (λ c d was step. (body_kept keys p epoch rs r room_at obeys_at c old.cells (body_of c old.cells (λ k off. step k off ∙ was k)) held, λ k off. step k (in_body k off) ∙ was k))
+        (λ c was. (same_image keys p epoch rs r room_at obeys_at c old.cells was held, λ k off. was k))
+
+    -- and behind that
+    pub gate_moments : (new : Disk) → SameOff base many mid.cells old.cells → SpellsRecord keys p epoch batch r mid.cells → LeavesOnly mid new (λ c. SameBut gate c mid.cells) → LeavesOnly mid new (λ c. HoldsOneOf keys p epoch rs r c × Within c)
+    gate_moments new rest spells last = weakened mid new (λ c. SameBut gate c mid.cells) (λ c. HoldsOneOf keys p epoch rs r c × Within c)
+        (λ c same. (
+          torn_gate keys p epoch rs r room_at obeys_at c mid.cells (gate_of c mid.cells same) (subst (λ b. SpellsRecord keys p epoch b r mid.cells) (sym long) spells)
+              (body_kept keys p epoch rs r room_at obeys_at mid.cells old.cells (body_of mid.cells old.cells rest) held),
+          λ k off. same k (not_gate k off) ∙ rest k (in_body k off),
+        ))
+        last
+
   -- once it went well
   pub acknowledged : (old mid now c : Image) → OpenRecords keys p epoch rs old → SameOff base many mid old → SpellsRecord keys p epoch batch r mid → SameBut gate now mid → now gate ≡ open_gate → ((k : ℕ) → c k ≡ now k) → OpenRecords keys p epoch (rs ++ r ∷ []) c
   acknowledged old mid now c held rest spells same opened left =
@@ -269,6 +301,16 @@ module _ (p : Params) (epoch batch base many gate : ℕ) (base_is : base ≡ log
   notes_are =
       ap (λ b. run_notes b many gate) base_is ∙ ap (λ n. run_notes (log_cell p (epoch % 2) batch 0) n gate) many_is ∙ ap (λ g. run_notes (log_cell p (epoch % 2) batch 0) (record_cells p) g) gate_is
 
+  -- the body's, and all but the last sync
+  pub body_is : write_notes base many ++ Sync ∷ [] ≡ body_notes p epoch batch
+  body_is = ap (λ b. write_notes b many ++ Sync ∷ []) base_is ∙ ap (λ n. write_notes (log_cell p (epoch % 2) batch 0) n ++ Sync ∷ []) many_is
+
+  gate_notes_are : (write_notes base many ++ Sync ∷ []) ++ Write gate ∷ [] ≡ gate_notes p epoch batch
+  gate_notes_are = ap (λ (xs : List Note). xs ++ Write gate ∷ []) body_is ∙ ap (λ g. body_notes p epoch batch ++ Write g ∷ []) gate_is
+
+  pub first_body : (a b : Option (List Event)) (k l : Trace) → TellsFirst (write_notes base many ++ Sync ∷ []) a b k l → TellsFirst (body_notes p epoch batch) a b k l
+  first_body a b k l first = subst (λ (xs : List Note). TellsFirst xs a b k l) body_is first
+
   -- the body was refused
   pub told_body : (a b : Option (List Event)) (k l : Trace) (f : Fault) → TellsFirst (write_notes base many ++ Sync ∷ []) a b k l → Does {T = Unit {0}} {E = Fault} (append_notes p epoch batch) a b k l (Err f)
   told_body a b k l f written = subst (λ (xs : List Note). Does {T = Unit {0}} {E = Fault} xs a b k l (Err f)) notes_are
@@ -284,3 +326,10 @@ module _ (p : Params) (epoch batch base many gate : ℕ) (base_is : base ≡ log
     pub told_refused : (f : Fault) → TellsFirst (Write gate ∷ Sync ∷ []) b c l m → Does {T = Unit {0}} {E = Fault} (append_notes p epoch batch) a c k m (Err f)
     told_refused f opened = subst (λ (xs : List Note). Does {T = Unit {0}} {E = Fault} xs a c k m (Err f)) notes_are
         (does_err a c k m (run_notes base many gate) f (first_behind a b c k l m (write_notes base many ++ Sync ∷ []) (Write gate ∷ Sync ∷ []) body opened))
+
+    -- the gate was refused, or the sync behind it: its write was shown
+    pub told_unsure : (failed : Failed) → WriteDoes gate b c l m (Err failed) → Tells (gate_notes p epoch batch) (gate_notes p epoch batch) a c k m ⊎ Tells (append_notes p epoch batch) (gate_notes p epoch batch) a c k m
+    told_unsure failed (inl written) = inl (subst (λ (xs : List Note). Tells xs xs a c k m) gate_notes_are
+        (tells_then (write_notes base many ++ Sync ∷ []) (write_notes base many ++ Sync ∷ []) (Write gate ∷ []) (Write gate ∷ []) a b c k l m body written))
+    told_unsure failed (inr synced) = inr (subst (λ (xs : List Note). Tells xs (gate_notes p epoch batch) a c k m) notes_are (subst (λ (xs : List Note). Tells (run_notes base many gate) xs a c k m) gate_notes_are
+        (tells_then (write_notes base many ++ Sync ∷ []) (write_notes base many ++ Sync ∷ []) (Write gate ∷ Sync ∷ []) (Write gate ∷ []) a b c k l m body synced)))

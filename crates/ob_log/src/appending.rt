@@ -10,14 +10,14 @@ ghost use Rattle.ob_store.specs.Runs.{write_notes};
 ghost use Rattle.ob_store.specs.Told.{Does};
 ghost use Rattle.ob_cells.specs.Writes.{Seals, WritesWithin, WritesRun};
 ghost use Rattle.ob_log.specs.Logs.{BatchRecord, OpenRecords};
-ghost use Rattle.ob_log.specs.Appends.{record_for, append_notes, HoldsRecord, HoldsOneOf, IsAppendFault, IsWornOut};
+ghost use Rattle.ob_log.specs.Appends.{record_for, append_notes, HoldsRecord, HoldsOneOf, AppendStages, IsAppendFault, IsWornOut};
 
 use crate::spelling::record_bytes as bytes_of;
 use ob_base::{Failed, Fault, Key, NUMBER_LIMIT, Params, log_cell, log_gate, record_cells};
 use ob_cells::{Cut, Pieces, write_sealed};
 use ob_seal::Sealer;
-use ob_store::{Note, Store, Watch, sync_noted, write_through};
-use ob_twin::open_gate;
+use ob_store::{Note, Store, Watch, sync_noted};
+use ob_twin::{open_gate, write_out};
 
 // Writes a run of sealed cells, and makes sure of it.
 fn write_sure<S: Store, P: Pieces, W: Watch>(
@@ -47,8 +47,8 @@ fn write_sure<S: Store, P: Pieces, W: Watch>(
 /// synced, then its gate opened and synced; each write is shown whatever it answered, a sync where
 /// it succeeds. It takes no memory.
 ///
-/// While it runs a crash leaves the open records that were there, or these and this one; once it
-/// went well, these and this one.
+/// Until the body is synced a crash leaves the open records that were there; from then on these, or
+/// these and this one; and once it went well, these and this one.
 ///
 /// # Errors
 /// Worn with `2^62` exactly where fewer seal numbers are left below that than the body has cells,
@@ -95,6 +95,10 @@ pub fn append<S: Store, W: Watch>(
         → LeavesOnly (S.disk store.old) (S.disk store.new)
         (HoldsOneOf sealer.old.keys p.now epoch rs
         (record_for sealer.old batch first asks.now words.now)) }
+    // No image has the record before the write that opens its gate was shown.
+    ensures stages { AppendStages S.disk sealer.old.keys p.now epoch batch
+        (record_for sealer.old batch first asks.now words.now) store.old store.new
+        (W.trace watch.old) (W.trace watch.new) result }
     ensures does { Does (append_notes p.now epoch batch) (S.disk store.old).seen
         (S.disk store.new).seen (W.trace watch.old) (W.trace watch.new) result }
 {
@@ -114,7 +118,7 @@ pub fn append<S: Store, W: Watch>(
         Ok(()) => {}
         Err(Failed) => return Err(Fault::StoreFault { unsure: None }),
     }
-    match write_through(store, log_gate(p, area, batch), &open_gate(), watch) {
+    match write_out(store, log_gate(p, area, batch), &open_gate(), watch) {
         Ok(()) => Ok(()),
         Err(Failed) => Err(Fault::StoreFault { unsure: None }),
     }

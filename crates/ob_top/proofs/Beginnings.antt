@@ -14,7 +14,8 @@ use Rattle.ob_vault.specs.RingLaws.{ReadsHead, found_ring}
 use Rattle.ob_vault.specs.RingKind.{ring_kind}
 use Rattle.ob_recover.specs.Life.{LifeAct, LifeState, WordId}
 use Rattle.ob_vault.proofs.Stopping.{stops_in_life}
-use Rattle.ob_vault.specs.Lives.{RingFormatted, ring_lives}
+use Rattle.ob_vault.specs.Lives.{RingFormatted}
+use Rattle.ob_vault.specs.RingLives.{ring_lives}
 use Rattle.ob_script.specs.Script.{Scripts}
 use Rattle.ob_seal.specs.declared.keys.Keys.{Keys}
 use Rattle.ob_stand.specs.Stands as stand

@@ -22,7 +22,7 @@ use Rattle.ob_io.specs.Streams.{Flow}
 use Rattle.ob_top.specs.Outside.{Given, blind, Outside, IsCommandFinished, IsFinished, IsOnlyTold}
 use Rattle.ob_top.specs.Formats.{FormatDone}
 use Rattle.ob_vault.specs.RingKind.{ring_kind}
-use Rattle.ob_vault.specs.Lives.{ring_lives}
+use Rattle.ob_vault.specs.RingLives.{ring_lives}
 use Rattle.ob_top.specs.Runs.{RunDone}
 use Rattle.ob_top.specs.Parts.{manner}
 use Rattle.ob_store.specs.Lines.{Trace, first_line, open_line, start_line}

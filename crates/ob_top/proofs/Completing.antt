@@ -31,7 +31,7 @@ use Rattle.ob_words.specs.Work.{AreParams, IsBadNumber, AreLanes, AreBadLanes, H
 use Rattle.ob_top.specs.Outside.{ErrTold, Given, blind, HasTrace, Outside, IsOnlyTold, outside}
 use Rattle.ob_top.specs.Formats.{FormatEnds, FormatDone}
 use Rattle.ob_vault.specs.RingKind.{RingMayStop, ring_kind}
-use Rattle.ob_vault.specs.Lives.{ring_lives}
+use Rattle.ob_vault.specs.RingLives.{ring_lives}
 use Rattle.ob_vault.specs.Keeping.{AreStandingLaws}
 use Rattle.ob_vault.specs.Kinds.{StoreKind}
 use Rattle.ob_vault.specs.KindLives.{LifeWords}

@@ -18,7 +18,7 @@ use Rattle.std.specs.Ordering.{nat_cmp}
 use Rattle.ob_serial.specs.Serial.{Map}
 use Rattle.ob_serial.specs.VaultKinds.{AllCalled, Called, Kind, ended_of}
 use Rattle.ob_vault.specs.Hidden.{RingHidden}
-use Rattle.ob_vault.specs.Lives.{ring_lives}
+use Rattle.ob_vault.specs.RingLives.{ring_lives}
 use Rattle.ob_vault.specs.RingKind.{GoesOnFrom, IsRingMap, RingFound, ring_hidden, ring_kind, ring_public}
 use Rattle.ob_vault.specs.RingSteps.{HasRingWords}
 use Rattle.ob_vault.specs.RingVaults.{HasPlanned, RingHolds, Running, lent_both}
@@ -48,7 +48,7 @@ use Rattle.ob_conduct.specs.declared.run_err.RunErr.{RunErr}
 use Rattle.ob_top.specs.Drills.{drill_numbers}
 use Rattle.ob_top.specs.Outside.{blind}
 use Rattle.ob_top.proofs.Lent.{IsLent, rest_same, serves_lent}
-use Rattle.ob_top.proofs.RingServing.{at_rest, at_stop, tells, told_by}
+use Rattle.ob_top.proofs.RingServing.{at_rest, at_stage, at_stop, tells, told_by}
 use Rattle.ob_top.proofs.SelfTest.{holds_behind, all_committed, its, its_length, keys_are, reads_called}
 use Rattle.ob_top.proofs.Serving.{Behind, CallsBehind, behind, counted_ends}
 use Rattle.ob_top.proofs.Wanting.{blind_chain, call_wants, chained, few_ended, reads_answered, run_wants}
@@ -90,10 +90,10 @@ module _ {V S : Type 0} (k : Kind V) (counts : V → VaultCounts) (agrees : (x :
   -- where the vault is behind calls that were answered, and what was seen of them
   behind_blind : (steps : List (VaultCall × VaultAnswer)) (last : V) → (chain : AllCalled k first steps last) → AreAnswered steps
       → Behind k ring_kind disk (λ v. (runs v).store) keys 4 p f first At (λ v. told_by (runs v)) (ring_does k disk runs words keys 4 p f opened) (tells k disk counts_now only_now runs words keys 4 p f first) ring_lives (at_rest k disk counts_now only_now runs words keys 4 p f first)
-      (at_stop k disk counts_now only_now runs words keys 4 p f first) (ring_public p f) (ring_hidden f) [] 0 first blind steps (blind_chain k first steps last chain).0 last blind
+      (at_stop k disk counts_now only_now runs words keys 4 p f first) (at_stage k disk counts_now only_now runs words keys 4 p f first) (ring_public p f) (ring_hidden f) [] 0 first blind steps (blind_chain k first steps last chain).0 last blind
   behind_blind steps last chain all =
       behind k ring_kind disk (λ v. (runs v).store) keys 4 p f first At (λ v. told_by (runs v)) (ring_does k disk runs words keys 4 p f opened) (tells k disk counts_now only_now runs words keys 4 p f first) ring_lives (at_rest k disk counts_now only_now runs words keys 4 p f first)
-      (at_stop k disk counts_now only_now runs words keys 4 p f first) (ring_public p f) (ring_hidden f) [] 0 first blind steps (blind_chain k first steps last chain).0 last blind begun (blind_chain k first steps last chain).1 all
+      (at_stop k disk counts_now only_now runs words keys 4 p f first) (at_stage k disk counts_now only_now runs words keys 4 p f first) (ring_public p f) (ring_hidden f) [] 0 first blind steps (blind_chain k first steps last chain).0 last blind begun (blind_chain k first steps last chain).1 all
 
   -- a call was refused behind calls that were answered
   refused_behind : (steps : List (VaultCall × VaultAnswer)) (mid : V) → AllCalled k first steps mid → AreAnswered steps → length (ended_of steps) ≤ 20000 → (call : VaultCall) (answer : VaultAnswer) (last : V) (fault : Fault) → Called k mid call answer last → ChangesNone call → IsRefusal fault answer

@@ -18,7 +18,7 @@ use Rattle.ob_store.specs.Disk.{Disk}
 use Rattle.ob_store.specs.Lines.{Trace, lines_of}
 use Rattle.ob_store.specs.declared.watch.Note.TheVariants as note
 use Rattle.ob_vault.proofs.Standing.{ring_keeps}
-use Rattle.ob_vault.specs.Lives.{ring_lives}
+use Rattle.ob_vault.specs.RingLives.{ring_lives}
 use Rattle.ob_vault.specs.RingKind.{ring_kind}
 use Rattle.ob_top.specs.Calls.{RunCall}
 use Rattle.ob_top.specs.Headline.{Stood}

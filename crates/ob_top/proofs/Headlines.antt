@@ -42,7 +42,8 @@ use Rattle.ob_vault.proofs.Standing.{ring_keeps}
 use Rattle.ob_vault.proofs.Whole.{reached_join, whole_run}
 use Rattle.ob_vault.specs.Acts.{AreBatchesSmall, AreTapeWords}
 use Rattle.ob_vault.specs.Kinds.{AllStand, IsOpenedAt, Stands, StandsAsBefore}
-use Rattle.ob_vault.specs.Lives.{IsLeftInLife, IsNextInLife, IsOpenedInLife, IsRunInLife, opening_acts, ring_lives}
+use Rattle.ob_vault.specs.Lives.{IsLeftInLife, IsNextInLife, IsOpenedInLife, IsRunInLife, opening_acts}
+use Rattle.ob_vault.specs.RingLives.{ring_lives}
 use Rattle.ob_vault.specs.RingKind.{RingFound, ring_hidden, ring_kind}
 use Rattle.ob_vault.specs.Shapes.{Shape, answered, refused, shapes}
 use Rattle.ob_words.proofs.Named.{keys_stand, no_bad_lanes, one_keys}

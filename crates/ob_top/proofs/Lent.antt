@@ -29,7 +29,7 @@ use Rattle.ob_vault.specs.RingSteps.{HasRingWords}
 use Rattle.ob_vault.specs.Seen.{RingPublic}
 use Rattle.ob_vault.specs.Shapes.{Shape}
 use Rattle.ob_store.specs.declared.watch.Note.{Note}
-use Rattle.ob_vault.specs.Lives.{ring_lives}
+use Rattle.ob_vault.specs.RingLives.{ring_lives}
 use Rattle.ob_script.specs.Script.{ScriptTxn, Scripts, AreSound, asks_by}
 use Rattle.ob_runner.proofs.Scripted.{is_its_script}
 use Rattle.ob_runner.specs.RunnerViews.{runner_state, client_of, bound_of, plan_of, MayHaveMade}

@@ -19,7 +19,11 @@ use Rattle.ob_vault.specs.KindShown.{AreDrawn, IsSeenCut}
 use Rattle.ob_vault.specs.Hidden.{IsTapeBehind, RingCutShown, RingHidden}
 use Rattle.ob_vault.specs.Seen.{RingPublic}
 use Rattle.ob_vault.proofs.Leaving.{goes_on_none, goes_on_refused}
-use Rattle.ob_vault.specs.Lives.{RingGoesOn, ring_lives}
+use Rattle.ob_vault.proofs.CallStages.{calls_come_in_stages}
+use Rattle.ob_vault.specs.Acts.{is_answered}
+use Rattle.ob_vault.specs.Staged.{RingCallStaged}
+use Rattle.ob_vault.specs.Lives.{RingGoesOn}
+use Rattle.ob_vault.specs.RingLives.{ring_lives}
 use Rattle.ob_vault.proofs.Calling.{RingBehind, ring_does, words_are_of_tape}
 use Rattle.ob_script.specs.Script.{ScriptTxn, Scripts, AreSound, asks_by}
 use Rattle.ob_desk.specs.Desk.{MayOpen, new_desk, setup_of}
@@ -53,8 +57,12 @@ module _ {V S : Type 0} (k : Kind V) (disk : S → Disk) (counts_now : (x : S) (
       → RingGoesOn keys most p f (disk (runs first).store) calls steps h (Some call) (runs w).drawn seen (disk (runs w).store)
   at_stop calls steps q h so_far n v drawn at call answer w one refused seen cut shown = goes_on_refused k disk runs words counts_now only_now keys most p f (disk (runs first).store) calls steps q h n v drawn at call answer w one cut.0 refused seen cut.1 shown
 
+  pub at_stage : (calls : List VaultCall) (steps : List (Shape × Fills)) (q : RingPublic) (h : RingHidden) (so_far : List Shape) (n : ℕ) (v : V) → AreDrawn ring_kind p (ring_hidden f) calls steps h → RingBehind k disk runs words keys most p f (disk (runs first).store) q h so_far n v
+      → (call : VaultCall) (answer : VaultAnswer) (w : V) → Called k v call answer w → RingCallStaged disk keys most p f (disk (runs first).store) calls steps q h call (runs w).drawn (is_answered answer) (runs v).store (runs w).store
+  at_stage calls steps q h so_far n v drawn at call answer w one = calls_come_in_stages k disk counts_now only_now runs words keys most p f first calls steps q h n v drawn at call answer w one
+
   abbrev pub IsRingLender : Type 1
-  IsRingLender = IsLender k ring_kind disk (λ v. (runs v).store) keys most p f first (RingBehind k disk runs words keys most p f (disk (runs first).store)) (λ v. told_by (runs v)) (ring_does k disk runs words keys most p f (disk (runs first).store)) tells ring_lives at_rest at_stop (f.run).sealer
+  IsRingLender = IsLender k ring_kind disk (λ v. (runs v).store) keys most p f first (RingBehind k disk runs words keys most p f (disk (runs first).store)) (λ v. told_by (runs v)) (ring_does k disk runs words keys most p f (disk (runs first).store)) tells ring_lives at_rest at_stop at_stage (f.run).sealer
 
   pub ring_serves : {U : Type 0} (beat : BeatKind) (threads : Bool) (kind : RunnerKind U (List ScriptTxn)) (means : RunsScripts kind) (script : Scripts) (sound : AreSound script)
       (may : MayOpen (setup_of p) (suc (f.run).epoch) (f.run).left script.clients) (trace : Trace) (runners : List U) (before : Flow) (end : RunState V U) (result : Result (Unit {0}) RunErr) (epoch left : ℕ)
@@ -64,5 +72,5 @@ module _ {V S : Type 0} (k : Kind V) (disk : S → Disk) (counts_now : (x : S) (
       → (s : ServedOver ring_kind ring_lives disk (manner beat threads most) keys p f (f.run).sealer script (told_by (runs end.scene.vault)) (runs first).store (runs end.scene.vault).store before end.output trace end.scene.trace (err_of result))
       × CallsBehind k first (calls s.is_served.served.evidence.acts) end.scene.vault (err_of result)
   ring_serves beat threads kind means script sound may trace runners before end result epoch left unbroken named planned epoch_is left_is run l begun =
-      serves_on k ring_kind disk (λ v. (runs v).store) keys most p f first (RingBehind k disk runs words keys most p f (disk (runs first).store)) (λ v. told_by (runs v)) (ring_does k disk runs words keys most p f (disk (runs first).store)) tells ring_lives at_rest at_stop
+      serves_on k ring_kind disk (λ v. (runs v).store) keys most p f first (RingBehind k disk runs words keys most p f (disk (runs first).store)) (λ v. told_by (runs v)) (ring_does k disk runs words keys most p f (disk (runs first).store)) tells ring_lives at_rest at_stop at_stage
       beat threads kind means (f.run).sealer script sound may trace runners before end result epoch left unbroken named planned epoch_is left_is run l begun

@@ -17,7 +17,6 @@ use Rattle.ob_recover.specs.Telling.{ArePhasesMade}
 use Rattle.ob_vault.specs.Shapes.{refused}
 use Rattle.ob_vault.specs.Keeping.{AreStandingLaws}
 use Rattle.ob_vault.specs.KindLives.{LifeWords}
-use Rattle.ob_vault.specs.Openings.{OpensStanding}
 use Rattle.ob_vault.specs.Kinds.{StoreKind, Stands, AllStand, StandsAsBefore, IsOpenedAt}
 use Rattle.ob_store.proofs.Showing.{shows_then}
 use Rattle.ob_store.specs.declared.watch.Note.TheVariants as note
@@ -26,6 +25,7 @@ use Rattle.ob_script.specs.Script.{Scripts}
 use Rattle.ob_top.specs.Outside.{Given, Outside, outside}
 use Rattle.ob_top.specs.Runs.{EndsEarly, beginning_notes, IsReadAndOpened, LivesUnserved, ServedOver, Ran, Went, RunOn, ShownBehindHead}
 use Rattle.ob_top.specs.Parts.{Manner, IsOpened, begin_phases}
+use Rattle.ob_top.specs.Staged.{OpensInStages}
 use Rattle.ob_top.proofs.Lines.{Stand, stand_all, stand_unless}
 use Rattle.ob_top.proofs.Living.{whole_clear}
 use Rattle.ob_top.proofs.Sounding.{early_sound, ran_sound}
@@ -77,7 +77,7 @@ module _ (store : StoreKind) (quiet : IsQuiet store) (life : LifeWords store) wh
       → ((disk old).tells → (disk between).tells × IsSynced (disk between))
       → ((at : Standing) → (disk old).tells → Stands store keys p (disk old).cells at → IsOpenedAt store keys p at found (disk between))
       → ((at : Standing) → (disk old).tells → Stands store keys p (disk old).cells at → AllStand store keys p (disk old) → LeavesOnly (disk old) (disk between) (StandsAsBefore store keys p (disk old)))
-      → OpensStanding store disk keys p (disk old) (disk between)
+      → OpensInStages store life disk keys p old between
       → IsReadAndOpened disk keys old between sealing → ((disk old).tells → life.begins keys p (disk old).cells found)
       → ServedOver store life disk by keys p found sealing script tape between new output output_new midway u err
       → RunOn store life disk by tape keys old new (outside input output) (outside input_new output_new) t u err
@@ -98,7 +98,8 @@ module _ (store : StoreKind) (quiet : IsQuiet store) (life : LifeWords store) wh
         midway = midway;
         opening_shown = begins;
         whole_midway = whole;
-        opens = opens;
+        opens = opens.standing;
+        opens_staged = opens.stages;
         stood = stood;
         opening_left = before;
         opens_life = found_so;

@@ -28,6 +28,7 @@ use Rattle.ob_serial.specs.Vaults.{Standing, StandsIn, VaultCall, Fetch, End, Va
 use Rattle.ob_serial.specs.VaultKinds.{Kind, Called, AllCalled, ended_of, ended_by}
 use Rattle.ob_recover.specs.Telling.{ArePhasesMade}
 use Rattle.ob_recover.proofs.Dealing.{made_join, made_none}
+use Rattle.ob_vault.specs.Acts.{is_answered}
 use Rattle.ob_vault.specs.Shapes.{Shape, Fetches, Ends, answered, shape_of, shapes, refused}
 use Rattle.ob_vault.specs.Kinds.{StoreKind, IsOpenedAt, opened_with}
 use Rattle.ob_vault.specs.KindLives.{LifeWords}
@@ -62,6 +63,8 @@ use Rattle.ob_pads.specs.Laws.{NoneServed}
 use Rattle.ob_top.proofs.Clearing.{Parted}
 use Rattle.ob_top.proofs.Listing.{are_listed}
 use Rattle.ob_top.proofs.Lines.{lines_stand, next_by_acts}
+use Rattle.ob_top.proofs.Staging.{drawn_more, staged_then}
+use Rattle.ob_top.specs.Staged.{CallsStaged}
 use Rattle.ob_top.specs.Runs.{ListsActs, EachShown, EndsFor, IsShownToWatch, refused_row, steps_rows, IsLeftOnDisk, ServedOver, LivesBehind}
 use Rattle.ob_top.specs.Parts.{IsInClearBehind, Manner, manner, EndsWith, IsTraced, StagedFrom, IsNextEpoch, ComesNext}
 
@@ -110,7 +113,13 @@ module _ {V S : Type 0} (k : Kind V) (store : StoreKind) (disk : S → Disk) (st
     → (seen : List Event) → life.goes_on under most p found (disk (store_of start)) calls taken h None (tape_of v).words seen (disk (store_of v)))
     (at_stop : (calls : List VaultCall) (taken : List (Shape × store.Drawn)) (q : store.Public) (h : store.Hidden) (so_far : List Shape) (n : ℕ) (v : V) → AreDrawn store p (store.hidden p found) calls taken h → At q h so_far n v
     → (call : VaultCall) (answer : VaultAnswer) (w : V) (one : Called k v call answer w) (fault : Fault) (seen : List Event) (cut : IsSeenCut store most p q h (Some call) (tape_of w).words (Some fault) seen) → store.cut_shown most p q call cut.0 fault seen one.notes
-    → life.goes_on under most p found (disk (store_of start)) calls taken h (Some call) (tape_of w).words seen (disk (store_of w))) where
+    → life.goes_on under most p found (disk (store_of start)) calls taken h (Some call) (tape_of w).words seen (disk (store_of w)))
+    (at_stage : (calls : List VaultCall) (taken : List (Shape × store.Drawn)) (q : store.Public) (h : store.Hidden) (so_far : List Shape) (n : ℕ) (v : V) → AreDrawn store p (store.hidden p found) calls taken h → At q h so_far n v
+    → (call : VaultCall) (answer : VaultAnswer) (w : V) → Called k v call answer w → life.call_staged disk under most p found (disk (store_of start)) calls taken q h call (tape_of w).words (is_answered answer) (store_of v) (store_of w)) where
+  -- these calls came in stages behind earlier ones, from this store to that
+  abbrev Staged : Option VaultCall → (words : List ℕ) (behind : store.Hidden) (new : S) (done : List VaultCall) (taken : List (Shape × store.Drawn)) → store.Public → store.Hidden → List VaultCall → List (Shape × store.Drawn) → S → Type 0
+  Staged = CallsStaged store life disk under most p found (disk (store_of start))
+
   -- Behind calls that were all answered: what they drew, what was seen, and where the vault is.
   pub record Behind (q : store.Public) (h : store.Hidden) (so_far : List Shape) (n : ℕ) (first : V) (t : Trace) (steps : List (VaultCall × VaultAnswer)) (notes : List Note) (last : V) (u : Trace) : Type 0 where
     pub taken : List (Shape × store.Drawn)
@@ -121,6 +130,7 @@ module _ {V S : Type 0} (k : Kind V) (store : StoreKind) (disk : S → Disk) (st
     pub seen : ArePhasesMade most (steps_phases store p q taken) (disk (store_of first)).seen (disk (store_of last)).seen
     pub shown : notes ≡ steps_notes store p q taken
     pub each : EachShown (steps_rows store p q taken) t u
+    pub staged : (done : List VaultCall) (earlier : List (Shape × store.Drawn)) → AreDrawn store p (store.hidden p found) done earlier h → Staged None (tape_of last).words kept (store_of last) done earlier q h (answered steps) taken (store_of first)
 
   stays : (q : store.Public) (h : store.Hidden) (so_far : List Shape) (n : ℕ) (v : V) (t u : Trace) → u ≡ t → At q h so_far n v → Behind q h so_far n v t [] [] v u
   stays q h so_far n v t u still at = record {
@@ -132,6 +142,7 @@ module _ {V S : Type 0} (k : Kind V) (store : StoreKind) (disk : S → Disk) (st
     seen = made_none most _ _ (none_noted _);
     shown = refl;
     each = still;
+    staged = λ done earlier so_drawn. (refl, refl);
   }
     where
       no_more : (m : ℕ) → m ≡ m + length {A = List (ℕ × Option (List ℕ))} []
@@ -142,9 +153,10 @@ module _ {V S : Type 0} (k : Kind V) (store : StoreKind) (disk : S → Disk) (st
       (step ∷ steps) ≡ shape_of call ∷ shapes steps
       → answered (step ∷ steps) ≡ call ∷ answered steps
       → m + length (ended_of steps) ≡ n + length (ended_of (step ∷ steps)) → (own more : List Note) (one : IsAnsweredCall store most p At (disk (store_of first)) (disk (store_of mid)) mid q h so_far call m own)
+      → ((done : List VaultCall) (earlier : List (Shape × store.Drawn)) → AreDrawn store p (store.hidden p found) done earlier h → life.call_staged disk under most p found (disk (store_of start)) done earlier q h call (tape_of mid).words true (store_of first) (store_of mid))
       → Shows own t between → Behind (store.next p q (shape_of call) one.drawn) one.behind (so_far ++ shape_of call ∷ []) m mid between steps more last u
       → Behind q h so_far n first t (step ∷ steps) (own ++ more) last u
-  before_it q h so_far n first mid last t between u whole call m step steps is are counts own more one own_shown b = record {
+  before_it q h so_far n first mid last t between u whole call m step steps is are counts own more one own_stages own_shown b = record {
     taken = (shape_of call, one.drawn) ∷ b.taken;
     shapes_are = ap (λ (l : List Shape). shape_of call ∷ l) b.shapes_are ∙ sym is;
     kept = b.kept;
@@ -154,6 +166,16 @@ module _ {V S : Type 0} (k : Kind V) (store : StoreKind) (disk : S → Disk) (st
     seen = made_join most (store.phases p q (shape_of call) one.drawn) (steps_phases store p (store.next p q (shape_of call) one.drawn) b.taken) _ _ _ one.seen b.seen;
     shown = ap (λ (l : List Note). l ++ more) one.shown ∙ ap (λ (l : List Note). store.notes p q (shape_of call) one.drawn ++ l) b.shown;
     each = (whole, (between, subst (λ (l : List Note). Shows l t between) one.shown own_shown, b.each));
+    staged = λ done earlier so_drawn.
+        subst (λ (l : List VaultCall). Staged None (tape_of last).words b.kept (store_of last) done earlier q h l ((shape_of call, one.drawn) ∷ b.taken) (store_of first)) (sym are) (
+          store_of mid,
+          (tape_of mid).words,
+          one.behind,
+          one.draws,
+          tells (store.next p q (shape_of call) one.drawn) one.behind (so_far ++ shape_of call ∷ []) m mid one.at None,
+          own_stages done earlier so_drawn,
+          b.staged (done ++ call ∷ []) (earlier ++ (shape_of call, one.drawn) ∷ []) (drawn_more store p (store.hidden p found) h done earlier call (shape_of call, one.drawn) one.behind so_drawn one.draws),
+        );
   }
 
   pub behind : (q : store.Public) (h : store.Hidden) (so_far : List Shape) (n : ℕ) (first : V) (t : Trace) (steps : List (VaultCall × VaultAnswer)) (notes : List Note) (last : V) (u : Trace) → At q h so_far n first → AllNoted k first t steps notes last u →
@@ -162,11 +184,12 @@ module _ {V S : Type 0} (k : Kind V) (store : StoreKind) (disk : S → Disk) (st
   behind q h so_far n first t ((Fetch keys, Values values) ∷ steps) notes last u at (mid, between, one, more, are, rest) all =
       let goes = does q h so_far n first (Fetch keys) (Values values) mid at one.one in
       subst (λ (l : List Note). Behind q h so_far n first t ((Fetch keys, Values values) ∷ steps) l last u) (sym are)
-      (before_it q h so_far n first mid last t between u one.whole (Fetch keys) n (Fetch keys, Values values) steps refl refl refl one.one.notes more goes one.shown (behind (store.next p q Fetches goes.drawn) goes.behind (so_far ++ Fetches ∷ []) n mid between steps more last u goes.at rest all))
+      (before_it q h so_far n first mid last t between u one.whole (Fetch keys) n (Fetch keys, Values values) steps refl refl refl one.one.notes more goes (λ done earlier so_drawn. at_stage done earlier q h so_far n first so_drawn at (Fetch keys) (Values values) mid one.one) one.shown
+      (behind (store.next p q Fetches goes.drawn) goes.behind (so_far ++ Fetches ∷ []) n mid between steps more last u goes.at rest all))
   behind q h so_far n first t ((End writes, Ended) ∷ steps) notes last u at (mid, between, one, more, are, rest) all =
       let goes = does q h so_far n first (End writes) Ended mid at one.one in
       subst (λ (l : List Note). Behind q h so_far n first t ((End writes, Ended) ∷ steps) l last u) (sym are)
-      (before_it q h so_far n first mid last t between u one.whole (End writes) (suc n) (End writes, Ended) steps refl refl (one_more n (length (ended_of steps))) one.one.notes more goes one.shown
+      (before_it q h so_far n first mid last t between u one.whole (End writes) (suc n) (End writes, Ended) steps refl refl (one_more n (length (ended_of steps))) one.one.notes more goes (λ done earlier so_drawn. at_stage done earlier q h so_far n first so_drawn at (End writes) Ended mid one.one) one.shown
       (behind (store.next p q Ends goes.drawn) goes.behind (so_far ++ Ends ∷ []) (suc n) mid between steps more last u goes.at rest all))
     where
       one_more : (i j : ℕ) → suc i + j ≡ i + suc j
@@ -229,6 +252,7 @@ module _ {V S : Type 0} (k : Kind V) (store : StoreKind) (disk : S → Disk) (st
       pub seen : Notes events (disk (store_of first)).seen (disk (store_of last)).seen
       pub goes_on : life.goes_on under most p found (disk (store_of start)) (answered asked) traced.steps traced.behind (refused asked) (tape_of last).words traced.more (disk (store_of last))
       pub parted : Parted k first last asked err (Hides traced.behind)
+      pub staged : Staged (refused asked) (tape_of last).words traced.behind (store_of last) [] [] (store.public p found) (store.hidden p found) (answered asked) traced.steps (store_of first)
 
     -- what was seen of a last call, and what was shown
     abbrev Cut : (q : store.Public) (h : store.Hidden) (one : Option VaultCall) (fault : Option Fault) → List Event → List Note → Type 0
@@ -281,6 +305,7 @@ module _ {V S : Type 0} (k : Kind V) (store : StoreKind) (disk : S → Disk) (st
             more = refl;
             cut = tt;
           };
+          staged = subst (λ (o : Option VaultCall). Staged o (tape_of last).words b.kept (store_of last) [] [] (store.public p found) (store.hidden p found) (answered asked) b.taken (store_of first)) (sym none) (b.staged [] [] refl);
         }
 
     module _ (faults : (v : V) → (k.disk v).faults ≡ (disk (store_of v)).faults) where
@@ -305,11 +330,11 @@ module _ {V S : Type 0} (k : Kind V) (store : StoreKind) (disk : S → Disk) (st
 
       -- a last call was refused with this fault, behind others that were answered
       cut_short : (front : List (VaultCall × VaultAnswer)) (call : VaultCall) (answer : VaultAnswer) (fault : Fault) (notes : List Note) → AllNoted k first t (front ++ (call, answer) ∷ []) notes last u → AreAnswered front → AreWritten (ended_of front) records
-          → refused ((call, answer) ∷ []) ≡ Some call → shapes ((call, answer) ∷ []) ≡ [] → answered ((call, answer) ∷ []) ≡ [] → NoneServed ((call, answer) ∷ [])
+          → refused ((call, answer) ∷ []) ≡ Some call → shapes ((call, answer) ∷ []) ≡ [] → answered ((call, answer) ∷ []) ≡ [] → NoneServed ((call, answer) ∷ []) → is_answered answer ≡ false
           → ((q : store.Public) (h : store.Hidden) (so_far : List Shape) (n : ℕ) (v : V) (w : V) → At q h so_far n v → (one : Called k v call answer w)
           → Stops store under most p found (disk (store_of start)) (disk (store_of v)) (disk (store_of w)) (tape_of w).words q h so_far n call fault one.notes)
           → (IsStoreFault fault → Rose (k.disk first).faults (k.disk last).faults) → Ending (front ++ (call, answer) ∷ []) (Some (failed.Fault fault))
-      cut_short front call answer fault notes chain all wrote is none none_answered unserved stops cause =
+      cut_short front call answer fault notes chain all wrote is none none_answered unserved unanswered stops cause =
           let (mid, between, front_notes, own, before_last, (one, own_is, whole, own_shown), joined) = split first t front call answer notes last u chain in
           let b = behind (store.public p found) (store.hidden p found) [] 0 first t front front_notes mid between begun before_last all in
           let q = public_behind store p (store.public p found) b.taken in
@@ -359,6 +384,11 @@ module _ {V S : Type 0} (k : Kind V) (store : StoreKind) (disk : S → Disk) (st
               more = (last, one, refl);
               cut = unserved;
             };
+            staged = subst (λ (l : List VaultCall). Staged (refused (front ++ (call, answer) ∷ [])) (tape_of last).words b.kept (store_of last) [] [] (store.public p found) (store.hidden p found) l b.taken (store_of first)) (sym calls_front)
+                (subst (λ (o : Option VaultCall). Staged o (tape_of last).words b.kept (store_of last) [] [] (store.public p found) (store.hidden p found) (answered front) b.taken (store_of first)) (sym was_cut)
+                (staged_then store life disk under most p found (disk (store_of start)) call (tape_of mid).words (tape_of last).words b.kept (store_of mid) (store_of last) [] [] (store.public p found) (store.hidden p found) (answered front) b.taken (store_of first) (b.staged [] [] refl)
+                (subst (λ (whole : Bool). life.call_staged disk under most p found (disk (store_of start)) (answered front) b.taken q b.kept call (tape_of last).words whole (store_of mid) (store_of last)) unanswered
+                (at_stage (answered front) b.taken q b.kept (shapes front) (0 + length (ended_of front)) mid b.drawn b.at call answer last one))));
           }
         where
           none_before : (m : ℕ) → 0 + m ≡ m
@@ -367,12 +397,12 @@ module _ {V S : Type 0} (k : Kind V) (store : StoreKind) (disk : S → Disk) (st
       -- a refused batch, and a refused end
       by_fetch : (front : List (VaultCall × VaultAnswer)) (keys : List (Option ℕ)) (fault : Fault) (notes : List Note) → AllNoted k first t (front ++ (Fetch keys, RefusedBy fault) ∷ []) notes last u → AreAnswered front → AreWritten (ended_of front) records
           → (IsStoreFault fault → Rose (k.disk first).faults (k.disk last).faults) → Ending (front ++ (Fetch keys, RefusedBy fault) ∷ []) (Some (failed.Fault fault))
-      by_fetch front keys fault notes chain answered wrote cause = cut_short front (Fetch keys) (RefusedBy fault) fault notes chain answered wrote refl refl refl tt (λ q h so_far n v w at one. does q h so_far n v (Fetch keys) (RefusedBy fault) w at one) cause
+      by_fetch front keys fault notes chain answered wrote cause = cut_short front (Fetch keys) (RefusedBy fault) fault notes chain answered wrote refl refl refl tt refl (λ q h so_far n v w at one. does q h so_far n v (Fetch keys) (RefusedBy fault) w at one) cause
 
       by_end : (front : List (VaultCall × VaultAnswer)) (writes : List (ℕ × Option (List ℕ))) (refusal : EndErr) (notes : List Note) → AllNoted k first t (front ++ (End writes, end_answer (Err refusal)) ∷ []) notes last u → AreAnswered front → AreWritten (ended_of front) records
           → (IsStoreFault (fault_in refusal) → Rose (k.disk first).faults (k.disk last).faults) → Ending (front ++ (End writes, end_answer (Err refusal)) ∷ []) (Some (failed.Fault (fault_in refusal)))
-      by_end front writes (Before fault) notes chain answered wrote cause = cut_short front (End writes) (RefusedBy fault) fault notes chain answered wrote refl refl refl tt (λ q h so_far n v w at one. does q h so_far n v (End writes) (RefusedBy fault) w at one) cause
-      by_end front writes (Unsure fault) notes chain answered wrote cause = cut_short front (End writes) (DoubtBy fault) fault notes chain answered wrote refl refl refl tt (λ q h so_far n v w at one. does q h so_far n v (End writes) (DoubtBy fault) w at one) cause
+      by_end front writes (Before fault) notes chain answered wrote cause = cut_short front (End writes) (RefusedBy fault) fault notes chain answered wrote refl refl refl tt refl (λ q h so_far n v w at one. does q h so_far n v (End writes) (RefusedBy fault) w at one) cause
+      by_end front writes (Unsure fault) notes chain answered wrote cause = cut_short front (End writes) (DoubtBy fault) fault notes chain answered wrote refl refl refl tt refl (λ q h so_far n v w at one. does q h so_far n v (End writes) (DoubtBy fault) w at one) cause
 
       module _ (acts : List Act) (notes : List Note) (same : records_of_acts acts ≡ records) (chain : AllNoted k first t (calls acts) notes last u) (wrote : AreWritten (ended_of (calls acts)) records) where
         module _ (d e : DeskState) (err : RunErr) (f : Failure k (scene d first t) (scene e last u) acts before after err) where
@@ -567,6 +597,7 @@ module _ {V S : Type 0} (k : Kind V) (store : StoreKind) (disk : S → Disk) (st
           × life.goes_on under most p found (disk (store_of start)) (answered (calls xs)) t.steps t.behind (refused (calls xs)) (tape_of last).words t.more (disk (store_of last))
           × EndsFor store under p found (disk (store_of start)) t.behind (shapes (calls xs)) (length records) (refused (calls xs)) (tape_of last).words (disk (store_of start)) (disk (store_of last)) before after trace end.scene.trace (err_of result)
           × LivesBehind disk under sealing (store_of start) (store_of last) (map (λ s. s.1) (calls xs)) (store.seals t.behind)
+          × Staged (refused (calls xs)) (tape_of last).words t.behind (store_of last) [] [] (store.public p found) (store.hidden p found) (answered (calls xs)) t.steps (store_of start)
 
       -- the acts, as a list of the world's events
       listed : ListsActs store under p (disk (store_of start)) found script acts
@@ -582,7 +613,7 @@ module _ {V S : Type 0} (k : Kind V) (store : StoreKind) (disk : S → Disk) (st
       serves begun =
           let e = ending start last trace end.scene.trace unbroken before after records begun l.faults acts d.notes refl d.chain d.wrote base end.scene.desk runners end.runners result d.ends in
           let (lives, clear) = l.seals last (calls acts) e.traced.behind (err_of result) e.parted in
-          let told = subst (λ (xs : List Act). TracesLife xs e.events) acts_are (e.traced, e.shown, e.goes_on, e.cause, lives) in
+          let told = subst (λ (xs : List Act). TracesLife xs e.events) acts_are (e.traced, e.shown, e.goes_on, e.cause, lives, e.staged) in
           let stand = lines_stand k begin end acts result d.ends in (
             record {
               records = records;
@@ -609,6 +640,7 @@ module _ {V S : Type 0} (k : Kind V) (store : StoreKind) (disk : S → Disk) (st
               seals_on = told.4;
               clear = clear;
               goes_on = told.2;
+              staged = told.5;
             },
             calls_behind,
           )

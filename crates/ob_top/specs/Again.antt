@@ -8,7 +8,7 @@ use Rattle.ob_store.specs.Disk.{Disk}
 use Rattle.ob_store.specs.Images.{IsImageOf, IsSynced}
 use Rattle.ob_vault.specs.Acts.{AreTapeWords}
 use Rattle.ob_vault.specs.Formats.{beginning}
-use Rattle.ob_vault.specs.Lives.{ring_lives}
+use Rattle.ob_vault.specs.RingLives.{ring_lives}
 use Rattle.ob_vault.specs.RingKind.{ring_kind}
 use Rattle.ob_top.specs.Calls.{RunCall}
 use Rattle.ob_top.specs.Formats.{IsFormatted}

@@ -19,7 +19,7 @@ use Rattle.ob_top.specs.Parts.{Manner, manner}
 use Rattle.ob_store.specs.Lines.{Trace}
 use Rattle.ob_io.specs.Streams.{Flow}
 use Rattle.ob_conduct.specs.declared.run_err.RunErr.TheVariants as failed
-use Rattle.ob_vault.specs.Lives.{ring_lives}
+use Rattle.ob_vault.specs.RingLives.{ring_lives}
 use Rattle.ob_vault.specs.RingKind.{ring_kind}
 
 module _ {W : Type 0} (flow : W → Flow) (was is : Option W) where

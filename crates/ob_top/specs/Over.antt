@@ -20,7 +20,7 @@ use Rattle.ob_top.specs.Outside.{Given, HasTrace, Outside, blind, IsCommandFinis
 use Rattle.ob_top.specs.Drills.{ApartDoes}
 use Rattle.ob_top.specs.Formats.{FormatEnds}
 use Rattle.ob_vault.specs.RingKind.{ring_kind}
-use Rattle.ob_vault.specs.Lives.{ring_lives}
+use Rattle.ob_vault.specs.RingLives.{ring_lives}
 use Rattle.ob_top.specs.Runs.{RunOn}
 use Rattle.ob_top.specs.Parts.{manner}
 

@@ -45,6 +45,7 @@ use Rattle.ob_top.specs.Endings.{IsNextBy, LinesStand, told_fault}
 use Rattle.ob_top.specs.Listed.{AreListed}
 use Rattle.ob_top.specs.Outside.{Outside, ErrTold, Given, outside}
 use Rattle.ob_top.specs.Sound.{StandsOn}
+use Rattle.ob_top.specs.Staged.{CallsStaged}
 use Rattle.ob_top.specs.Parts.{begin_phases, IsTraced, CameIn, IsInClearBehind, IsOpened, EndsWith, Manner, IsNextEpoch, StagedFrom}
 
 -- What the watch is shown of the opening: the head's read, and the notes that the kind of store gives.
@@ -265,6 +266,8 @@ pub record ServedOver (store : StoreKind) (life : LifeWords store) {S : Type 0} 
   pub seals_on : LivesBehind disk keys sealing old new (map (λ s. s.1) (calls is_served.served.evidence.acts)) (store.seals traced.behind)
   pub clear : (disk new).tells → IsInClearBehind keys (disk old) (disk new) err
   pub goes_on : life.goes_on keys by.lanes p found (disk old) (answered (calls is_served.served.evidence.acts)) traced.steps traced.behind (refused (calls is_served.served.evidence.acts)) tape.words traced.more (disk new)
+  -- call by call in stages, from the store that was opened to the one that is left
+  pub staged : CallsStaged store life disk keys by.lanes p found (disk old) (refused (calls is_served.served.evidence.acts)) tape.words traced.behind new [] [] (store.public p found) (store.hidden p found) (answered (calls is_served.served.evidence.acts)) traced.steps old
 
 -- behind the run the tape has given this
 module _ (store : StoreKind) (life : LifeWords store) {S : Type 0} (disk : S → Disk) (by : Manner) (tape : Given) where
@@ -295,6 +298,8 @@ module _ (store : StoreKind) (life : LifeWords store) {S : Type 0} (disk : S →
     -- Each life that the cells stood for goes on with the opening's acts to where this was found; and behind the opening the script was
     -- served, which goes on from there.
     pub opens_life : (disk old).tells → life.begins keys p (disk old).cells found
+    -- it came in stages, as the calls behind it did
+    pub opens_staged : life.opens_staged disk keys p old between
     pub serving : ServedOver store life disk by keys p found sealing script tape between new before.output after.output midway u err
     pub told : serving.records ≡ records
 

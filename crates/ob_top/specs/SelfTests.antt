@@ -13,7 +13,7 @@ use Rattle.ob_twin.specs.declared.gates.Gates.{Gates}
 use Rattle.ob_vault.specs.Hidden.{RingHidden}
 use Rattle.ob_vault.specs.KindShown.{AreDrawn, steps_phases}
 use Rattle.ob_vault.specs.Shapes.{Shape, answered, shapes}
-use Rattle.ob_vault.specs.Lives.{ring_lives}
+use Rattle.ob_vault.specs.RingLives.{ring_lives}
 use Rattle.ob_vault.specs.RingKind.{IsRingMap, RingFound, ring_hidden, ring_kind, ring_public}
 use Rattle.ob_script.specs.Drill.{drill_script}
 use Rattle.ob_desk.specs.Beats.{BeatKind}

@@ -19,7 +19,7 @@ use Rattle.ob_top.specs.Audits.{AuditDone}
 use Rattle.ob_top.specs.Drills.{DrillDone}
 use Rattle.ob_top.specs.Formats.{FormatDone}
 use Rattle.ob_vault.specs.RingKind.{ring_kind}
-use Rattle.ob_vault.specs.Lives.{ring_lives}
+use Rattle.ob_vault.specs.RingLives.{ring_lives}
 use Rattle.ob_top.specs.Runs.{RunDone}
 use Rattle.ob_top.specs.Parts.{manner}
 

@@ -5,7 +5,7 @@ ghost use Rattle.ob_io.specs.Streams.{outflow};
 ghost use Rattle.ob_store.specs.Images.{LeavesOnly};
 ghost use Rattle.ob_store.specs.Calls.{GoesOn};
 ghost use Rattle.ob_vault.specs.RingKind.{ring_kind};
-ghost use Rattle.ob_vault.specs.Lives.{ring_lives};
+ghost use Rattle.ob_vault.specs.RingLives.{ring_lives};
 ghost use Rattle.ob_top.specs.Formats.{FormatEnds};
 ghost use Rattle.ob_top.specs.Endings.{err_of};
 ghost use Rattle.ob_top.specs.Outside.{words_given};

@@ -6,11 +6,10 @@ ghost use Rattle.ob_io.specs.Streams.{inflow, outflow};
 ghost use Rattle.ob_store.specs.Calls.{GoesOn};
 ghost use Rattle.ob_store.specs.Images.{IsSynced, LeavesOnly};
 ghost use Rattle.ob_serial.specs.Vaults.{Standing};
-ghost use Rattle.ob_vault.specs.Openings.{OpensStanding};
 ghost use Rattle.ob_vault.specs.Kinds.{Stands, AllStand, StandsAsBefore};
 ghost use Rattle.ob_recover.specs.declared.found.Found.{Found};
 ghost use Rattle.ob_vault.specs.RingKind.{GoesOnFrom, RingFound, ring_kind};
-ghost use Rattle.ob_vault.specs.Lives.{ring_lives};
+ghost use Rattle.ob_vault.specs.RingLives.{ring_lives};
 ghost use Rattle.ob_vault.specs.RingVaults.{HasPlanned, run_over};
 ghost use Rattle.ob_top.specs.Begun.{AreFewLanes, IsBegun, MayServe};
 ghost use Rattle.ob_desk.specs.Desk.{DeskState, MayOpen, new_desk, setup_of};
@@ -24,6 +23,7 @@ ghost use Rattle.ob_run.specs.Threaded.{RunsBy};
 ghost use Rattle.ob_serial.specs.VaultKinds.{kind_of};
 ghost use Rattle.ob_top.specs.Runs.{IsInputRefused, EndsEarly, IsReadAndOpened, LivesUnserved, ServedOver, RunOn};
 ghost use Rattle.ob_top.specs.Parts.{manner, CameIn};
+ghost use Rattle.ob_top.specs.Staged.{OpensInStages};
 ghost use Rattle.ob_top.specs.Endings.{err_of};
 ghost use Rattle.ob_top.specs.Outside.{words_given, outside};
 
@@ -114,8 +114,8 @@ fn begin<R: Threads + Sync, S: Lanes, T: Tape, I: Source, W: Watch>(
         → LeavesOnly (S.disk store.old) (S.disk store.new)
         (StandsAsBefore ring_kind keys.now begun.params (S.disk store.old))) }
     ensures since { IfOk result
-        (λ begun. OpensStanding ring_kind S.disk keys.now begun.params (S.disk store.old)
-        (S.disk store.new)) }
+        (λ begun. OpensInStages ring_kind ring_lives S.disk keys.now begun.params store.old
+        store.new) }
     ensures begun { IfOk result (λ begun. (f : RingFound) × (f.run ≡ run_over begun.opening)
         × IsBegun keys.now lanes begun.params begun.scripts (S.disk store.old) (S.disk store.new)
         (W.trace watch.old) (W.trace watch.new) (inflow I.Source input.old) f) }

@@ -163,7 +163,7 @@ module _ {V S : Type 0} (k : Kind V) (disk : S → Disk) (runs : V → Running S
     abbrev end_turns : List Phase
     end_turns = end_phases params (public_of_kept params c rs (old.run).epoch (old.run).gates) (fills_with_lifts params c rs)
 
-    end_is : end_turns ≡ ring_phases p q Ends (fills_with_lifts p c rs)
+    pub end_is : end_turns ≡ ring_phases p q Ends (fills_with_lifts p c rs)
     end_is =
         ap (λ (x : Params). end_phases x (public_of_kept x c rs (old.run).epoch (old.run).gates) (fills_with_lifts x c rs)) at.params
         ∙ ap (λ (x : Public). end_phases p x (fills_with_lifts p c rs)) at.known
@@ -200,7 +200,7 @@ module _ {V S : Type 0} (k : Kind V) (disk : S → Disk) (runs : V → Running S
         )
 
     -- the rows in which a refused call is cut: a batch's record, an end's lifts
-    record_is : append_notes params (suc (old.run).epoch) (next_batch old.run) ≡ record_notes p (((q.known).epoch + 1) % 2) q.shown
+    pub record_is : append_notes params (suc (old.run).epoch) (next_batch old.run) ≡ record_notes p (((q.known).epoch + 1) % 2) q.shown
     record_is =
         record_written params (suc (old.run).epoch) (next_batch old.run)
         ∙ ap (λ (x : Params). record_notes x (suc (old.run).epoch % 2) (next_batch old.run)) at.params

@@ -161,8 +161,9 @@ module _ {S : Type 0} (disk : S → Disk) (word_of : WordId → ℕ) (s : LifeSt
       idle = λ none. absurd (some_ends new.store [] none);
     }
 
-    refused_before : LeavesOnly (disk old.store) (disk new.store) (Stands keys p st) → ((c : Image) → (disk new.store).may_leave c → Stands keys p st c) → IsCallInLife disk word_of old new notes s (End ws) false
-    refused_before all images = record {
+    refused_before : (f : Fault) → EndCalled disk old new notes writes (Err (end.Before f)) → LeavesOnly (disk old.store) (disk new.store) (Stands keys p st) → ((c : Image) → (disk new.store).may_leave c → Stands keys p st c)
+        → IsCallInLife disk word_of old new notes s (End ws) false
+    refused_before f called all images = record {
       made = ShowLifts ∷ [];
       in_flight = None;
       law = record {
@@ -173,6 +174,7 @@ module _ {S : Type 0} (disk : S → Disk) (word_of : WordId → ℕ) (s : LifeSt
       };
       shown = λ b e. none_pending _ (Append b) e;
       shows = inr refl;
+      told = λ no. (refl, inl (refl, (f, called)));
       turn = λ k so_far. all_made p word_of s k (ShowLifts ∷ []) (tt, tt);
       left = λ c left. record {
         allowed = λ a e. none_pending (IsActAllowed p word_of lifted a) a e;
@@ -308,8 +310,8 @@ module _ {S : Type 0} (disk : S → Disk) (word_of : WordId → ℕ) (s : LifeSt
       }
 
       -- in doubt: the lifts were shown, and the end is in flight
-      in_doubt : IsEndInStages disk old.lanes st fs old.run new.run old.store new.store → ((c : Image) → (disk new.store).may_leave c → OneOf keys p st (standing_at_end st new.run fs) c) → IsCallInLife disk word_of old new notes s (End ws) false
-      in_doubt all images = record {
+      in_doubt : (f : Fault) → EndCalled disk old new notes writes (Err (end.Unsure f)) → IsEndInStages disk old.lanes st fs old.run new.run old.store new.store → ((c : Image) → (disk new.store).may_leave c → OneOf keys p st (standing_at_end st new.run fs) c) → IsCallInLife disk word_of old new notes s (End ws) false
+      in_doubt f called all images = record {
         made = ShowLifts ∷ [];
         in_flight = Some the_end;
         law = record {
@@ -320,6 +322,7 @@ module _ {S : Type 0} (disk : S → Disk) (word_of : WordId → ℕ) (s : LifeSt
         };
         shown = λ b e. no_append_end _ (map id_write fs) (new.run).drawn (slot_kept then) b e;
         shows = inr refl;
+        told = λ no. (refl, inr (f, called));
         turn = λ k so_far. record { made_next = (tt, tt); flying_next = λ a e. subst (λ (x : LifeAct). DrawsNext p word_of lifted k x) (same_act the_end a e) (end_turn k so_far) };
         left = λ c left. record {
           allowed = λ a e. subst (λ (x : LifeAct). IsActAllowed p word_of lifted x) (same_act the_end a e) end_allowed;
@@ -346,6 +349,7 @@ module _ {S : Type 0} (disk : S → Disk) (word_of : WordId → ℕ) (s : LifeSt
         };
         shown = λ b e. none_pending _ (Append b) e;
         shows = inl refl;
+        told = λ no. absurd (false≢true (sym no));
         turn = λ k so_far. all_made p word_of s k (ShowLifts ∷ the_end ∷ []) (tt, (end_turn k so_far, tt));
         left = λ c left. record {
           allowed = λ a e. none_pending (IsActAllowed p word_of ended a) a e;
@@ -379,9 +383,9 @@ module _ {S : Type 0} (disk : S → Disk) (word_of : WordId → ℕ) (s : LifeSt
       (is.stages st runs.at) (is.stands st runs.at) (is.run).keys (is.run).params
 
   pub end_before : (f : Fault) → EndCalled disk old new notes writes (Err (end.Before f)) → IsCallInLife disk word_of old new notes s (End ws) false
-  end_before f is = refused_before is.none_left (is.stages st runs.at) (images_then (Err (end.Before f)) is)
+  end_before f is = refused_before is.none_left f is (is.stages st runs.at) (images_then (Err (end.Before f)) is)
 
   pub end_unsure : (f : Fault) → EndCalled disk old new notes writes (Err (end.Unsure f)) → IsCallInLife disk word_of old new notes s (End ws) false
   end_unsure f is =
       in_doubt is.none_left (is.run).was_drawn (is.run).drawn is.few (is.answers t0 stands0) (is.draws t0 stands0) (is.table t0 stands0) is.entries (is.filled t0 stands0) is.content
-      (is.stages st runs.at) (images_then (Err (end.Unsure f)) is)
+      f is (is.stages st runs.at) (images_then (Err (end.Unsure f)) is)

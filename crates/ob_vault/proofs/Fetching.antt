@@ -1,5 +1,5 @@
 -- A fetch as a call of a life.
-use Rattle.std.specs.Prelude.{◌≡◌, ◌⊎◌, ℕ, suc, ◌+◌, ◌<◌, ◌≤◌, ◌^◌, Bool, true, false, List, [], ◌∷◌, ◌++◌, length, slice_index, Option, None, Some, Result, Ok, Err}
+use Rattle.std.specs.Prelude.{◌≡◌, ◌⊎◌, ℕ, suc, ◌+◌, ◌<◌, ◌≤◌, ◌%◌, ◌^◌, Bool, true, false, List, [], ◌∷◌, ◌++◌, length, slice_index, Option, None, Some, Result, Ok, Err}
 use Rattle.std.proofs.Common.{arith, length-append, refl, sym, ap, subst, ◌∙◌, inl, inr, ⊎_elim}
 use Rattle.std.proofs.lemmas.Bool.{cases_lt, false≢true}
 use Rattle.std.proofs.lemmas.List.{get_or-append-add, length-map, map-append}
@@ -10,9 +10,11 @@ use Rattle.ob_base.specs.declared.fault.Fault.TheVariants as fault
 use Rattle.ob_base.specs.declared.params.Params.{Params}
 use Rattle.ob_fetch.specs.declared.run.Run.{Run}
 use Rattle.ob_fetch.proofs.LogLaws.{more_at}
-use Rattle.ob_fetch.specs.Fetches.{DrawsWords, FetchStages, IsFetchInStages, IsOpenBetween, RunIsAt, next_batch, words_since}
+use Rattle.ob_fetch.specs.Fetches.{DrawsWords, FetchStages, IsBodyAlone, IsFetchInStages, IsOpenBetween, RunIsAt, next_batch, words_since}
 use Rattle.ob_recover.specs.Life.{Append, IsActAllowed, LifeAct, LifeBatch, LifeState, ShowBatch, WordId, life_step}
-use Rattle.ob_log.specs.Appends.{append_notes}
+use Rattle.ob_fetch.proofs.StageLaws.{gate_cut}
+use Rattle.ob_log.proofs.OnceLaws.{records_same}
+use Rattle.ob_log.specs.Appends.{append_notes, body_notes, gate_notes}
 use Rattle.ob_log.specs.Logs.{BatchRecord, OpenRecords}
 use Rattle.ob_recover.specs.Lives.{AreWordsOf, IsLifeAt, life_batch}
 use Rattle.ob_vault.specs.RingVaults.{FetchCalled, Running, record_of_fetch}
@@ -20,10 +22,13 @@ use Rattle.ob_seal.specs.declared.keys.Keys.{Keys}
 use Rattle.ob_serial.specs.Vaults.{Fetch}
 use Rattle.ob_stand.specs.Stands.{OneOf, RingStanding, Stands, with_record}
 use Rattle.ob_store.specs.Disk.{Clock, Disk, Image, NotAfter}
-use Rattle.ob_store.specs.Images.{LeavesOnly}
+use Rattle.ob_store.specs.Images.{LeavesOnly, SameOff}
+use Rattle.ob_store.proofs.Doing.{cut_more}
 use Rattle.ob_store.proofs.Moments.{started, weakened}
 use Rattle.ob_store.specs.Told.{IsCut}
 use Rattle.ob_store.specs.declared.watch.Note.{Note}
+use Rattle.ob_store.specs.declared.watch.Note.TheVariants.{Sync, Write}
+use Rattle.ob_base.specs.Layout.{log_cell, log_gate, record_cells}
 use Rattle.ob_fresh.proofs.Turns.{all_made}
 use Rattle.ob_fresh.specs.Drawn.{DrawsNext, WordsKept}
 use Rattle.ob_twin.proofs.Moves.{at_the_end}
@@ -154,13 +159,24 @@ module _ {S : Type 0} (disk : S → Disk) (word_of : WordId → ℕ) (s : LifeSt
 
       -- ---- its stages
 
+      -- its body is written: no image has it
+      pub keeping : (a x : S) → LeavesOnly (disk a) (disk x) (Stands keys p st) → IsStage disk keys p word_of s ([], None) a x
+      keeping a x all = record {
+        is_life = tt;
+        small = (runs.small, λ y e. none_pending (IsBatchSmall y) (Append y) e);
+        turn = λ k so_far. all_made p word_of s k [] tt;
+        leaves = weakened (disk a) (disk x) (Stands keys p st) (IsLeftAt keys p word_of s None)
+            (λ c stands. record { allowed = λ y e. none_pending (IsActAllowed p word_of s y) y e; stands = λ i same. inl (stands_old i (subst (Stands keys p st) same stands)) })
+            all;
+      }
+
       -- the record is in flight
-      pub logging : 0 < (old.run).left → (x : S) → LeavesOnly (disk old.store) (disk x) (OneOf keys p st (with_record st r)) → IsStage disk keys p word_of s ([], Some (Append b)) old.store x
-      logging some_left x all = record {
+      pub logging : 0 < (old.run).left → (a x : S) → LeavesOnly (disk a) (disk x) (OneOf keys p st (with_record st r)) → IsStage disk keys p word_of s ([], Some (Append b)) a x
+      logging some_left a x all = record {
         is_life = tt;
         small = (runs.small, λ y e. subst IsBatchSmall (same_batch b y (same_act (Append b) (Append y) e)) small_batch);
         turn = λ k so_far. record { made_next = tt; flying_next = λ a e. subst (λ (y : LifeAct). DrawsNext p word_of s k y) (same_act (Append b) a e) (batch_turn k so_far) };
-        leaves = weakened (disk old.store) (disk x) (OneOf keys p st (with_record st r)) (IsLeftAt keys p word_of s (Some (Append b)))
+        leaves = weakened (disk a) (disk x) (OneOf keys p st (with_record st r)) (IsLeftAt keys p word_of s (Some (Append b)))
             (λ c one. record {
               allowed = λ a e. subst (λ (y : LifeAct). IsActAllowed p word_of s y) (same_act (Append b) a e) (allowed some_left);
               stands = λ i same. by_one i (subst (OneOf keys p st (with_record st r)) same one);
@@ -191,7 +207,7 @@ module _ {S : Type 0} (disk : S → Disk) (word_of : WordId → ℕ) (s : LifeSt
       both_stages : 0 < (old.run).left → (answered : Bool) → IsFetchInStages disk old.run st r old.store new.store → IsStaged disk word_of old new notes s (Fetch asks) answered
       both_stages some_left answered f = record {
         ends = f.between ∷ new.store ∷ [];
-        stages = (logging some_left f.between f.until, inr f.made, (reading some_left f.between new.store f.since, inl refl, refl));
+        stages = (logging some_left old.store f.between f.until, inr f.made, (reading some_left f.between new.store f.since, inl refl, refl));
         whole = λ yes. refl;
         idle = λ none. absurd (some_ends f.between (new.store ∷ []) none);
       }
@@ -201,14 +217,18 @@ module _ {S : Type 0} (disk : S → Disk) (word_of : WordId → ℕ) (s : LifeSt
       store_stages some_left unsure (inl both) = both_stages some_left false both
       store_stages some_left unsure (inr first) = record {
         ends = new.store ∷ [];
-        stages = (logging some_left new.store first.1, inl refl, refl);
+        stages = (logging some_left old.store new.store first.leaves, inl refl, refl);
         whole = λ yes. absurd (false≢true yes);
         idle = λ none. absurd (some_ends new.store [] none);
       }
 
-      -- the record is in flight, and no more was shown than its writes
-      module _ (some_left : 0 < (old.run).left) (written : (done : List Note) × IsCut (append_notes p (suc (old.run).epoch) (next_batch old.run)) done notes) (staged : IsStaged disk word_of old new notes s (Fetch asks) false)
+      -- the record is in flight, and all of its notes were shown but the last sync
+      module _ (some_left : 0 < (old.run).left) (written : notes ≡ gate_notes p (suc (old.run).epoch) (next_batch old.run)) (staged : IsStaged disk word_of old new notes s (Fetch asks) false)
           (images : (c : Image) → (disk new.store).may_leave c → OneOf keys p st (with_record st r) c) where
+        gate_shown : IsCut (append_notes p (suc (old.run).epoch) (next_batch old.run)) (gate_notes p (suc (old.run).epoch) (next_batch old.run)) notes
+        gate_shown = subst (λ (xs : List Note). IsCut (append_notes p (suc (old.run).epoch) (next_batch old.run)) (gate_notes p (suc (old.run).epoch) (next_batch old.run)) xs) (sym written)
+            (gate_cut p (suc (old.run).epoch) (next_batch old.run))
+
         leaves_one : (c : Image) → (disk new.store).may_leave c → StandsInLife keys p word_of s c ⊎ ((a : LifeAct) × (Some (Append b) ≡ Some a) × StandsInLife keys p word_of (life_step p word_of s a) c)
         leaves_one c left = by_one c (images c left)
 
@@ -222,8 +242,9 @@ module _ {S : Type 0} (disk : S → Disk) (word_of : WordId → ℕ) (s : LifeSt
             part = inr (Append b ∷ ShowBatch ∷ [], refl, inr (Append b, ShowBatch ∷ [], refl, refl));
             leaves = λ was. leaves_one;
           };
-          shown = λ x e. written;
-          shows = inr (refl, written.0, written.1);
+          shown = λ x e. (gate_notes p (suc (old.run).epoch) (next_batch old.run), gate_shown);
+          shows = inr (refl, gate_notes p (suc (old.run).epoch) (next_batch old.run), gate_shown);
+          told = λ no. inl (inr (refl, written));
           turn = λ k so_far. record { made_next = tt; flying_next = λ a e. subst (λ (x : LifeAct). DrawsNext p word_of s k x) (same_act (Append b) a e) (batch_turn k so_far) };
           left = λ c left. record {
             allowed = λ a e. subst (λ (x : LifeAct). IsActAllowed p word_of s x) (same_act (Append b) a e) (allowed some_left);
@@ -234,8 +255,43 @@ module _ {S : Type 0} (disk : S → Disk) (word_of : WordId → ℕ) (s : LifeSt
           onward = λ yes. absurd (false≢true yes);
         }
 
+      -- no more was shown than the record's body, and no image has the record
+      module _ (some_left : 0 < (old.run).left) (alone : IsBodyAlone disk keys p (suc (old.run).epoch) (next_batch old.run) notes old.store new.store) (staged : IsStaged disk word_of old new notes s (Fetch asks) false)
+          (images : (c : Image) → (disk new.store).may_leave c → OneOf keys p st (with_record st r) c) (counts_now : (t : Clock) (c : Image) → NotAfter t (disk new.store).moment → (disk new.store).may_leave c → (disk new.store).left_since t c) where
+        log_kept : (c : Image) → (disk new.store).may_leave c → OpenRecords keys p (suc st.epoch) st.records c
+        log_kept c left =
+            let batch : length st.records ≡ next_batch old.run = (let all = ((runs.at).runs).left_are in omega (arith, all)) in
+            let epoch = ((runs.at).runs).epoch_is in
+            subst (λ n. OpenRecords keys p (suc n) st.records c) epoch
+            (at_the_end (disk old.store) (disk new.store) (λ i. OpenRecords keys p (suc (old.run).epoch) st.records i × SameOff (log_cell p (suc (old.run).epoch % 2) (next_batch old.run) 0) (record_cells p + 1) i (disk old.store).cells) counts_now
+            (alone.kept st.records (runs.at).tells (runs.at).settled batch (subst (λ n. OpenRecords keys p (suc n) st.records (disk old.store).cells) (sym epoch) (((runs.at).stands).holds).log)) c left).0
+
+        one_more : (rs : List BatchRecord) → rs ≡ rs ++ r ∷ [] → ⊥
+        one_more rs same = let many : length rs ≡ length (rs ++ r ∷ []) = ap (λ (l : List BatchRecord). length l) same in omega (arith, many, length-append rs (r ∷ []))
+
+        stood : (c : Image) → (disk new.store).may_leave c → Stands keys p st c
+        stood c left = ⊎_elim
+            (λ (was : Stands keys p st c). was)
+            (λ (more : Stands keys p (with_record st r) c). absurd (one_more st.records (records_same keys p (suc st.epoch) st.records (st.records ++ r ∷ []) c (log_kept c left) (more.holds).log)))
+            (images c left)
+
+        body_alone : IsCallInLife disk word_of old new notes s (Fetch asks) false
+        body_alone = record {
+          made = [];
+          in_flight = None;
+          law = record { is_life = tt; whole = λ yes. absurd (false≢true yes); part = inl (refl, refl); leaves = λ was c left. inl (stands_old c (stood c left)) };
+          shown = λ x e. none_pending _ (Append x) e;
+          shows = inr (refl, alone.made, cut_more (body_notes p (suc (old.run).epoch) (next_batch old.run)) (Write (log_gate p (suc (old.run).epoch % 2) (next_batch old.run)) ∷ Sync ∷ []) alone.made notes alone.cut);
+          told = λ no. inl (inl (refl, refl, (alone.made, alone.cut)));
+          turn = λ k so_far. all_made p word_of s k [] tt;
+          left = λ c left. record { allowed = λ a e. none_pending (IsActAllowed p word_of s a) a e; stands = λ i is. inl (stands_old i (stood i (subst (disk new.store).may_leave is left))) };
+          staged = staged;
+          small = (runs.small, λ x e. none_pending (IsBatchSmall x) (Append x) e);
+          onward = λ yes. absurd (false≢true yes);
+        }
+
       -- the record is open, and its batch was shown, or may have been
-      module _ (some_left : 0 < (old.run).left) (opened : IsOpenBetween disk keys p (suc (old.run).epoch) r old.store new.store) (staged : IsStaged disk word_of old new notes s (Fetch asks) false)
+      module _ (some_left : 0 < (old.run).left) (opened : IsOpenBetween disk keys p (suc (old.run).epoch) r old.store new.store) (behind : (more : List Note) × (notes ≡ append_notes p (suc (old.run).epoch) (next_batch old.run) ++ more)) (staged : IsStaged disk word_of old new notes s (Fetch asks) false)
           (images : (c : Image) → (disk new.store).may_leave c → OneOf keys p st (with_record st r) c) where
         log_at : (c : Image) → (disk new.store).may_leave c → OpenRecords keys p (suc st.epoch) (st.records ++ r ∷ []) c
         log_at c left =
@@ -279,6 +335,7 @@ module _ {S : Type 0} (disk : S → Disk) (word_of : WordId → ℕ) (s : LifeSt
           };
           shown = λ x e. none_pending _ (Append x) e;
           shows = inl refl;
+          told = λ no. inr (refl, behind);
           turn = λ k so_far. all_made p word_of s k (Append b ∷ ShowBatch ∷ []) (batch_turn k so_far, (tt, tt));
           left = λ c left. record {
             allowed = λ a e. none_pending (IsActAllowed p word_of seen a) a e;
@@ -311,6 +368,7 @@ module _ {S : Type 0} (disk : S → Disk) (word_of : WordId → ℕ) (s : LifeSt
           };
           shown = λ x e. none_pending _ (Append x) e;
           shows = inl refl;
+          told = λ no. absurd (false≢true (sym no));
           turn = λ k so_far. all_made p word_of s k (Append b ∷ ShowBatch ∷ []) (batch_turn k so_far, (tt, tt));
           left = λ c left. record {
             allowed = λ a e. none_pending (IsActAllowed p word_of shown a) a e;
@@ -338,6 +396,9 @@ module _ {S : Type 0} (disk : S → Disk) (word_of : WordId → ℕ) (s : LifeSt
   nothing_shown : notes ≡ [] → IsCut (append_notes p (suc (old.run).epoch) (next_batch old.run)) [] notes
   nothing_shown none = record { count = 0; few = omega arith; made_are = refl; shown_are = inl none }
 
+  body_unshown : notes ≡ [] → IsCut (body_notes p (suc (old.run).epoch) (next_batch old.run)) [] notes
+  body_unshown none = record { count = 0; few = omega arith; made_are = refl; shown_are = inl none }
+
   idle_called : ((c : Image) → (disk old.store).left_since (disk old.store).moment c → (disk old.store).may_leave c) → new.store ≡ old.store → notes ≡ [] → IsCallInLife disk word_of old new notes s (Fetch asks) false
   idle_called only same none =
       let stays = λ (c : Image) (left : (disk new.store).may_leave c).
@@ -348,6 +409,7 @@ module _ {S : Type 0} (disk : S → Disk) (word_of : WordId → ℕ) (s : LifeSt
         law = record { is_life = tt; whole = λ yes. absurd (false≢true yes); part = inl (refl, refl); leaves = λ was c left. inl (stays c left) };
         shown = λ x e. none_pending _ (Append x) e;
         shows = inr (refl, [], nothing_shown none);
+        told = λ no. inl (inl (refl, refl, ([], body_unshown none)));
         turn = λ k so_far. all_made p word_of s k [] tt;
         left = λ c left. record { allowed = λ a e. none_pending (IsActAllowed p word_of s a) a e; stands = λ i is. inl (stays i (subst (disk new.store).may_leave is left)) };
         staged = record {
@@ -385,9 +447,14 @@ module _ {S : Type 0} (disk : S → Disk) (word_of : WordId → ℕ) (s : LifeSt
     fetch_err (fault.StoreFault unsure) is =
         let few : (old.run).drawn + p.places ≤ 2 ^ 62 = ⊎_elim (λ (more : 2 ^ 62 < (old.run).drawn + p.places). absurd ((is.worn).1 (inl more))) (λ few. few) (cases_lt (2 ^ 62) ((old.run).drawn + p.places)) in
         let images = images_then (Err (fault.StoreFault unsure)) is in
+        let staged = store_stages (is.run).was_drawn is.whole is.draws few is.some_left unsure (is.stages st runs.at) in
         ⊎_elim
-        (λ (written : (done : List Note) × IsCut (append_notes p (suc (old.run).epoch) (next_batch old.run)) done notes). in_flight (is.run).was_drawn is.whole is.draws few is.some_left written (store_stages (is.run).was_drawn is.whole is.draws few is.some_left unsure (is.stages st runs.at)) images)
-        (λ (opened : IsOpenBetween disk keys p (suc (old.run).epoch) r old.store new.store). batch_seen (is.run).was_drawn is.whole is.draws few is.some_left opened (store_stages (is.run).was_drawn is.whole is.draws few is.some_left unsure (is.stages st runs.at)) images)
+        (λ (short : IsBodyAlone disk keys p (suc (old.run).epoch) (next_batch old.run) notes old.store new.store ⊎ (notes ≡ gate_notes p (suc (old.run).epoch) (next_batch old.run))). ⊎_elim
+        (λ (alone : IsBodyAlone disk keys p (suc (old.run).epoch) (next_batch old.run) notes old.store new.store). body_alone (is.run).was_drawn is.whole is.draws few is.some_left alone staged images counts_now)
+        (λ (written : notes ≡ gate_notes p (suc (old.run).epoch) (next_batch old.run)). in_flight (is.run).was_drawn is.whole is.draws few is.some_left written staged images)
+        short)
+        (λ (opened : IsOpenBetween disk keys p (suc (old.run).epoch) r old.store new.store × ((more : List Note) × (notes ≡ append_notes p (suc (old.run).epoch) (next_batch old.run) ++ more))).
+        batch_seen (is.run).was_drawn is.whole is.draws few is.some_left opened.0 opened.1 staged images)
         is.shown
     fetch_err (fault.StashFull rows) is = absurd is.refusal
     fetch_err (fault.Worn number) is = idle_called only_now (is.idle tt) is.shown

@@ -1,5 +1,6 @@
 -- What a store is left as, where a life is.
-use Rattle.std.specs.Prelude.{◌≡◌, ◌⊎◌, ℕ, suc, ◌+◌, ◌%◌, ◌<◌, List, [], ◌∷◌, ◌++◌, map, length, Option, Some, None}
+use Rattle.std.specs.Prelude.{◌≡◌, ◌⊎◌, ℕ, suc, ◌+◌, ◌%◌, ◌<◌, false, List, [], ◌∷◌, ◌++◌, map, length, Option, Some, None}
+use Rattle.std.specs.Ordering.{nat_cmp}
 use Rattle.std.proofs.Common.{arith, refl, sym, ap, subst, ◌∙◌, inl, inr}
 use Rattle.std.proofs.lemmas.List.{length-map}
 use Rattle.std.proofs.lemmas.Option.{same_Some}
@@ -20,10 +21,10 @@ use Rattle.ob_log.specs.Logs.{BatchRecord}
 use Rattle.ob_recover.specs.Repeats.{content_of_ring}
 use Rattle.ob_vault.proofs.Calls.{call_lives}
 use Rattle.ob_vault.proofs.Fetching.{at_standing, none_pending, settled_stands}
-use Rattle.ob_vault.specs.Acts.{AreBatchesSmall, AreTapeWords, IsBatchSmall, IsCallInLife, IsShownBy, RunsInLife, id_write, is_answered, life_call}
+use Rattle.ob_vault.specs.Acts.{AreBatchesSmall, AreTapeWords, IsBatchSmall, IsCallInLife, IsMadeAsTold, IsShownBy, RunsInLife, id_write, is_answered, life_call}
 use Rattle.ob_vault.proofs.Barely.{barely}
 use Rattle.ob_vault.specs.Hidden.{AreFirst, IsNextRecord, RingCut, RingCutShown, RingDrawsCut, RingHidden}
-use Rattle.ob_vault.specs.RingKind.{RingFound, ring_hidden, ring_kind}
+use Rattle.ob_vault.specs.RingKind.{IsRingMap, RingFound, ring_hidden, ring_kind}
 use Rattle.ob_vault.specs.RingSteps.{HasRingWords, RingAt, RunIsAtHidden}
 use Rattle.ob_vault.specs.Seen.{RingPublic}
 use Rattle.ob_vault.proofs.SealCalls.{kept_by}
@@ -33,9 +34,10 @@ use Rattle.ob_vault.specs.RingVaults.{KeepsRun, RingCalled, Running, record_of_f
 use Rattle.ob_schedule.specs.Phases.{phases_of}
 use Rattle.ob_schedule.specs.Schedule.{Fills, Public, record_notes}
 use Rattle.ob_seal.specs.declared.keys.Keys.{Keys}
+use Rattle.ob_serial.specs.Serial.{Map}
 use Rattle.ob_serial.specs.VaultKinds.{Called, Kind}
 use Rattle.ob_serial.specs.Vaults.{DoubtBy, End, Ended, Fetch, RefusedBy, Values, VaultAnswer, VaultCall}
-use Rattle.ob_stand.specs.Stands.{RingStanding}
+use Rattle.ob_stand.specs.Stands.{RingStanding, Stands}
 use Rattle.ob_store.specs.Disk.{Clock, Disk, Image, NotAfter}
 use Rattle.ob_store.specs.Told.{IsCut}
 use Rattle.ob_store.specs.declared.event.Event.{Event}
@@ -90,8 +92,11 @@ module _ {V S : Type 0} (k : Kind V) (disk : S → Disk) (runs : V → Running S
 
     -- ---- behind calls that were all answered
 
-    stands_here : (c : Image) → (disk (runs v).store).may_leave c → StandsInLife keys p word_of s c
-    stands_here c left = at_standing keys p word_of st s c (settled_stands run keys p st (disk (runs v).store) c lies.at at.keys_are at.params left) epoch generation life
+    pub standing_here : (c : Image) → Stands keys p st c → StandsInLife keys p word_of s c
+    standing_here c stands = at_standing keys p word_of st s c stands epoch generation life
+
+    pub stands_here : (c : Image) → (disk (runs v).store).may_leave c → StandsInLife keys p word_of s c
+    stands_here c left = standing_here c (settled_stands run keys p st (disk (runs v).store) c lies.at at.keys_are at.params left)
 
     pub at_rest : (ws : List ℕ) (seen : List Event) → IsLeftInLife keys most p word_of s h None ws seen (disk (runs v).store)
     at_rest ws seen = record {
@@ -276,3 +281,14 @@ module _ {V S : Type 0} (k : Kind V) (disk : S → Disk) (runs : V → Running S
           turn = l.turn;
           turn_left = λ m is k so_far. refusal_turn q h n v at word_of (reached p word_of s l.acts) l.then (at.stands m is) call answer w one (subst (λ g. AreTapeWords word_of g (runs w).drawn) (sym on.generation) tape) fills refused seen is_cut is_shown k so_far;
         }
+
+    -- and its notes tell how far it came
+    pub refused_as_told : (call : VaultCall) (answer : VaultAnswer) (w : V) (one : Called k v call answer w) (c : Fills) (refused : Fault) (seen : List Event) (is_cut : RingCut most p q h call c (runs w).drawn refused seen) (is_shown : RingCutShown most p q call c refused seen one.notes)
+        → is_answered answer ≡ false → (word_of : WordId → ℕ) (s : LifeState) (here : IsInLife p word_of (ring_hidden f) s) (tape : AreTapeWords word_of (ring_hidden f).generation (runs w).drawn) (m : Map nat_cmp) (is : IsRingMap keys p opened f m)
+        → IsMadeAsTold disk word_of (runs v) (runs w) one.notes call ((goes_on_refused call answer w one c refused seen is_cut is_shown word_of s here tape).left m is).made ((goes_on_refused call answer w one c refused seen is_cut is_shown word_of s here tape).left m is).in_flight
+    unfolding goes_on_refused at_refusal
+    refused_as_told call answer w one fills refused seen is_cut is_shown unserved word_of s here tape m is =
+        let kept : KeepsRun disk (runs v) (runs w) one.notes = kept_by disk (runs v) (runs w) one.notes call answer (words.called v call answer one.notes w one.called) in
+        let grown : (runs w).drawn ≡ h.words ++ words_since (runs v).drawn (runs w).drawn = kept.grows ∙ ap (λ (ws : List ℕ). ws ++ words_since (runs v).drawn (runs w).drawn) at.tape in
+        let l : AreOfLife p word_of s calls steps h = drawn_shown p word_of s (ring_hidden f) h calls steps here drawn (own_words word_of (runs w).drawn grown tape) in
+        (made q h n v at word_of (reached p word_of s l.acts) l.then (at.stands m is) call answer w one (subst (λ g. AreTapeWords word_of g (runs w).drawn) (sym on.generation) tape)).told unserved

@@ -42,7 +42,9 @@ pub mod Leaving
 pub mod Whole
 pub mod Joining
 pub mod Spanning
+pub mod CallStages
 pub mod OpeningStages
+pub mod Staging
 pub mod Formatted
 pub mod SealCounts
 pub mod Given

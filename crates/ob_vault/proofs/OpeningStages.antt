@@ -1,5 +1,5 @@
 -- The stages of an opening.
-use Rattle.std.specs.Prelude.{◌≡◌, ◌⊎◌, ℕ, suc, ◌+◌, List, [], ◌∷◌, ◌++◌, length, Option, Some, None}
+use Rattle.std.specs.Prelude.{◌≡◌, ◌⊎◌, ℕ, suc, List, [], ◌∷◌, ◌++◌, length, Option, Some, None}
 use Rattle.std.proofs.Common.{arith, refl, sym, ap, subst, ◌∙◌, inl, inr}
 use Rattle.ob_base.specs.declared.params.Params.{Params}
 use Rattle.ob_opening.proofs.ActLaws.{FoundActs, found_acts}
@@ -21,15 +21,19 @@ use Rattle.ob_vault.proofs.Fetching.{at_standing, none_pending, same_act}
 use Rattle.ob_vault.proofs.OpenedLife.{repeats_live}
 use Rattle.ob_vault.proofs.OpenedRun.{IsFurther, further, moved}
 use Rattle.ob_vault.proofs.Whole.{reached_join}
-use Rattle.ob_vault.specs.Stages.{HowFar, IsOpeningStage, IsOpeningStaged, OpeningsComeInStages}
+use Rattle.ob_vault.specs.Stages.{BeginsBehind, HowFar, IsOpeningStage, IsOpeningStaged, OpeningsComeInStages}
 
 found_live : (p : Params) (word_of : WordId → ℕ) (s : LifeState) (pending : Option LifeAct) (found : List LifeAct) → ((a : LifeAct) → pending ≡ Some a → IsActAllowed p word_of s a) → Finds pending found → IsLife p word_of s found
 found_live p word_of s pending found allowed (inl none) = subst (λ (acts : List LifeAct). IsLife p word_of s acts) (sym none) tt
 found_live p word_of s pending found allowed (inr one) = subst (λ (acts : List LifeAct). IsLife p word_of s acts) (sym one.2) (allowed one.0 one.1, tt)
 
+-- what an opening of which the generation began leaves until then
+pub opens_of : {S : Type 0} (disk : S → Disk) (keys : Keys) (p : Params) (old new : S) (h : BeginsBehind disk keys p old new) → OpensFrom disk keys p old (h.begins).between
+opens_of disk keys p old new h = begun_opens disk keys p (h.found).generation old (h.begins).between (λ g told stands. generation_is keys p (disk old).cells h.found g (h.found_in told) stands) (h.begins).from
+
 module _ {S : Type 0} (disk : S → Disk) (only_now : (x : S) (c : Image) → (disk x).left_since (disk x).moment c → (disk x).may_leave c) (keys : Keys) (p : Params) (word_of : WordId → ℕ) (s : LifeState) (pending : Option LifeAct) (old : S)
     (tells : (disk old).tells) (left : IsLeftAt keys p word_of s pending (disk old).cells) (all : (c : Image) → (disk old).may_leave c → IsLeftAt keys p word_of s pending c) where
-  abbrev f : FoundActs keys p word_of s pending (disk old).cells
+  abbrev pub f : FoundActs keys p word_of s pending (disk old).cells
   f = found_acts keys p word_of s pending (disk old).cells left
 
   abbrev t : LifeState
@@ -50,12 +54,12 @@ module _ {S : Type 0} (disk : S → Disk) (only_now : (x : S) (c : Image) → (d
   abbrev next : RingStanding
   next = with_generation st (suc st.generation)
 
-  live : IsLife p word_of s f.found
+  pub live : IsLife p word_of s f.found
   live = found_live p word_of s pending f.found left.allowed f.finds
 
   -- ---- up to the first sync
 
-  finding : (x : S) → Passes Same (disk old) (disk x) → IsOpeningStage disk keys p word_of s ([], pending) old x
+  pub finding : (x : S) → Passes Same (disk old) (disk x) → IsOpeningStage disk keys p word_of s ([], pending) old x
   finding x passes = record {
     is_life = tt;
     leaves = leaves_of Same (IsLeftAt keys p word_of s pending) (IsLeftAt keys p word_of s pending) (disk old) (disk x) passes (only_now old) all (λ told. left) (λ c d is same. subst (IsLeftAt keys p word_of s pending) (sym same) is) (λ c is. is);
@@ -74,7 +78,7 @@ module _ {S : Type 0} (disk : S → Disk) (only_now : (x : S) (c : Image) → (d
   by_one c (inl was) = inl (here_stands c was)
   by_one c (inr is) = inr (opens, refl, begun_stands c is)
 
-  beginning : (a x : S) → LeavesOnly (disk a) (disk x) (OneOf keys p st next) → IsOpeningStage disk keys p word_of s (f.found, Some opens) a x
+  pub beginning : (a x : S) → LeavesOnly (disk a) (disk x) (OneOf keys p st next) → IsOpeningStage disk keys p word_of s (f.found, Some opens) a x
   beginning a x leaves = record {
     is_life = live;
     leaves = weakened (disk a) (disk x) (OneOf keys p st next) (IsLeftAt keys p word_of t (Some opens))
@@ -113,10 +117,23 @@ module _ {S : Type 0} (disk : S → Disk) (only_now : (x : S) (c : Image) → (d
   -- ---- by how far it came
 
   module _ (new : S) where
-    synced : (x : S) (o : OpensFrom disk keys p old x) → LeavesOnly (disk o.synced) (disk x) (OneOf keys p st next)
+    pub synced : (x : S) (o : OpensFrom disk keys p old x) → LeavesOnly (disk o.synced) (disk x) (OneOf keys p st next)
     synced x o = o.since st tells f.here.stands
 
-    staged : (how : HowFar disk keys p old new) → IsOpeningStaged disk keys p old new word_of s pending how
+    -- the last stage of one whose generation began
+    pub last_stage : (h : BeginsBehind disk keys p old new) → IsOpeningStage disk keys p word_of s (f.found ++ opens ∷ repeats, None) (h.begins).between new
+    last_stage h =
+        let b = h.begins in
+        let number : (h.found).generation ≡ st.generation = generation_is keys p (disk old).cells h.found st.generation (h.found_in tells) (f.here.stands).generation in
+        let register : StandsAt (tagging keys) 1 (disk old).cells (h.found).generation = subst (λ (n : ℕ). StandsAt (tagging keys) 1 (disk old).cells n) (sym number) (f.here.stands).generation in
+        let kept : KeepsAt (tagging keys) 1 (disk old).cells (suc st.generation) (disk b.between).cells = subst (λ (n : ℕ). KeepsAt (tagging keys) 1 (disk old).cells (suc n) (disk b.between).cells) number (b.cells tells register) in
+        let Q : Image → Type 0 = Stands keys p next in
+        repeating b.between new
+        (leaves_of Same Q Q (disk b.between) (disk new) b.reads (only_now b.between)
+        (λ c may. next_stands keys p st (disk old).cells c f.here.stands (kept_in keys (disk b.between) (disk old).cells (suc st.generation) (b.settled tells) kept c may))
+        (λ told. next_stands keys p st (disk old).cells (disk b.between).cells f.here.stands kept) (λ c d is same. subst Q (sym same) is) (λ c is. is))
+
+    pub staged : (how : HowFar disk keys p old new) → IsOpeningStaged disk keys p old new word_of s pending how
     staged (inl still) = record { found = f.found; finds = f.finds; here = f.here; ends = new ∷ []; many = refl; stages = (finding new still, inl refl, refl) }
     staged (inr (inl o)) = record {
       found = f.found;
@@ -128,33 +145,14 @@ module _ {S : Type 0} (disk : S → Disk) (only_now : (x : S) (c : Image) → (d
     }
     staged (inr (inr h)) =
         let b = h.begins in
-        let o : OpensFrom disk keys p old b.between = begun_opens disk keys p (h.found).generation old b.between (λ g told stands. generation_is keys p (disk old).cells h.found g (h.found_in told) stands) b.from in
-        let number : (h.found).generation ≡ st.generation = generation_is keys p (disk old).cells h.found st.generation (h.found_in tells) (f.here.stands).generation in
-        let register : StandsAt (tagging keys) 1 (disk old).cells (h.found).generation = subst (λ (n : ℕ). StandsAt (tagging keys) 1 (disk old).cells n) (sym number) (f.here.stands).generation in
-        let kept : KeepsAt (tagging keys) 1 (disk old).cells (suc st.generation) (disk b.between).cells = subst (λ (n : ℕ). KeepsAt (tagging keys) 1 (disk old).cells (suc n) (disk b.between).cells) number (b.cells tells register) in
-        let Q : Image → Type 0 = Stands keys p next in
+        let o = opens_of disk keys p old new h in
         record {
           found = f.found;
           finds = f.finds;
           here = f.here;
           ends = o.synced ∷ b.between ∷ new ∷ [];
           many = refl;
-          stages = (
-            finding o.synced o.until,
-            inr tt,
-            (
-              beginning o.synced b.between (synced b.between o),
-              inr (h.found, h.found_in tells, b.begun),
-              (
-                repeating b.between new
-                    (leaves_of Same Q Q (disk b.between) (disk new) b.reads (only_now b.between)
-                    (λ c may. next_stands keys p st (disk old).cells c f.here.stands (kept_in keys (disk b.between) (disk old).cells (suc st.generation) (b.settled tells) kept c may))
-                    (λ told. next_stands keys p st (disk old).cells (disk b.between).cells f.here.stands kept) (λ c d is same. subst Q (sym same) is) (λ c is. is)),
-                inl refl,
-                refl,
-              ),
-            ),
-          );
+          stages = (finding o.synced o.until, inr tt, (beginning o.synced b.between (synced b.between o), inr (h.found, h.found_in tells, b.begun), (last_stage h, inl refl, refl)));
         }
 
 pub openings_come_in_stages : {S : Type 0} (disk : S → Disk) → ((x : S) (c : Image) → (disk x).left_since (disk x).moment c → (disk x).may_leave c) → OpeningsComeInStages disk

@@ -1,5 +1,5 @@
 -- A run that is cut off in a stage of a call goes on with its life.
-use Rattle.std.specs.Prelude.{◌≡◌, ◌⊎◌, ℕ, suc, ◌+◌, ◌<◌, ◌≤◌, ◌^◌, List, [], ◌∷◌, ◌++◌, map, length, Option, Some, None, Ok, Err}
+use Rattle.std.specs.Prelude.{◌≡◌, ℕ, suc, ◌+◌, ◌%◌, ◌<◌, ◌≤◌, ◌^◌, List, [], ◌∷◌, ◌++◌, map, length, Option, Some, None, Ok, Err}
 use Rattle.std.specs.Ordering.{nat_cmp}
 use Rattle.std.proofs.Common.{arith, refl, sym, ap, subst, ◌∙◌, inl, inr, ⊎_elim}
 use Rattle.std.proofs.lemmas.Bool.{cases_lt}
@@ -10,7 +10,8 @@ use Rattle.ob_base.specs.declared.params.Params.{Params}
 use Rattle.ob_base.specs.declared.value.Write.{Write}
 use Rattle.ob_end.specs.EndRuns.{AreEntriesWritten, IsAtContent, MayEndEpoch, TakeBucketWords, standing_at_end, table_ended, words_for_end}
 use Rattle.ob_end.specs.Moments.{IsEndInStages}
-use Rattle.ob_fetch.specs.Fetches.{DrawsWords, FetchStages, IsFetchInStages, words_since}
+use Rattle.ob_fetch.specs.Fetches.{AreFirstMade, DrawsWords, FetchStages, IsFetchInStages, IsRecordInStages, words_since}
+use Rattle.ob_log.specs.Appends.{body_notes}
 use Rattle.ob_fetch.specs.declared.run.Run.{Run}
 use Rattle.ob_fresh.specs.Drawn.{DrawInTurn, WordsKept}
 use Rattle.ob_log.specs.Logs.{BatchRecord}
@@ -24,7 +25,7 @@ use Rattle.ob_ring.specs.Ring.{StandsFor}
 use Rattle.ob_stand.specs.Table.{flat_of}
 use Rattle.ob_recover.specs.Repeats.{content_of_ring, table_after_records}
 use Rattle.ob_schedule.specs.Phases.{phases_of}
-use Rattle.ob_schedule.specs.Schedule.{Fills}
+use Rattle.ob_schedule.specs.Schedule.{Fills, record_notes}
 use Rattle.ob_seal.specs.declared.keys.Keys.{Keys}
 use Rattle.ob_serial.specs.Serial.{Map}
 use Rattle.ob_serial.specs.VaultKinds.{Called, Kind}
@@ -53,7 +54,7 @@ use Rattle.ob_vault.specs.RingVaults.{EndCalled, FetchCalled, KeepsRun, RingCall
 use Rattle.ob_vault.specs.Seen.{RingPublic}
 use Rattle.ob_vault.specs.Shapes.{Shape}
 use Rattle.ob_vault.specs.Shown.{AreFilledBy, AreOfLife, IsInLife}
-use Rattle.ob_vault.specs.Spans.{AreSpans, IsSeenIn, RowsOfStages, RunsStopInStages, span}
+use Rattle.ob_vault.specs.Spans.{AreSpans, IsMadeIn, IsSeenIn, RowsOfStages, RunsStopInStages, StopsIn, span}
 use Rattle.ob_vault.specs.Stages.{IsStage, StageActs}
 
 module _ {V S : Type 0} (k : Kind V) (disk : S → Disk) (runs : V → Running S) (words : HasRingWords k disk runs)
@@ -80,37 +81,40 @@ module _ {V S : Type 0} (k : Kind V) (disk : S → Disk) (runs : V → Running S
 
   module _ (call : VaultCall) (answer : VaultAnswer) (w : V) (one : Called k v call answer w) where
     -- a stage of the call, where a life is
-    record IsStageThere (word_of : WordId → ℕ) (t : LifeState) (x : S × S) (seen : List Event) : Type 0 where
+    record IsStageThere (stage : ℕ) (word_of : WordId → ℕ) (t : LifeState) (x : S × S) (seen : List Event) : Type 0 where
       row : StageActs
-      stage : IsStage disk own_keys run.params word_of t row x.0 x.1
+      made : IsMadeIn call stage row.0 row.1
+      staged : IsStage disk own_keys run.params word_of t row x.0 x.1
       first : AreFirstActs (Some call) row.0 row.1
       shown : IsShownInLife most p word_of t h call (runs w).drawn seen row.0
 
-    abbrev left_in : (word_of : WordId → ℕ) (t : LifeState) (x : S × S) (seen : List Event) → IsStageThere word_of t x seen → IsLeftInLife keys most p word_of t h (Some call) (runs w).drawn seen (span disk x)
-    left_in word_of t x seen l = record {
+    abbrev left_in : (stage : ℕ) (word_of : WordId → ℕ) (t : LifeState) (x : S × S) (seen : List Event) → IsStageThere stage word_of t x seen → IsLeftInLife keys most p word_of t h (Some call) (runs w).drawn seen (span disk x)
+    left_in stage word_of t x seen l = record {
       made = (l.row).0;
       in_flight = (l.row).1;
       first = l.first;
       shown = λ other same. subst (λ (a : VaultCall). IsShownInLife most p word_of t h a (runs w).drawn seen (l.row).0) (same_Some call other same) l.shown;
-      is_life = subst (λ (y : Params). IsLife y word_of t (l.row).0) at.params (l.stage).is_life;
+      is_life = subst (λ (y : Params). IsLife y word_of t (l.row).0) at.params (l.staged).is_life;
       images = λ i left. subst (λ (y : Keys). IsLeftAt y p word_of (reached p word_of t (l.row).0) (l.row).1 i) at.keys_are
-          (subst (λ (y : Params). IsLeftAt own_keys y word_of (reached y word_of t (l.row).0) (l.row).1 i) at.params (((l.stage).leaves).each i left));
-      small = (subst (λ (y : Params). AreBatchesSmall (reached y word_of t (l.row).0).log) at.params ((l.stage).small).0, ((l.stage).small).1);
+          (subst (λ (y : Params). IsLeftAt own_keys y word_of (reached y word_of t (l.row).0) (l.row).1 i) at.params (((l.staged).leaves).each i left));
+      small = (subst (λ (y : Params). AreBatchesSmall (reached y word_of t (l.row).0).log) at.params ((l.staged).small).0, ((l.staged).small).1);
     }
 
-    left_turn : (word_of : WordId → ℕ) (t : LifeState) (x : S × S) (seen : List Event) (l : IsStageThere word_of t x seen) (y : WordsKept) → y.drawn ≡ t.drawn → DrawInTurn p word_of t y (l.row).0 (l.row).1
-    left_turn word_of t x seen l y so_far = subst (λ (z : Params). DrawInTurn z word_of t y (l.row).0 (l.row).1) at.params ((l.stage).turn y so_far)
+    left_turn : (stage : ℕ) (word_of : WordId → ℕ) (t : LifeState) (x : S × S) (seen : List Event) (l : IsStageThere stage word_of t x seen) (y : WordsKept) → y.drawn ≡ t.drawn → DrawInTurn p word_of t y (l.row).0 (l.row).1
+    left_turn stage word_of t x seen l y so_far = subst (λ (z : Params). DrawInTurn z word_of t y (l.row).0 (l.row).1) at.params ((l.staged).turn y so_far)
 
     -- a run that is cut off in it
-    goes : (x : S × S) (seen : List Event) → ((word_of : WordId → ℕ) (t : LifeState) → IsInLife p word_of h t → AreTapeWords word_of h.generation (runs w).drawn → IsStageThere word_of t x seen)
-        → RingGoesOn keys most p f opened calls steps h (Some call) (runs w).drawn seen (span disk x)
-    goes x seen each word_of s here tape =
+    abbrev IsThere : (stage : ℕ) → S × S → List Event → Type 0
+    IsThere stage x seen = (word_of : WordId → ℕ) (t : LifeState) → IsInLife p word_of h t → AreTapeWords word_of h.generation (runs w).drawn → IsStageThere stage word_of t x seen
+
+    goes_on : (stage : ℕ) (x : S × S) (seen : List Event) → IsThere stage x seen → RingGoesOn keys most p f opened calls steps h (Some call) (runs w).drawn seen (span disk x)
+    goes_on stage x seen each word_of s here tape =
         let kept : KeepsRun disk (runs v) (runs w) one.notes = kept_by disk (runs v) (runs w) one.notes call answer (words.called v call answer one.notes w one.called) in
         let grown : (runs w).drawn ≡ h.words ++ words_since (runs v).drawn (runs w).drawn = kept.grows ∙ ap (λ (ws : List ℕ). ws ++ words_since (runs v).drawn (runs w).drawn) at.tape in
         let l : AreOfLife p word_of s calls steps h =
         drawn_shown p word_of s (ring_hidden f) h calls steps here drawn (leaving.own_words k disk runs words counts_now only_now keys most p f opened calls steps q h n v drawn at word_of (runs w).drawn grown tape) in
         let tape' : AreTapeWords word_of h.generation (runs w).drawn = subst (λ g. AreTapeWords word_of g (runs w).drawn) (sym (leaving.on k disk runs words counts_now only_now keys most p f opened calls steps q h n v drawn at).generation) tape in
-        let there : IsStageThere word_of (reached p word_of s l.acts) x seen = each word_of (reached p word_of s l.acts) l.then tape' in
+        let there : IsStageThere stage word_of (reached p word_of s l.acts) x seen = each word_of (reached p word_of s l.acts) l.then tape' in
         record {
           acts = l.acts;
           is_life = l.is_life;
@@ -119,13 +123,17 @@ module _ {V S : Type 0} (k : Kind V) (disk : S → Disk) (runs : V → Running S
           fresh = l.fresh;
           cut = λ other c same draws. subst (λ (y : VaultCall). IsCutInLife p word_of (reached p word_of s l.acts) y c) (same_Some call other same)
               (leaving.cut_by k disk runs words counts_now only_now keys most p f opened calls steps q h n v drawn at word_of (reached p word_of s l.acts) l.then call answer w one c (subst (λ (y : VaultCall). RingDrawsCut p h y c (runs w).drawn) (sym (same_Some call other same)) draws) tape');
-          left = λ m' is. left_in word_of (reached p word_of s l.acts) x seen there;
+          left = λ m' is. left_in stage word_of (reached p word_of s l.acts) x seen there;
           turn = l.turn;
-          turn_left = λ m' is y so_far. left_turn word_of (reached p word_of s l.acts) x seen there y so_far;
+          turn_left = λ m' is y so_far. left_turn stage word_of (reached p word_of s l.acts) x seen there y so_far;
         }
 
+    goes : (stage : ℕ) (x : S × S) (seen : List Event) → IsThere stage x seen → StopsIn keys most p f opened calls steps h call (runs w).drawn seen (span disk x) stage
+    unfolding goes_on
+    goes stage x seen each = (goes_on stage x seen each, λ word_of s here tape m' is. (each word_of _ _ _).made)
+
     abbrev IsCut : ℕ → S × S → Type 0
-    IsCut stage x = (seen : List Event) → IsSeenIn most p q call stage seen → RingGoesOn keys most p f opened calls steps h (Some call) (runs w).drawn seen (span disk x)
+    IsCut stage x = (seen : List Event) → IsSeenIn most p q call stage seen → StopsIn keys most p f opened calls steps h call (runs w).drawn seen (span disk x) stage
 
     abbrev Spans : Type 0
     Spans = (ends : List S) × AreSpans IsCut 0 (runs v).store ends (runs w).store
@@ -146,20 +154,38 @@ module _ {V S : Type 0} (k : Kind V) (disk : S → Disk) (runs : V → Running S
     own_tape : (word_of : WordId → ℕ) → AreTapeWords word_of h.generation (runs w).drawn → AreTapeWords word_of (run.sealer).generation (runs w).drawn
     own_tape word_of tape = subst (λ g. AreTapeWords word_of g (runs w).drawn) (sym at.generation) tape
 
-    -- its record
-    logging : (x : S) → LeavesOnly (disk (runs v).store) (disk x) (OneOf own_keys run.params st (with_record st r)) → IsCut (Fetch asks) answer w one 0 ((runs v).store, x)
-    logging x all seen barely = goes (Fetch asks) answer w one ((runs v).store, x) seen (λ word_of t here tape. record {
+    -- the steps of its record, by the life's names
+    public_phases : (word_of : WordId → ℕ) (t : LifeState) → IsInLife p word_of h t → AreTapeWords word_of h.generation (runs w).drawn → (seen : List Event) → AreFirst most (phases_of (record_notes p (((q.known).epoch + 1) % 2) q.shown)) seen
+        → AreFirst most (phases_of (record_notes p ((t.epoch + 1) % 2) (length t.log))) seen
+    public_phases word_of t here tape seen first =
+        subst (λ (row : List Note). AreFirst most (phases_of row) seen) (sym (leaving.public_is k disk runs words counts_now only_now keys most p f opened q h n v at word_of t here lies (Fetch asks) answer w one tape)) first
+
+    -- its record's body
+    keeping : (x : S) → LeavesOnly (disk (runs v).store) (disk x) (Stands own_keys run.params st) → IsCut (Fetch asks) answer w one 0 ((runs v).store, x)
+    keeping x all seen barely = goes (Fetch asks) answer w one 0 ((runs v).store, x) seen (λ word_of t here tape. record {
+      row = ([], None);
+      made = (refl, refl);
+      staged = fetching.keeping disk word_of t (runs v) (runs w) one.notes asks (runs_in (Fetch asks) answer w one word_of t here tape) (own_tape word_of tape) was_drawn whole draws few (runs v).store x all;
+      first = (Append b ∷ ShowBatch ∷ [], (b, refl, refl), inl refl);
+      shown = inr (refl, public_phases word_of t here tape seen barely);
+    })
+
+    -- and its gate
+    logging : (a x : S) → LeavesOnly (disk a) (disk x) (OneOf own_keys run.params st (with_record st r)) → IsCut (Fetch asks) answer w one 1 (a, x)
+    logging a x all seen barely = goes (Fetch asks) answer w one 1 (a, x) seen (λ word_of t here tape. record {
       row = ([], Some (Append b));
-      stage = fetching.logging disk word_of t (runs v) (runs w) one.notes asks (runs_in (Fetch asks) answer w one word_of t here tape) (own_tape word_of tape) was_drawn whole draws few some x all;
+      made = refl;
+      staged = fetching.logging disk word_of t (runs v) (runs w) one.notes asks (runs_in (Fetch asks) answer w one word_of t here tape) (own_tape word_of tape) was_drawn whole draws few some a x all;
       first = (Append b ∷ ShowBatch ∷ [], (b, refl, refl), inr (Append b, ShowBatch ∷ [], refl, refl));
-      shown = inr (refl, subst (λ (row : List Note). AreFirst most (phases_of row) seen) (sym (leaving.public_is k disk runs words counts_now only_now keys most p f opened q h n v at word_of t here lies (Fetch asks) answer w one tape)) barely);
+      shown = inr (refl, public_phases word_of t here tape seen barely);
     })
 
     -- and what it shows
-    reading : (a x : S) (stage : ℕ) → LeavesOnly (disk a) (disk x) (Stands own_keys run.params (with_record st r)) → IsCut (Fetch asks) answer w one (suc stage) (a, x)
-    reading a x stage all seen barely = goes (Fetch asks) answer w one (a, x) seen (λ word_of t here tape. record {
+    reading : (a x : S) (stage : ℕ) → LeavesOnly (disk a) (disk x) (Stands own_keys run.params (with_record st r)) → IsCut (Fetch asks) answer w one (suc (suc stage)) (a, x)
+    reading a x stage all seen barely = goes (Fetch asks) answer w one (suc (suc stage)) (a, x) seen (λ word_of t here tape. record {
       row = (Append b ∷ ShowBatch ∷ [], None);
-      stage = fetching.reading disk word_of t (runs v) (runs w) one.notes asks (runs_in (Fetch asks) answer w one word_of t here tape) (own_tape word_of tape) was_drawn whole draws few some a x all;
+      made = ((b, refl, refl), refl);
+      staged = fetching.reading disk word_of t (runs v) (runs w) one.notes asks (runs_in (Fetch asks) answer w one word_of t here tape) (own_tape word_of tape) was_drawn whole draws few some a x all;
       first = ([], (b, refl, refl), inl refl);
       shown = inl (
         inl (b, refl, refl),
@@ -171,11 +197,18 @@ module _ {V S : Type 0} (k : Kind V) (disk : S → Disk) (runs : V → Running S
     })
 
     both : IsFetchInStages disk run st r (runs v).store (runs w).store → Spans (Fetch asks) answer w one
-    both x = (x.between ∷ (runs w).store ∷ [], (logging x.between x.until, (reading x.between (runs w).store 0 x.since, refl)))
+    both x = (
+      (x.logs).between ∷ x.between ∷ (runs w).store ∷ [],
+      (keeping (x.logs).between (x.logs).until, (logging (x.logs).between x.between (x.logs).since, (reading x.between (runs w).store 0 x.since, refl))),
+    )
 
     by_store : (unsure : Option ℕ) → FetchStages disk run st r (runs v).store (runs w).store (Err (fault.StoreFault unsure)) → Spans (Fetch asks) answer w one
     by_store unsure (inl x) = both x
-    by_store unsure (inr x) = ((runs w).store ∷ [], (logging (runs w).store x.1, refl))
+    by_store unsure (inr x) = ⊎_elim
+        (λ (alone : AreFirstMade (body_notes run.params (suc run.epoch) r.batch) (disk (runs v).store).seen (disk (runs w).store).seen × LeavesOnly (disk (runs v).store) (disk (runs w).store) (Stands own_keys run.params st)).
+        ((runs w).store ∷ [], (keeping (runs w).store alone.1, refl)))
+        (λ (logs : IsRecordInStages disk run st r (runs v).store (runs w).store). (logs.between ∷ (runs w).store ∷ [], (keeping logs.between logs.until, (logging logs.between (runs w).store logs.since, refl))))
+        x.how
 
   module _ (asks : List (Option ℕ)) (answer : VaultAnswer) (w : V) (one : Called k v (Fetch asks) answer w) where
     few_words : (2 ^ 62 < run.drawn + (run.params).places → ⊥) → run.drawn + (run.params).places ≤ 2 ^ 62
@@ -217,10 +250,11 @@ module _ {V S : Type 0} (k : Kind V) (disk : S → Disk) (runs : V → Running S
     lifts_shown word_of t seen here = inl (inr refl, λ f' d. filled_end p word_of t h here ws f' d)
 
     -- up to the register's set
-    filling : (x : S) (stage : ℕ) → LeavesOnly (disk (runs v).store) (disk x) (Stands own_keys run.params st) → IsCut (End ws) answer w one stage ((runs v).store, x)
-    filling x stage all seen any = goes (End ws) answer w one ((runs v).store, x) seen (λ word_of t here tape. record {
+    filling : (x : S) → LeavesOnly (disk (runs v).store) (disk x) (Stands own_keys run.params st) → IsCut (End ws) answer w one 0 ((runs v).store, x)
+    filling x all seen any = goes (End ws) answer w one 0 ((runs v).store, x) seen (λ word_of t here tape. record {
       row = (ShowLifts ∷ [], None);
-      stage = ending.filling disk word_of t (runs v) (runs w) one.notes ws (runs_in (End ws) answer w one word_of t here tape) (end_tape word_of tape) (λ u c. counts_now (runs w).store u c) none x all;
+      made = (refl, refl);
+      staged = ending.filling disk word_of t (runs v) (runs w) one.notes ws (runs_in (End ws) answer w one word_of t here tape) (end_tape word_of tape) (λ u c. counts_now (runs w).store u c) none x all;
       first = (the_end ∷ [], (map id_write fs, ((runs w).run).drawn, slot_kept (content_of_ring ((runs w).run).ring), refl), inl refl);
       shown = lifts_shown word_of t seen here;
     })
@@ -228,10 +262,11 @@ module _ {V S : Type 0} (k : Kind V) (disk : S → Disk) (runs : V → Running S
     -- and that
     setting : (staged : (word_of : WordId → ℕ) (t : LifeState) → IsInLife p word_of h t → AreTapeWords word_of h.generation (runs w).drawn → (a x : S)
         → LeavesOnly (disk a) (disk x) (OneOf own_keys run.params st (standing_at_end st (runs w).run fs)) → IsStage disk own_keys run.params word_of t (ShowLifts ∷ [], Some the_end) a x)
-        (a x : S) (stage : ℕ) → LeavesOnly (disk a) (disk x) (OneOf own_keys run.params st (standing_at_end st (runs w).run fs)) → IsCut (End ws) answer w one stage (a, x)
-    setting staged a x stage all seen any = goes (End ws) answer w one (a, x) seen (λ word_of t here tape. record {
+        (a x : S) (stage : ℕ) → LeavesOnly (disk a) (disk x) (OneOf own_keys run.params st (standing_at_end st (runs w).run fs)) → IsCut (End ws) answer w one (suc stage) (a, x)
+    setting staged a x stage all seen any = goes (End ws) answer w one (suc stage) (a, x) seen (λ word_of t here tape. record {
       row = (ShowLifts ∷ [], Some the_end);
-      stage = staged word_of t here tape a x all;
+      made = refl;
+      staged = staged word_of t here tape a x all;
       first = (the_end ∷ [], (map id_write fs, ((runs w).run).drawn, slot_kept (content_of_ring ((runs w).run).ring), refl), inr (the_end, [], refl, refl));
       shown = lifts_shown word_of t seen here;
     })
@@ -244,11 +279,11 @@ module _ {V S : Type 0} (k : Kind V) (disk : S → Disk) (runs : V → Running S
     ended was_drawn drawn' few may draws then entries filled content x = (
       x.between ∷ (runs w).store ∷ [],
       (
-        filling x.between 0 x.until,
+        filling x.between x.until,
         (
           setting (λ word_of t here tape.
               ending.setting disk word_of t (runs v) (runs w) one.notes ws (runs_in (End ws) answer w one word_of t here tape) (end_tape word_of tape) (λ u c. counts_now (runs w).store u c) none was_drawn drawn' few may draws then entries filled content)
-              x.between (runs w).store 1 x.since,
+              x.between (runs w).store 0 x.since,
           refl,
         ),
       ),
@@ -261,7 +296,7 @@ module _ {V S : Type 0} (k : Kind V) (disk : S → Disk) (runs : V → Running S
     end_unsure f' is = ended (is.run).was_drawn (is.run).drawn is.few (is.answers (table st) stands0) (is.draws (table st) stands0) (is.table (table st) stands0) is.entries (is.filled (table st) stands0) is.content (is.stages st lies.at)
 
     end_before : (f' : Fault) → EndCalled disk (runs v) (runs w) one.notes writes (Err (end.Before f')) → Spans (End ws) answer w one
-    end_before f' is = ((runs w).store ∷ [], (filling (runs w).store 0 (is.stages st lies.at), refl))
+    end_before f' is = ((runs w).store ∷ [], (filling (runs w).store (is.stages st lies.at), refl))
 
   -- ---- by the answer
 

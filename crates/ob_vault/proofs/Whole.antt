@@ -108,3 +108,10 @@ whole_run keys most p image f opened new calls steps behind refused words seen b
       turn_flown = λ m is a flies. flown_turn keys p word_of s (opening_acts s ++ g.acts) whole (reached p word_of (reached p word_of s (opening_acts s)) g.acts) (reached_join p word_of s (opening_acts s) g.acts) (g.left m is).made (g.left m is).in_flight a flies turn
           (λ k. g.turn_left m is (words_behind p word_of s k (opening_acts s ++ g.acts)) (behind_all k));
     }
+
+-- which goes on as that says
+pub whole_goes : (keys : Keys) (most : ℕ) (p : Params) (image : Image) (f : RingFound) (opened new : Disk) (calls : List VaultCall) (steps : List (Shape × Fills)) (behind : RingHidden) (refused : Option VaultCall) (words : List ℕ) (seen : List Event)
+    (begins : RingBegins keys p image f) (goes_on : RingGoesOn keys most p f opened calls steps behind refused words seen new) (word_of : WordId → ℕ) (s : LifeState) (here : StandsInLife keys p word_of s image) (small : AreBatchesSmall s.log) (tape : AreTapeWords word_of (ring_hidden f).generation words)
+    → (whole_run keys most p image f opened new calls steps behind refused words seen begins goes_on word_of s here small tape).goes ≡ goes_on word_of (reached p word_of s (opening_acts s)) (begins word_of s here small).then tape
+unfolding whole_run
+whole_goes keys most p image f opened new calls steps behind refused words seen begins goes_on word_of s here small tape = refl

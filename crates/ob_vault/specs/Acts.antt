@@ -1,5 +1,6 @@
 -- The calls of a ring vault, as acts of a life of its store.
-use Rattle.std.specs.Prelude.{◌≡◌, ◌⊎◌, ℕ, suc, ◌+◌, ◌<◌, Bool, true, false, List, [], ◌∷◌, ◌++◌, map, length, slice_index, Option, None, Some}
+use Rattle.std.specs.Prelude.{◌≡◌, ◌⊎◌, ℕ, suc, ◌<◌, Bool, true, false, List, [], ◌∷◌, ◌++◌, map, length, slice_index, Option, None, Some, Err}
+use Rattle.ob_base.specs.declared.fault.Fault.{Fault}
 use Rattle.ob_base.specs.declared.params.Params.{Params}
 use Rattle.ob_base.specs.declared.value.Write.{Write}
 use Rattle.ob_fresh.specs.Drawn.{DrawInTurn, WordsKept}
@@ -8,7 +9,7 @@ use Rattle.ob_fetch.specs.declared.run.Run.{Run}
 use Rattle.ob_fetch.specs.Fetches.{RunIsAt, next_batch}
 use Rattle.ob_recover.specs.Calls.{CallLaw, Ended as EndOf, Fetched, LifeCall, acts_of, repeated}
 use Rattle.ob_recover.specs.Life.{Append, IsLife, LifeAct, LifeBatch, LifeState, Open, ShowLifts, WordId, life_step, reached}
-use Rattle.ob_log.specs.Appends.{append_notes}
+use Rattle.ob_log.specs.Appends.{append_notes, body_notes, gate_notes}
 use Rattle.ob_recover.specs.Repeats.{content_of_ring}
 use Rattle.ob_ring.specs.Writing.{entry_of}
 use Rattle.ob_vault.specs.SealActs.{IsRingVault}
@@ -17,12 +18,13 @@ use Rattle.ob_vault.specs.Stages.{AreStages, IsStage, stages_of}
 use Rattle.ob_recover.specs.Known.{fills_of, fills_with_lifts, public_of_kept, slot_kept}
 use Rattle.ob_recover.specs.Lives.{IsLifeAt, LifeShowsFills, life_batch, word_kept}
 use Rattle.ob_recover.specs.Telling.{IsRowShown}
-use Rattle.ob_vault.specs.RingVaults.{HasPlanned, RingCalled, Running, record_of_fetch, run_over, write_from, writes_of_end}
+use Rattle.ob_vault.specs.RingVaults.{EndCalled, HasPlanned, RingCalled, Running, record_of_fetch, run_over, write_from, writes_of_end}
 use Rattle.ob_schedule.specs.Phases.{batch_phases, end_phases}
 use Rattle.ob_schedule.specs.Schedule.{batch_notes, end_notes}
 use Rattle.ob_seal.specs.declared.keys.Keys.{Keys}
 use Rattle.ob_serial.specs.VaultKinds.{AllCalled, Kind}
 use Rattle.ob_serial.specs.Vaults.{End, Ended, Fetch, Values, VaultAnswer, VaultCall}
+use Rattle.ob_serial.specs.declared.vault.EndErr.TheVariants as end
 use Rattle.ob_stand.specs.Stands.{RingStanding}
 use Rattle.ob_store.specs.Calls.{Notes}
 use Rattle.ob_store.specs.Disk.{Disk, Image}
@@ -78,6 +80,17 @@ module _ {S : Type 0} (disk : S → Disk) (word_of : WordId → ℕ) (old new : 
       ⊎ ((made ≡ []) × (done : List Note) × IsCut (append_notes (old.run).params (suc (old.run).epoch) (next_batch old.run)) done notes)
   IsShownBy (End writes) made = (made ≡ acts_of (life_call (End writes))) ⊎ (made ≡ ShowLifts ∷ [])
 
+  -- How far a call came that was refused, by its notes. Of a fetch they are of the record's body alone, and it isn't made; or all of the record's
+  -- but the last sync; or all of these come first, and it is made. An end was refused before its register's gate was written, and isn't in
+  -- flight; or it is unsure.
+  abbrev pub IsMadeAsTold : VaultCall → (made : List LifeAct) → (in_flight : Option LifeAct) → Type 0
+  IsMadeAsTold (Fetch asks) made in_flight =
+      (((made ≡ []) × (in_flight ≡ None) × ((done : List Note) × IsCut (body_notes (old.run).params (suc (old.run).epoch) (next_batch old.run)) done notes))
+      ⊎ ((made ≡ []) × (notes ≡ gate_notes (old.run).params (suc (old.run).epoch) (next_batch old.run))))
+      ⊎ ((made ≡ acts_of (life_call (Fetch asks))) × ((more : List Note) × (notes ≡ append_notes (old.run).params (suc (old.run).epoch) (next_batch old.run) ++ more)))
+  IsMadeAsTold (End writes) made in_flight =
+      (made ≡ ShowLifts ∷ []) × (((in_flight ≡ None) × ((f : Fault) × EndCalled disk old new notes (map write_from writes) (Err (end.Before f)))) ⊎ ((f : Fault) × EndCalled disk old new notes (map write_from writes) (Err (end.Unsure f))))
+
   -- What the store was called for by the end of the first stage, where the other one follows: a fetch's record, and no read of its batch; or all of an end,
   -- its lifts too, but for the set of the epoch's register.
   abbrev pub IsCalledFor : VaultCall → Option (List Event) → Type 0
@@ -103,7 +116,7 @@ module _ {S : Type 0} (disk : S → Disk) (word_of : WordId → ℕ) (old new : 
     pub left : IsLeftAt ((old.run).sealer).keys (old.run).params word_of (reached (old.run).params word_of s made) pending image
 
   -- It makes the acts of its call, where it was answered; else the first of them, and the next may be in flight: where that is a record,
-  -- no more was shown than its own writes. What it showed these acts show. An opening goes on from what it leaves, and from what a crash at any
+  -- no more was shown than its own writes, and its gate's. What it showed these acts show. An opening goes on from what it leaves, and from what a crash at any
   -- moment of it leaves, stage by stage; and behind a call that was answered the run is where the life is.
   pub record IsCallInLife (s : LifeState) (call : VaultCall) (answered : Bool) : Type 0 where
     pub made : List LifeAct
@@ -111,6 +124,7 @@ module _ {S : Type 0} (disk : S → Disk) (word_of : WordId → ℕ) (old new : 
     pub law : CallLaw (old.run).params word_of (StandsInLife ((old.run).sealer).keys (old.run).params word_of) s None (life_call call) answered made in_flight (disk old.store).may_leave (disk new.store).may_leave
     pub shown : (b : LifeBatch) → in_flight ≡ Some (Append b) → (done : List Note) × IsCut (append_notes (old.run).params (suc (old.run).epoch) (next_batch old.run)) done notes
     pub shows : IsShownBy call made
+    pub told : answered ≡ false → IsMadeAsTold call made in_flight
     -- their words are drawn in turn
     pub turn : (k : WordsKept) → k.drawn ≡ s.drawn → DrawInTurn (old.run).params word_of s k made in_flight
     pub left : (c : Image) → (disk new.store).may_leave c → IsLeftAt ((old.run).sealer).keys (old.run).params word_of (reached (old.run).params word_of s made) in_flight c

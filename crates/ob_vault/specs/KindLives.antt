@@ -1,5 +1,5 @@
 -- The words of a kind of store in which its runs are parts of one life.
-use Rattle.std.specs.Prelude.{ℕ, List, Option}
+use Rattle.std.specs.Prelude.{ℕ, Bool, List, Option}
 use Rattle.ob_base.specs.declared.params.Params.{Params}
 use Rattle.ob_seal.specs.declared.keys.Keys.{Keys}
 use Rattle.ob_store.specs.Disk.{Disk, Image}
@@ -18,3 +18,8 @@ pub record LifeWords (store : StoreKind) : Type 1 where
   -- And from what was found on, over the store as it was opened, by so many lanes at most, with these calls, which drew this and hid that,
   -- and with one more, where that was refused, of which this was seen; a tape has given these words, and the store was left so.
   pub goes_on : Keys → (most : ℕ) → Params → store.Found → (opened : Disk) → List VaultCall → List (Shape × store.Drawn) → (behind : store.Hidden) → Option VaultCall → (words : List ℕ) → (seen : List Event) → (new : Disk) → Type 0
+  -- The store was opened in stages, from the one to the other.
+  pub opens_staged : {S : Type 0} → (S → Disk) → Keys → Params → (old new : S) → Type 0
+  -- And so was a call made, all of its stages where it was answered, behind these calls, which drew this, from what was then public and hidden; by
+  -- its end a tape had given these words.
+  pub call_staged : {S : Type 0} → (S → Disk) → Keys → (most : ℕ) → Params → store.Found → (opened : Disk) → List VaultCall → List (Shape × store.Drawn) → store.Public → store.Hidden → VaultCall → (words : List ℕ) → (answered : Bool) → (old new : S) → Type 0

@@ -22,4 +22,6 @@ pub mod Shown
 pub mod Lives
 pub mod Joined
 pub mod Spans
+pub mod Staged
+pub mod RingLives
 pub mod SealCounts

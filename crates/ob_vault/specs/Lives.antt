@@ -1,5 +1,5 @@
 -- The runs of a ring store, as parts of one life of it.
-use Rattle.std.specs.Prelude.{◌≡◌, ◌⊎◌, ℕ, suc, ◌+◌, ◌%◌, ◌<◌, Bool, List, [], ◌∷◌, ◌++◌, map, length, Option, Some, None}
+use Rattle.std.specs.Prelude.{◌≡◌, ◌⊎◌, ℕ, suc, ◌+◌, ◌%◌, ◌<◌, Bool, false, List, [], ◌∷◌, ◌++◌, map, length, Option, Some, None}
 use Rattle.std.specs.List.{flat_map}
 use Rattle.std.specs.Ordering.{nat_cmp}
 use Rattle.ob_base.specs.Repeats.{Has}
@@ -8,12 +8,11 @@ use Rattle.ob_base.specs.declared.fault.Fault.{Fault}
 use Rattle.ob_base.specs.declared.params.Params.{Params}
 use Rattle.ob_tables.specs.Rank.{IsRanking}
 use Rattle.ob_fresh.specs.Drawn.{AllDrawNext, DrawInTurn, WordsKept}
-use Rattle.ob_vault.specs.KindLives.{LifeWords}
 use Rattle.ob_vault.specs.Shapes.{Shape}
 use Rattle.ob_vault.specs.KindShown.{AreDrawn}
 use Rattle.ob_recover.specs.Calls.{Finds, repeated}
 use Rattle.ob_recover.specs.Life.{Append, HolesAreFresh, IsLife, LifeAct, LifeBatch, LifeState, Open, ShowBatch, ShowLifts, SlotFill, WordId, formatted_life, leaf_of_word, life_labels, life_slots, reached}
-use Rattle.ob_vault.specs.Acts.{AreBatchesSmall, AreTapeWords, IsBatchSmall}
+use Rattle.ob_vault.specs.Acts.{AreBatchesSmall, AreTapeWords, IsBatchSmall, IsMadeAsTold, is_answered}
 use Rattle.ob_vault.specs.Hidden.{AreFirst, RingCut, RingCutShown, RingDrawsCut, RingHidden}
 use Rattle.ob_vault.specs.RingLaws.{ReadsHead}
 use Rattle.ob_vault.specs.RingKind.{IsRingFound, IsRingMap, RingFound, ring_hidden, ring_kind, ring_public}
@@ -172,6 +171,15 @@ RunsGoOn {V} {S} k disk = (runs : V → Running S) → HasRingWords k disk runs 
     × ((call : VaultCall) (answer : VaultAnswer) (w : V) (one : Called k v call answer w) (c : Fills) (refused : Fault) (seen : List Event) → RingCut most p q h call c (runs w).drawn refused seen → RingCutShown most p q call c refused seen one.notes
     → RingGoesOn keys most p f (disk (runs first).store) calls steps h (Some call) (runs w).drawn seen (disk (runs w).store))
 
+-- Behind one that was refused the acts that are left of it are as its notes tell.
+abbrev pub RunsGoOnAsTold : {V S : Type 0} → Kind V → (S → Disk) → Type 0
+RunsGoOnAsTold {V} {S} k disk = (runs : V → Running S) → HasRingWords k disk runs → (keys : Keys) (most : ℕ) (p : Params) (f : RingFound) (first : V) (calls : List VaultCall) (steps : List (Shape × Fills)) (q : RingPublic) (h : RingHidden) (n : ℕ) (v : V)
+    → AreDrawn ring_kind p (ring_hidden f) calls steps h → RingAt k disk runs keys most p f (disk (runs first).store) q h n v
+    → (call : VaultCall) (answer : VaultAnswer) (w : V) (one : Called k v call answer w) → is_answered answer ≡ false → (c : Fills) (refused : Fault) (seen : List Event) → RingCut most p q h call c (runs w).drawn refused seen → RingCutShown most p q call c refused seen one.notes
+    → (goes : RingGoesOn keys most p f (disk (runs first).store) calls steps h (Some call) (runs w).drawn seen (disk (runs w).store))
+    × ((word_of : WordId → ℕ) (s : LifeState) (here : IsInLife p word_of (ring_hidden f) s) (tape : AreTapeWords word_of (ring_hidden f).generation (runs w).drawn) (m : Map nat_cmp) (is : IsRingMap keys p (disk (runs first).store) f m)
+    → IsMadeAsTold disk word_of (runs v) (runs w) one.notes call ((goes word_of s here tape).left m is).made ((goes word_of s here tape).left m is).in_flight)
+
 -- Behind these acts and those that were made of a refused call, and what is found of the act that was in flight, the life is where this image
 -- stands, so that the next run begins there.
 pub record IsNextInLife (keys : Keys) (p : Params) (word_of : WordId → ℕ) (s : LifeState) (acts made : List LifeAct) (in_flight : Option LifeAct) (image : Image) : Type 0 where
@@ -213,8 +221,3 @@ RunsAreLives {S} disk = (keys : Keys) (most : ℕ) (p : Params) (image : Image) 
 abbrev pub FormatsBegin : {S : Type 0} → (S → Disk) → Type 0
 FormatsBegin {S} disk = (keys : Keys) (p : Params) (drawn : List ℕ) (new : S) → length drawn ≡ format_words p
     → ((word_of : WordId → ℕ) (slot : ℕ → ℕ → ℕ) (c : Image) → AreSlotsIn p (fresh_content p (drawn_ranks p drawn)) slot → (disk new).may_leave c → StandsInLife keys p word_of (formatted_life slot) c) → RingFormatted keys p drawn (disk new)
-
--- ---- as words of the kind
-
-abbrev pub ring_lives : LifeWords ring_kind
-ring_lives = record { formatted = RingFormatted; begins = RingBegins; stops = RingStops; goes_on = RingGoesOn }

@@ -1,15 +1,17 @@
 -- A run that is cut off in a stage of a call, as a part of a row of runs.
-use Rattle.std.specs.Prelude.{◌≡◌, ◌↔◌, ℕ, zero, suc, ◌+◌, ◌%◌, List, [], ◌∷◌, Some}
+use Rattle.std.specs.Prelude.{◌≡◌, ◌↔◌, ℕ, zero, suc, ◌+◌, ◌%◌, List, [], ◌∷◌, Option, None, Some}
 use Rattle.std.specs.Ordering.{nat_cmp}
 use Rattle.ob_base.specs.declared.params.Params.{Params}
+use Rattle.ob_recover.specs.Life.{LifeAct, LifeState, ShowLifts, WordId}
 use Rattle.ob_schedule.specs.Phases.{phases_of}
 use Rattle.ob_schedule.specs.Schedule.{Fills, record_notes}
 use Rattle.ob_seal.specs.declared.keys.Keys.{Keys}
 use Rattle.ob_serial.specs.Serial.{Map}
 use Rattle.ob_serial.specs.VaultKinds.{Called, Kind}
-use Rattle.ob_serial.specs.Vaults.{Fetch, VaultAnswer, VaultCall}
+use Rattle.ob_serial.specs.Vaults.{End, Fetch, VaultAnswer, VaultCall}
 use Rattle.ob_store.specs.Disk.{Disk, Image}
 use Rattle.ob_store.specs.declared.event.Event.{Event}
+use Rattle.ob_vault.specs.Acts.{AreTapeWords}
 use Rattle.ob_vault.specs.Hidden.{AreFirst, RingHidden}
 use Rattle.ob_vault.specs.Joined.{RunsAreOneLife}
 use Rattle.ob_vault.specs.KindShown.{AreDrawn}
@@ -19,22 +21,39 @@ use Rattle.ob_vault.specs.RingSteps.{HasRingWords, RingAt}
 use Rattle.ob_vault.specs.RingVaults.{Running}
 use Rattle.ob_vault.specs.Seen.{RingPublic}
 use Rattle.ob_vault.specs.Shapes.{Shape}
+use Rattle.ob_vault.specs.Shown.{AreActsOf, IsInLife}
 
 -- A stretch of a store's time, from the one to the other: it tells what it does at its end, and a crash leaves what it might have left at any
 -- moment of the stretch.
 abbrev pub span : {S : Type 0} → (S → Disk) → S × S → Disk
 span disk x = record (disk x.1) { may_leave = (disk x.1).left_since (disk x.0).moment }
 
--- What may have been seen of a call by the end of its stage of this number, from 0: by that of a batch's first one no more than the first of
--- its record's steps.
+-- What may have been seen of a call by the end of its stage of this number, from 0: by those in which a batch's record is kept no more than the
+-- first of its steps.
 abbrev pub IsSeenIn : (most : ℕ) → Params → RingPublic → VaultCall → (stage : ℕ) → (seen : List Event) → Type 0
 IsSeenIn most p q (Fetch asks) zero seen = AreFirst most (phases_of (record_notes p (((q.known).epoch + 1) % 2) q.shown)) seen
+IsSeenIn most p q (Fetch asks) (suc zero) seen = AreFirst most (phases_of (record_notes p (((q.known).epoch + 1) % 2) q.shown)) seen
 IsSeenIn most p q call stage seen = Unit {0}
+
+-- The acts that are made by then, and in flight. Until the body of a batch's record was synced there are none; while its gate is opened none is
+-- made; and behind that those of the batch. An end shows its lifts, and isn't in flight before its register is set.
+abbrev pub IsMadeIn : VaultCall → (stage : ℕ) → (made : List LifeAct) → (in_flight : Option LifeAct) → Type 0
+IsMadeIn (Fetch asks) zero made in_flight = (made ≡ []) × (in_flight ≡ None)
+IsMadeIn (Fetch asks) (suc zero) made in_flight = made ≡ []
+IsMadeIn (Fetch asks) (suc (suc stage)) made in_flight = AreActsOf (Fetch asks) made × (in_flight ≡ None)
+IsMadeIn (End writes) zero made in_flight = (made ≡ ShowLifts ∷ []) × (in_flight ≡ None)
+IsMadeIn (End writes) (suc stage) made in_flight = made ≡ ShowLifts ∷ []
 
 -- stages, one behind the other from the first store to the last, each of which is so
 abbrev pub AreSpans : {S : Type 0} → (ℕ → S × S → Type 0) → (stage : ℕ) → (old : S) → (ends : List S) → (new : S) → Type 0
 AreSpans IsSo stage old [] new = new ≡ old
 AreSpans IsSo stage old (end ∷ ends) new = IsSo stage (old, end) × AreSpans IsSo (suc stage) end ends new
+
+-- It goes on with the life as one whose call was refused, and those acts are made of that.
+abbrev pub StopsIn : Keys → (most : ℕ) → Params → RingFound → (opened : Disk) → List VaultCall → List (Shape × Fills) → (behind : RingHidden) → VaultCall → (words : List ℕ) → (seen : List Event) → (new : Disk) → (stage : ℕ) → Type 0
+StopsIn keys most p f opened calls steps behind call words seen new stage = (goes : RingGoesOn keys most p f opened calls steps behind (Some call) words seen new)
+    × ((word_of : WordId → ℕ) (s : LifeState) (here : IsInLife p word_of (ring_hidden f) s) (tape : AreTapeWords word_of (ring_hidden f).generation words) (m : Map nat_cmp) (is : IsRingMap keys p opened f m)
+    → IsMadeIn call stage ((goes word_of s here tape).left m is).made ((goes word_of s here tape).left m is).in_flight)
 
 -- Behind calls that were answered, where a map was found, the next call has stages, whatever it answers. A run that is cut off in one of them
 -- goes on with the life as one whose call was refused: it is left as a crash may leave it at any moment of the stage, and what was seen of the
@@ -43,7 +62,7 @@ abbrev pub RunsStopInStages : {V S : Type 0} → Kind V → (S → Disk) → Typ
 RunsStopInStages {V} {S} k disk = (runs : V → Running S) → HasRingWords k disk runs → (keys : Keys) (most : ℕ) (p : Params) (f : RingFound) (first : V) (calls : List VaultCall) (steps : List (Shape × Fills)) (q : RingPublic) (h : RingHidden) (n : ℕ) (v : V)
     → AreDrawn ring_kind p (ring_hidden f) calls steps h → RingAt k disk runs keys most p f (disk (runs first).store) q h n v → (m : Map nat_cmp) → IsRingMap keys p (disk (runs first).store) f m
     → (call : VaultCall) (answer : VaultAnswer) (w : V) → Called k v call answer w
-    → (ends : List S) × AreSpans (λ stage x. (seen : List Event) → IsSeenIn most p q call stage seen → RingGoesOn keys most p f (disk (runs first).store) calls steps h (Some call) (runs w).drawn seen (span disk x)) 0 (runs v).store ends (runs w).store
+    → (ends : List S) × AreSpans (λ stage x. (seen : List Event) → IsSeenIn most p q call stage seen → StopsIn keys most p f (disk (runs first).store) calls steps h call (runs w).drawn seen (span disk x) stage) 0 (runs v).store ends (runs w).store
 
 -- So rows of runs that are cut off in stages are one life too; and a store alone is left as it may be left now.
 pub record RowsOfStages {S : Type 0} (disk : S → Disk) : Type 0 where

@@ -23,7 +23,8 @@ pub use ring::{
     calls_begin, calls_do, formats_are_told, openings_are_told, refusals_are_told, rows_are_cut,
 };
 pub use runs::{
-    drawn_is_shown, formats_begin, openings_go_on, openings_stop, rows_of_stages, runs_are_lives,
-    runs_are_one_life, runs_go_on, runs_stop_in_stages, tapes_exist,
+    calls_come_in_stages, cut_runs_are_told, drawn_is_shown, formats_begin, openings_go_on,
+    openings_stop, rows_of_stages, runs_are_lives, runs_are_one_life, runs_go_on,
+    runs_stop_in_stages, tapes_exist,
 };
 pub use vault::RingVault;

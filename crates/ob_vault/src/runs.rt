@@ -4,8 +4,9 @@
 ghost use Rattle.ob_serial.specs.VaultKinds.{kind_of};
 ghost use Rattle.ob_vault.specs.Shown.{DrawnIsShown};
 ghost use Rattle.ob_vault.specs.Joined.{RunsAreOneLife, TapesExist};
-ghost use Rattle.ob_vault.specs.Lives.{FormatsBegin, OpeningsGoOn, OpeningsStop, RunsAreLives, RunsGoOn};
+ghost use Rattle.ob_vault.specs.Lives.{FormatsBegin, OpeningsGoOn, OpeningsStop, RunsAreLives, RunsGoOn, RunsGoOnAsTold};
 ghost use Rattle.ob_vault.specs.Spans.{RowsOfStages, RunsStopInStages};
+ghost use Rattle.ob_vault.specs.Staged.{CallsComeInStages, CutRunsAreTold};
 
 use ob_serial::Vault;
 use ob_store::Store;
@@ -37,6 +38,13 @@ pub fn runs_go_on<V: Vault, S: Store>()
     ensures { RunsGoOn (kind_of V.Vault) (λ store. S.disk store) }
 {}
 
+/// Behind one that was refused the notes tell how far it came: a batch's record isn't made where they
+/// are of its body alone, and is where all of its notes were shown; and an end isn't in flight
+/// before the write that opens its register's gate.
+pub fn runs_go_on_as_told<V: Vault, S: Store>()
+    ensures { RunsGoOnAsTold (kind_of V.Vault) (λ store. S.disk store) }
+{}
+
 /// So the whole run is a part of one life, from the store as it was to the store as it is left, and
 /// all that is shown in that life is fresh.
 pub fn runs_are_lives<S: Store>()
@@ -50,11 +58,23 @@ pub fn runs_are_one_life<S: Store>()
     ensures { RunsAreOneLife (λ store. S.disk store) }
 {}
 
+/// Each call of a vault comes in stages, one behind the other, whatever it answers: a batch's
+/// record and then its reads, an end's lifts and all else and then its register.
+pub fn calls_come_in_stages<V: Vault, S: Store>()
+    ensures { CallsComeInStages (kind_of V.Vault) (λ store. S.disk store) }
+{}
+
 /// A run that is cut off in a stage of a call goes on with the life as one whose call was refused,
 /// from whichever image a crash left at a moment of that stage; of the call that counts which may
 /// have been seen by the stage's end.
 pub fn runs_stop_in_stages<V: Vault, S: Store>()
     ensures { RunsStopInStages (kind_of V.Vault) (λ store. S.disk store) }
+{}
+
+/// So what a run tells of its stages tells of each run that is cut off in one of them, also in its
+/// opening, what a row of runs asks for.
+pub fn cut_runs_are_told<S: Store>()
+    ensures { CutRunsAreTold (λ store. S.disk store) }
 {}
 
 /// And a row of runs that are cut off so is one life too.

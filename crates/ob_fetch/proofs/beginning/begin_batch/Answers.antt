@@ -2,7 +2,7 @@ use Rattle.std.proofs.Common.{◌≡◌, ◌≤◌, ◌+◌, ◌^◌, ℕ, ◌++
 use Rattle.std.proofs.lemmas.List.{length-take-le}
 use Rattle.ob_base.specs.declared.fault.Fault.{Fault}
 use Rattle.ob_base.specs.declared.fault.Fault.TheVariants.{StoreFault}
-use Rattle.ob_log.specs.Appends.{HoldsOneOf, HoldsRecord, IsAppendFault, IsWornOut, record_for}
+use Rattle.ob_log.specs.Appends.{AppendStages, HoldsOneOf, HoldsRecord, IsAppendFault, IsWornOut, record_for}
 use Rattle.ob_log.specs.Logs.{OpenRecords, RecordObeys}
 use Rattle.ob_log.proofs.AppendLaws.{obeys_for}
 use Rattle.ob_store.specs.Disk.{Image}
@@ -62,6 +62,14 @@ returns-clause-images g c = λ rs tells synced many held.
     (λ (words : List ℕ). LeavesOnly (g.S.Store.disk c.args.store.now) (g.S.Store.disk c.append.new.store)
     (HoldsOneOf c.args.sealer.now.keys c.args.p.now c.args.epoch rs (record_for c.args.sealer.now c.args.batch c.args.first c.args.asks.now words))) same
     (c.append.ensures.open_prefix rs tells synced many held)
+
+pub returns-clause-stages : goal.returns-clause-stages
+returns-clause-stages g c =
+    let same = c.front-words.ensures ∙ drawn_as _ _ _ c.draw_front.ensures.drawn in
+    subst
+    (λ (words : List ℕ). AppendStages g.S.Store.disk c.args.sealer.now.keys c.args.p.now c.args.epoch c.args.batch (record_for c.args.sealer.now c.args.batch c.args.first c.args.asks.now words) c.args.store.now c.append.new.store
+    (g.W.Watch.trace c.args.watch.now) (g.W.Watch.trace c.append.new.watch) c.append.result) same
+    c.append.ensures.stages
 
 pub returns-clause-does : goal.returns-clause-does
 returns-clause-does g c = c.append.ensures.does

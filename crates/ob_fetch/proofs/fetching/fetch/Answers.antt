@@ -8,7 +8,6 @@ use Rattle.ob_base.specs.Planned.{most_jobs}
 use Rattle.ob_cells.specs.Jobs.{Manned}
 use Rattle.ob_log.proofs.AppendLaws.{within_none}
 use Rattle.ob_log.specs.Appends.{append_notes}
-use Rattle.ob_log.specs.Logs.{OpenRecords}
 use Rattle.ob_recover.specs.Repeats.{asked_of_record, batch_cells, repeated_notes}
 use Rattle.ob_pads.specs.Seals.{CellsAreSealed}
 use Rattle.ob_ring.specs.Ring.{Kept}
@@ -20,13 +19,14 @@ use Rattle.ob_recover.proofs.Telling.{row_step}
 use Rattle.ob_store.proofs.Events.{none_noted}
 use Rattle.ob_store.proofs.Serving.{goes_same, serves_then}
 use Rattle.ob_store.proofs.Showing.{shows_none}
-use Rattle.ob_store.specs.Told.{Tells, TellsFirst}
+use Rattle.ob_store.specs.Told.{TellsFirst}
 use Rattle.ob_tables.specs.Kept.{Held}
 use Rattle.ob_fetch.proofs.ActLaws.{fetch_acts}
 use Rattle.ob_fetch.proofs.AnswerLaws.{item_got}
-use Rattle.ob_fetch.proofs.FetchLaws.{answers_as, answers_refused, begun_leaves, begun_now, cells_same, does_refused, draws_refused, drawn_many, enough_left, fetch_fault, left_for}
-use Rattle.ob_fetch.proofs.FetchLaws.{worn_for, leaves_none, leaves_read, moves_as, next_is, not_worn, settled_then, stages_begun, stages_logged, stages_refused, tells_as, value_stood, within_next, within_then, written_still}
-use Rattle.ob_fetch.proofs.ScheduleLaws.{open_begun, open_cut, batch_room, plans_as, plans_more, begun_shown, shown_begun, shown_cut, shown_well}
+use Rattle.ob_fetch.proofs.FetchLaws.{answers_as, answers_refused, begun_leaves, begun_now, cells_same, does_refused, draws_refused, drawn_many, enough_left, fetch_fault, left_for, logged_first}
+use Rattle.ob_fetch.proofs.FetchLaws.{worn_for, leaves_none, leaves_read, moves_as, next_is, not_worn, settled_then, stages_logged, stages_refused, tells_as, value_stood, within_next, within_then, written_still}
+use Rattle.ob_fetch.proofs.StageLaws.{append_told, open_short, record_stages, stages_begun, stages_next}
+use Rattle.ob_fetch.proofs.ScheduleLaws.{cut_scheduled, batch_room, plans_as, plans_more, begun_shown, shown_begun, shown_well}
 use Rattle.ob_fetch.proofs.NextLaws.{answers_then, refused_then, runs_as, runs_next, stands_as, stands_then}
 use Rattle.ob_fetch.specs.Fetches.{AreMapValues, FetchAnswers, FetchDraws, FetchStands, IsFetchRefusal, values_asked, next_batch, record_next, words_since, FetchDoes}
 use Rattle.ob_fetch.specs.declared.run.Run.{Run}
@@ -155,13 +155,14 @@ returns-in-Err-clause-scheduled g c =
     let old = g.S.Store.disk c.args.store.now in
     let mid = g.S.Store.disk c.begin_batch.new.store in
     let r = record_next c.args.run.now c.args.asks.now (words_since (g.T.Tape.drawn c.args.tape.now) (g.T.Tape.drawn c.begin_batch.new.tape)) in
-    let first = subst (λ (e : ℕ). TellsFirst (append_notes p e (next_batch run)) old.seen mid.seen (g.W.Watch.trace c.args.watch.now) (g.W.Watch.trace c.begin_batch.new.watch)) (next_is run.epoch) c.in-Err.ensures.does.first in
+    let told = append_told g.S.Store.disk run.sealer.keys p (suc run.epoch) r c.args.store.now c.begin_batch.new.store (g.W.Watch.trace c.args.watch.now) (g.W.Watch.trace c.begin_batch.new.watch) c.in-Err.fault c.in-Err.ensures.faults
+    (stages_next g.S.Store.disk run.sealer.keys p run.epoch (next_batch run) r c.args.store.now c.begin_batch.new.store (g.W.Watch.trace c.args.watch.now) (g.W.Watch.trace c.begin_batch.new.watch) (Err c.in-Err.fault) c.in-Err.ensures.stages) in
+    let first = told.first in
     let front = shown_begun c.args.crew.now.lanes p run.sealer.generation run.gates run.ring (next_batch run) run.epoch r c.requires.goes_on.ready.table.0 c.requires.goes_on.ready.table.1 (batch_room run c.requires.some_left c.requires.goes_on.ready.few) c.begin_batch.ensures.obeys
     old.seen mid.seen (g.W.Watch.trace c.args.watch.now) (g.W.Watch.trace c.begin_batch.new.watch) first in (
       first.shown,
       first.tells.shows,
-      open_begun c.args.crew.now.lanes p run.sealer.generation run.gates run.ring (next_batch run) run.epoch r c.requires.goes_on.ready.table.0 c.requires.goes_on.ready.table.1 (batch_room run c.requires.some_left c.requires.goes_on.ready.few) c.begin_batch.ensures.obeys
-          old.seen mid.seen (g.W.Watch.trace c.args.watch.now) (g.W.Watch.trace c.begin_batch.new.watch) g.S.Store.disk run.sealer.keys c.args.store.now c.begin_batch.new.store first (Err c.in-Err.fault) c.in-Err.ensures.faults,
+      open_short g.S.Store.disk run.sealer.keys p (suc run.epoch) r c.args.store.now c.begin_batch.new.store (g.W.Watch.trace c.args.watch.now) (g.W.Watch.trace c.begin_batch.new.watch) c.in-Err.fault c.in-Err.ensures.faults told,
       λ content rs was many. begun_shown (Err c.in-Err.fault) refl c.in-Err.ensures.faults c.args.crew.now.lanes (append_notes p (suc run.epoch) (next_batch run)) _ _ first.shown old.seen mid.seen front,
     )
 
@@ -206,10 +207,11 @@ returns-in-Err-clause-standing g c =
           begun_leaves run s r old mid was (begun_now run c.args.asks.now words old mid c.requires.some_left c.requires.goes_on.ready.few c.begin_batch.ensures.obeys (within_next run old mid c.begin_batch.ensures.within) was.tells)
           (g.met.S.Store.only_now c.args.store.now) c.begin_batch.ensures.within c.begin_batch.ensures.images;
       stages = λ s was.
-          stages_begun g.S.Store.disk run s r c.args.store.now c.begin_batch.new.store c.in-Err.fault c.in-Err.ensures.faults
+          stages_begun g.S.Store.disk run s c.args.asks.now words c.args.store.now was c.requires.some_left c.requires.goes_on.ready.few c.begin_batch.ensures.obeys c.begin_batch.new.store (g.W.Watch.trace c.args.watch.now) (g.W.Watch.trace c.begin_batch.new.watch) c.in-Err.fault c.in-Err.ensures.faults
           (subst (λ (e : ℕ). TellsFirst (append_notes p e (next_batch run)) old.seen mid.seen (g.W.Watch.trace c.args.watch.now) (g.W.Watch.trace c.begin_batch.new.watch)) (next_is run.epoch) c.in-Err.ensures.does.first)
           (begun_leaves run s r old mid was (begun_now run c.args.asks.now words old mid c.requires.some_left c.requires.goes_on.ready.few c.begin_batch.ensures.obeys (within_next run old mid c.begin_batch.ensures.within) was.tells)
-          (g.met.S.Store.only_now c.args.store.now) c.begin_batch.ensures.within c.begin_batch.ensures.images);
+          (g.met.S.Store.only_now c.args.store.now) c.begin_batch.ensures.within c.begin_batch.ensures.images)
+          (stages_next g.S.Store.disk keys p run.epoch (next_batch run) r c.args.store.now c.begin_batch.new.store (g.W.Watch.trace c.args.watch.now) (g.W.Watch.trace c.begin_batch.new.watch) (Err c.in-Err.fault) c.in-Err.ensures.stages);
     }
 
 -- ---- refused while the batch was read
@@ -257,7 +259,6 @@ returns-in-Err-read_batch-clause-does g c =
     let run = c.args.run.now in
     let p = c.args.run.now.params in
     let keys = c.args.run.now.sealer.keys in
-    let old = g.S.Store.disk c.args.store.now in
     let mid = g.S.Store.disk c.begin_batch.new.store in
     let new = g.S.Store.disk c.read_batch.new.store in
     let r = record_next c.args.run.now c.args.asks.now (words_since (g.T.Tape.drawn c.args.tape.now) (g.T.Tape.drawn c.begin_batch.new.tape)) in
@@ -266,27 +267,30 @@ returns-in-Err-read_batch-clause-does g c =
     let ws = c.front.ensures ∙ c.begin_batch.ensures.words in
     λ start t seals stands.
     does_refused g.S.Store.disk c.args.crew.now.lanes keys p (suc run.epoch) r (batch_cells p start.versions t (asked_of_record p r)) (repeated_notes p start.versions t (asked_of_record p r)) c.args.store.now c.read_batch.new.store
-    (g.W.Watch.trace c.args.watch.now) (g.W.Watch.trace c.read_batch.new.watch) c.in-Err-read_batch.fault c.in-Err-read_batch.ensures.faults (record {
-      between = c.begin_batch.new.store;
-      shown = g.W.Watch.trace c.begin_batch.new.watch;
-      appended = subst (λ (e : ℕ). Tells (append_notes p e (next_batch run)) (append_notes p e (next_batch run)) old.seen mid.seen (g.W.Watch.trace c.args.watch.now) (g.W.Watch.trace c.begin_batch.new.watch)) (next_is run.epoch) c.in-Ok.ensures.does.all;
-      logged = λ records image tells long held left.
-          subst (λ (e : ℕ). OpenRecords keys p e (records ++ r ∷ []) image) (next_is run.epoch)
-          (c.in-Ok.ensures.open records tells long (subst (λ (e : ℕ). OpenRecords keys p e records old.cells) (sym (next_is run.epoch)) held) image left);
-      behind = c.read_batch.ensures.passes;
-      read = tells_as ks c.requires.goes_on.ready.params gs ws (next_batch run) run.sealer.next run.drawn c.args.asks.now c.args.crew.now.lanes start.versions t mid.seen new.seen (g.W.Watch.trace c.begin_batch.new.watch)
-          (g.W.Watch.trace c.read_batch.new.watch) (Err c.in-Err-read_batch.fault) (c.in-Err-read_batch.ensures.told (next_batch run) run.sealer.next start t seals stands);
-    })
+    (g.W.Watch.trace c.args.watch.now) (g.W.Watch.trace c.read_batch.new.watch) c.in-Err-read_batch.fault c.in-Err-read_batch.ensures.faults (logged_first g.S.Store.disk c.args.crew.now.lanes keys p run.epoch r (batch_cells p start.versions t (asked_of_record p r)) (repeated_notes p start.versions t (asked_of_record p r)) c.args.store.now c.begin_batch.new.store c.read_batch.new.store
+    (g.W.Watch.trace c.args.watch.now) (g.W.Watch.trace c.begin_batch.new.watch) (g.W.Watch.trace c.read_batch.new.watch) (Err c.in-Err-read_batch.fault) c.in-Ok.ensures.does.all c.in-Ok.ensures.open c.read_batch.ensures.passes
+    (tells_as ks c.requires.goes_on.ready.params gs ws (next_batch run) run.sealer.next run.drawn c.args.asks.now c.args.crew.now.lanes start.versions t mid.seen new.seen (g.W.Watch.trace c.begin_batch.new.watch)
+    (g.W.Watch.trace c.read_batch.new.watch) (Err c.in-Err-read_batch.fault) (c.in-Err-read_batch.ensures.told (next_batch run) run.sealer.next start t seals stands)))
 
 pub returns-in-Err-read_batch-clause-scheduled : goal.returns-in-Err-read_batch-clause-scheduled
 returns-in-Err-read_batch-clause-scheduled g c =
     let run = c.args.run.now in
+    let p = c.args.run.now.params in
+    let keys = c.args.run.now.sealer.keys in
+    let mid = g.S.Store.disk c.begin_batch.new.store in
+    let new = g.S.Store.disk c.read_batch.new.store in
     let r = record_next c.args.run.now c.args.asks.now (words_since (g.T.Tape.drawn c.args.tape.now) (g.T.Tape.drawn c.begin_batch.new.tape)) in
-    let shown = shown_cut c.args.crew.now.lanes run.params run.sealer.generation run.gates run.ring (next_batch run) run.epoch r c.requires.goes_on.ready.table.0 c.requires.goes_on.ready.table.1 (batch_room run c.requires.some_left c.requires.goes_on.ready.few) c.begin_batch.ensures.obeys
-    g.S.Store.disk run.sealer.keys c.args.store.now c.read_batch.new.store (g.W.Watch.trace c.args.watch.now) (g.W.Watch.trace c.read_batch.new.watch) c.in-Err-read_batch.fault (returns-in-Err-read_batch-clause-does g c) in
-    let opened = open_cut c.args.crew.now.lanes run.params run.sealer.generation run.gates run.ring (next_batch run) run.epoch r c.requires.goes_on.ready.table.0 c.requires.goes_on.ready.table.1 (batch_room run c.requires.some_left c.requires.goes_on.ready.few) c.begin_batch.ensures.obeys
-    g.S.Store.disk run.sealer.keys c.args.store.now c.read_batch.new.store (g.W.Watch.trace c.args.watch.now) (g.W.Watch.trace c.read_batch.new.watch) c.in-Err-read_batch.fault (returns-in-Err-read_batch-clause-does g c) in
-    (shown.notes, shown.shows, opened, shown.reads_as)
+    let ks = c.in-Ok.ensures.seals.some.keys in
+    let gs = ap (λ (x : ℕ × ℕ). x.0) c.next.ensures.identity ∙ c.in-Ok.ensures.seals.some.generation in
+    let ws = c.front.ensures ∙ c.begin_batch.ensures.words in
+    let scheduled = cut_scheduled c.args.crew.now.lanes run.params run.sealer.generation run.gates run.ring (next_batch run) run.epoch r c.requires.goes_on.ready.table.0 c.requires.goes_on.ready.table.1 (batch_room run c.requires.some_left c.requires.goes_on.ready.few) c.begin_batch.ensures.obeys
+    g.S.Store.disk run.sealer.keys c.args.store.now c.read_batch.new.store (g.W.Watch.trace c.args.watch.now) (g.W.Watch.trace c.read_batch.new.watch) c.in-Err-read_batch.fault c.in-Err-read_batch.ensures.faults
+    (λ start t seals stands. (logged_first g.S.Store.disk c.args.crew.now.lanes keys p run.epoch r (batch_cells p start.versions t (asked_of_record p r)) (repeated_notes p start.versions t (asked_of_record p r)) c.args.store.now c.begin_batch.new.store c.read_batch.new.store
+    (g.W.Watch.trace c.args.watch.now) (g.W.Watch.trace c.begin_batch.new.watch) (g.W.Watch.trace c.read_batch.new.watch) (Err c.in-Err-read_batch.fault) c.in-Ok.ensures.does.all c.in-Ok.ensures.open c.read_batch.ensures.passes
+    (tells_as ks c.requires.goes_on.ready.params gs ws (next_batch run) run.sealer.next run.drawn c.args.asks.now c.args.crew.now.lanes start.versions t mid.seen new.seen (g.W.Watch.trace c.begin_batch.new.watch)
+    (g.W.Watch.trace c.read_batch.new.watch) (Err c.in-Err-read_batch.fault) (c.in-Err-read_batch.ensures.told (next_batch run) run.sealer.next start t seals stands)))) in
+    let shown = scheduled.0 in
+    (shown.notes, shown.shows, scheduled.1, shown.reads_as)
 
 pub returns-in-Err-read_batch-clause-wears : goal.returns-in-Err-read_batch-clause-wears
 returns-in-Err-read_batch-clause-wears g c = record {
@@ -338,7 +342,9 @@ returns-in-Err-read_batch-clause-standing g c =
       stages = λ s was.
           stages_refused g.S.Store.disk run s r c.args.store.now c.read_batch.new.store c.in-Err-read_batch.fault c.in-Err-read_batch.ensures.faults
           (stages_logged g.S.Store.disk run s c.args.asks.now words c.args.store.now c.begin_batch.new.store c.read_batch.new.store (g.met.S.Store.only_now c.args.store.now) (g.met.S.Store.only_now c.begin_batch.new.store) was
-          c.requires.some_left c.requires.goes_on.ready.few c.begin_batch.ensures.obeys c.begin_batch.ensures.within c.begin_batch.ensures.images (c.in-Ok.ensures.written was.tells) (c.in-Ok.ensures.durable was.tells) c.in-Ok.ensures.does.all.seen c.read_batch.ensures.passes);
+          c.requires.some_left c.requires.goes_on.ready.few c.begin_batch.ensures.obeys c.begin_batch.ensures.within c.begin_batch.ensures.images (c.in-Ok.ensures.written was.tells) (c.in-Ok.ensures.durable was.tells) c.in-Ok.ensures.does.all.seen
+          (record_stages g.S.Store.disk run s c.args.asks.now words c.args.store.now was c.requires.some_left c.requires.goes_on.ready.few c.begin_batch.ensures.obeys c.begin_batch.new.store
+          (stages_next g.S.Store.disk keys p run.epoch (next_batch run) r c.args.store.now c.begin_batch.new.store (g.W.Watch.trace c.args.watch.now) (g.W.Watch.trace c.begin_batch.new.watch) (Ok tt) c.in-Ok.ensures.stages)) c.read_batch.ensures.passes);
     }
 
 -- ---- read
@@ -397,7 +403,6 @@ returns-clause-does g c =
     let run = c.args.run.now in
     let p = c.args.run.now.params in
     let keys = c.args.run.now.sealer.keys in
-    let old = g.S.Store.disk c.args.store.now in
     let mid = g.S.Store.disk c.begin_batch.new.store in
     let new = g.S.Store.disk c.read_batch.new.store in
     let r = record_next c.args.run.now c.args.asks.now (words_since (g.T.Tape.drawn c.args.tape.now) (g.T.Tape.drawn c.begin_batch.new.tape)) in
@@ -405,17 +410,10 @@ returns-clause-does g c =
     let gs = ap (λ (x : ℕ × ℕ). x.0) c.next.ensures.identity ∙ c.in-Ok.ensures.seals.some.generation in
     let ws = c.front.ensures ∙ c.begin_batch.ensures.words in
     λ start t seals stands.
-    record {
-      between = c.begin_batch.new.store;
-      shown = g.W.Watch.trace c.begin_batch.new.watch;
-      appended = subst (λ (e : ℕ). Tells (append_notes p e (next_batch run)) (append_notes p e (next_batch run)) old.seen mid.seen (g.W.Watch.trace c.args.watch.now) (g.W.Watch.trace c.begin_batch.new.watch)) (next_is run.epoch) c.in-Ok.ensures.does.all;
-      logged = λ records image tells long held left.
-          subst (λ (e : ℕ). OpenRecords keys p e (records ++ r ∷ []) image) (next_is run.epoch)
-          (c.in-Ok.ensures.open records tells long (subst (λ (e : ℕ). OpenRecords keys p e records old.cells) (sym (next_is run.epoch)) held) image left);
-      behind = c.read_batch.ensures.passes;
-      read = tells_as ks c.requires.goes_on.ready.params gs ws (next_batch run) run.sealer.next run.drawn c.args.asks.now c.args.crew.now.lanes start.versions t mid.seen new.seen (g.W.Watch.trace c.begin_batch.new.watch)
-          (g.W.Watch.trace c.read_batch.new.watch) (Ok tt) (c.in-Ok-read_batch.ensures.told (next_batch run) run.sealer.next start t seals stands);
-    }
+    logged_first g.S.Store.disk c.args.crew.now.lanes keys p run.epoch r (batch_cells p start.versions t (asked_of_record p r)) (repeated_notes p start.versions t (asked_of_record p r)) c.args.store.now c.begin_batch.new.store c.read_batch.new.store
+    (g.W.Watch.trace c.args.watch.now) (g.W.Watch.trace c.begin_batch.new.watch) (g.W.Watch.trace c.read_batch.new.watch) (Ok tt) c.in-Ok.ensures.does.all c.in-Ok.ensures.open c.read_batch.ensures.passes
+    (tells_as ks c.requires.goes_on.ready.params gs ws (next_batch run) run.sealer.next run.drawn c.args.asks.now c.args.crew.now.lanes start.versions t mid.seen new.seen (g.W.Watch.trace c.begin_batch.new.watch)
+    (g.W.Watch.trace c.read_batch.new.watch) (Ok tt) (c.in-Ok-read_batch.ensures.told (next_batch run) run.sealer.next start t seals stands))
 
 pub returns-clause-sealed : goal.returns-clause-sealed
 returns-clause-sealed g c = λ tells.
@@ -529,7 +527,9 @@ returns-clause-standing g c =
           (g.met.S.Store.only_now c.args.store.now) c.begin_batch.ensures.within c.begin_batch.ensures.images) c.read_batch.ensures.passes;
       stages = λ s was.
           stages_logged g.S.Store.disk run s c.args.asks.now words c.args.store.now c.begin_batch.new.store c.read_batch.new.store (g.met.S.Store.only_now c.args.store.now) (g.met.S.Store.only_now c.begin_batch.new.store) was
-          c.requires.some_left c.requires.goes_on.ready.few c.begin_batch.ensures.obeys c.begin_batch.ensures.within c.begin_batch.ensures.images (c.in-Ok.ensures.written was.tells) (c.in-Ok.ensures.durable was.tells) c.in-Ok.ensures.does.all.seen c.read_batch.ensures.passes;
+          c.requires.some_left c.requires.goes_on.ready.few c.begin_batch.ensures.obeys c.begin_batch.ensures.within c.begin_batch.ensures.images (c.in-Ok.ensures.written was.tells) (c.in-Ok.ensures.durable was.tells) c.in-Ok.ensures.does.all.seen
+          (record_stages g.S.Store.disk run s c.args.asks.now words c.args.store.now was c.requires.some_left c.requires.goes_on.ready.few c.begin_batch.ensures.obeys c.begin_batch.new.store
+          (stages_next g.S.Store.disk keys p run.epoch (next_batch run) r c.args.store.now c.begin_batch.new.store (g.W.Watch.trace c.args.watch.now) (g.W.Watch.trace c.begin_batch.new.watch) (Ok tt) c.in-Ok.ensures.stages)) c.read_batch.ensures.passes;
     }
 
 -- ---- the batch may be begun

@@ -1,4 +1,4 @@
-use Rattle.std.proofs.Common.{Err, None, [], ◌∷◌, inl, inr, ap, arith, refl}
+use Rattle.std.proofs.Common.{Err, [], ◌∷◌, inl, inr, ap, arith, refl}
 use Rattle.ob_base.specs.declared.params.Params.{Params}
 use Rattle.ob_seal.specs.Sealing.{Sealing}
 use Rattle.ob_store.specs.declared.watch.Note.TheVariants.{Read}
@@ -7,6 +7,7 @@ use Rattle.ob_top.proofs.Noted.{reads_noted}
 use Rattle.ob_vault.proofs.Opening.{ring_leaves_standing, ring_opens_standing}
 use Rattle.ob_vault.specs.RingLaws.{found_ring}
 use Rattle.ob_top.proofs.Beginnings.{begun, broke_early, may_serve, unopened}
+use Rattle.ob_top.proofs.Staging.{opens_in_stages}
 use Rattle.ob_top.proofs.Living.{read_lives, refused_lives, read_opened}
 use Rattle.ob_top.proofs.run.begin.Goals as goal
 
@@ -89,7 +90,9 @@ returns-in-Ok-prepare-clause-durable g c = λ tells.
 pub returns-in-Ok-prepare-clause-since : goal.returns-in-Ok-prepare-clause-since
 returns-in-Ok-prepare-clause-since g c =
     let head = c.in-Ok.ensures in
-    ring_opens_standing (λ s. g.S.Store.disk s) c.args.keys.now c.in-Ok.params c.args.store.now c.head.new.store c.prepare.new.store (record { keeps = head.keeps; passes = head.passes; seen = head.does.seen }) c.in-Ok-prepare.ensures.leaves
+    let e = c.in-Ok-prepare.ensures in
+    opens_in_stages (λ s. g.S.Store.disk s) (λ x t image at left. g.met.S.Store.counts_now x t image at left) (λ x image left. g.met.S.Store.only_now x image left) c.args.keys.now c.args.lanes c.in-Ok.params c.args.store.now c.head.new.store c.prepare.new.store
+    (record { keeps = head.keeps; passes = head.passes; seen = head.does.seen }) _ _ c.in-Ok-prepare.opening e.opened e.leaves
 
 pub returns-in-Ok-prepare-clause-left : goal.returns-in-Ok-prepare-clause-left
 returns-in-Ok-prepare-clause-left g c = λ at tells stands all.

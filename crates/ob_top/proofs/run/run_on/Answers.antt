@@ -2,7 +2,7 @@ use Rattle.ob_store.proofs.Serving.{goes_then}
 use Rattle.ob_vault.specs.RingKind.{ring_kind}
 use Rattle.ob_vault.proofs.OpenedLife.{opened_lives}
 use Rattle.ob_vault.proofs.Standing.{ring_keeps}
-use Rattle.ob_vault.specs.Lives.{ring_lives}
+use Rattle.ob_vault.specs.RingLives.{ring_lives}
 use Rattle.std.proofs.Common.{inr}
 use Rattle.ob_top.proofs.Beginnings.{broke_early, ring_quiet}
 use Rattle.ob_top.proofs.Living.{open_lives}
@@ -27,7 +27,7 @@ returns-in-Err-still_watched-clause-done g c =
       broken = broken;
       stood = b.stood;
       left = c.in-Ok.ensures.left;
-      opens = c.in-Ok.ensures.since;
+      opens = c.in-Ok.ensures.since.standing;
       opens_life = λ tells word_of s here small. opened_lives c.args.keys.now c.in-Ok.begun.params word_of s (g.S.Store.disk c.args.store.now).cells f (b.opened.finds tells) here small;
     })))
     (open_lives (λ s. g.S.Store.disk s) c.args.keys.now _ _ c.in-Ok.begun.opening.sealer c.in-Ok.ensures.opens)

@@ -4,7 +4,7 @@ use Rattle.ob_base.specs.declared.params.Params.{Params}
 use Rattle.ob_cells.specs.Jobs.{Manned}
 use Rattle.ob_fetch.specs.declared.run.Run.{Run}
 use Rattle.ob_vault.specs.RingKind.{ring_kind}
-use Rattle.ob_vault.specs.Lives.{ring_lives}
+use Rattle.ob_vault.specs.RingLives.{ring_lives}
 use Rattle.ob_vault.specs.RingVaults.{run_over, running}
 use Rattle.ob_top.specs.Outside.{words_given}
 use Rattle.ob_top.proofs.Lent.{serves_lent}

@@ -1,0 +1,32 @@
+-- The stages of a run: its opening's, and then those of its vault's calls, one behind the other.
+use Rattle.std.specs.Prelude.{◌≡◌, true, false, List, [], ◌∷◌, ◌++◌, ℕ, Option, Some, None}
+use Rattle.ob_base.specs.declared.params.Params.{Params}
+use Rattle.ob_seal.specs.declared.keys.Keys.{Keys}
+use Rattle.ob_serial.specs.Vaults.{VaultCall}
+use Rattle.ob_store.specs.Disk.{Disk}
+use Rattle.ob_vault.specs.KindLives.{LifeWords}
+use Rattle.ob_vault.specs.Kinds.{StoreKind}
+use Rattle.ob_vault.specs.Openings.{OpensStanding}
+use Rattle.ob_vault.specs.Shapes.{Shape}
+
+-- A store was opened: it stands on, and it was done in stages.
+pub record OpensInStages (store : StoreKind) (life : LifeWords store) {S : Type 0} (disk : S → Disk) (keys : Keys) (p : Params) (old new : S) : Type 0 where
+  pub standing : OpensStanding store disk keys p (disk old) (disk new)
+  pub stages : life.opens_staged disk keys p old new
+
+-- The calls of a run over the store that was opened, each from where the one before it left the store. An answered one made all of its stages from
+-- what is public and hidden behind those before it, drew this, and the tape had then given just the words hidden behind it; and then one that was
+-- refused, where one was, made the first of its stages.
+module _ (store : StoreKind) (life : LifeWords store) {S : Type 0} (disk : S → Disk) (keys : Keys) (most : ℕ) (p : Params) (found : store.Found) (opened : Disk) (last : Option VaultCall) (words : List ℕ) (behind : store.Hidden) (new : S) where
+  -- the last one, or nothing
+  abbrev pub LastStaged : Option VaultCall → (done : List VaultCall) (taken : List (Shape × store.Drawn)) → store.Public → S → Type 0
+  LastStaged None done taken q old = new ≡ old
+  LastStaged (Some call) done taken q old = life.call_staged disk keys most p found opened done taken q behind call words false old new
+
+  -- those that are still to come, behind these
+  abbrev pub CallsStaged : (done : List VaultCall) (taken : List (Shape × store.Drawn)) → store.Public → store.Hidden → List VaultCall → List (Shape × store.Drawn) → S → Type 0
+  CallsStaged done taken q h [] [] old = (behind ≡ h) × LastStaged last done taken q old
+  CallsStaged done taken q h (call ∷ calls) (step ∷ steps) old = (mid : S) × (given : List ℕ) × (then : store.Hidden) × store.draws p h call step.1 then × store.is_of_tape p then None given None
+      × life.call_staged disk keys most p found opened done taken q h call given true old mid
+      × CallsStaged (done ++ call ∷ []) (taken ++ step ∷ []) (store.next p q step.0 step.1) then calls steps mid
+  CallsStaged done taken q h _ _ old = ⊥
