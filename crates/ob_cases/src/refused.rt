@@ -15,6 +15,9 @@ const REFUSED: &str = "\
     keys run S K --trace -> 2 fault: usage/\n\
     keys run S K --trace T --trace T -> 2 fault: usage/\n\
     keys run S K --trace T -> 5 fault: store/\n\
+    keys run S K --reads 1 --reads 1 -> 2 fault: usage/\n\
+    keys run S K --writes -1 -> 2 fault: usage/\n\
+    keys run S K --reads 0 -> 5 fault: store/\n\
     keys audit x -> 2 fault: usage/\n\
     keys --help -> 2 fault: usage/\n\
     keys format S K 8 2 2 3 2 2 2 2 -> 2 fault: usage/\n\

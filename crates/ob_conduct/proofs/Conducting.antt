@@ -17,7 +17,8 @@ use Rattle.ob_serial.specs.VaultViews.{IsEndFault}
 use Rattle.ob_serial.specs.VaultKinds.{Kind, ended_of}
 use Rattle.ob_serial.proofs.Runs.{goes_on}
 use Rattle.ob_serial.specs.declared.vault.EndErr.{EndErr}
-use Rattle.ob_desk.specs.Desk.{DeskState, Setup, Call, Reply, Run, MayOpen, new_desk, published, record_of, setup_of}
+use Rattle.ob_shares.specs.declared.shares.Shares.{Shares}
+use Rattle.ob_desk.specs.Desk.{DeskState, Setup, Call, Reply, Run, MayOpen, new_desk, published, record_of, setup_with}
 use Rattle.ob_desk.specs.Replay.{map_after}
 use Rattle.ob_desk.specs.Beats.{BeatKind}
 use Rattle.ob_desk.proofs.Runs.{desk_is_serial, committed_append, good_run, good_new}
@@ -87,8 +88,8 @@ tells_on from mid next acts more so then = subst (λ (ws : List (List (ℕ × Op
 
 -- ---- a new desk
 
-pub ready_new : (p : Params) (d : DeskState) (c : VaultCounts) (clients : List ℕ) → d ≡ new_desk (setup_of p) (suc c.epoch) c.left clients → c.spent ≡ false → IsBetweenActs p d c
-ready_new p d c clients is serves = subst (λ (x : DeskState). IsBetweenActs p x c) (sym is) (record {
+pub ready_new : (p : Params) (shares : Shares) (d : DeskState) (c : VaultCounts) (clients : List ℕ) → d ≡ new_desk (setup_with p shares) (suc c.epoch) c.left clients → c.spent ≡ false → IsBetweenActs p d c
+ready_new p shares d c clients is serves = subst (λ (x : DeskState). IsBetweenActs p x c) (sym is) (record {
   params = refl;
   none_closed = refl;
   landed = refl;
@@ -98,6 +99,15 @@ ready_new p d c clients is serves = subst (λ (x : DeskState). IsBetweenActs p x
   stop = inl refl;
   fit = fit_new p (suc c.epoch) c.left;
 })
+
+-- a new desk's shares are those that it was made with
+pub own_shares : (p : Params) (shares : Shares) (epoch left : ℕ) (clients : List ℕ) (d : DeskState) → d ≡ new_desk (setup_with p shares) epoch left clients → d ≡ new_desk (setup_with p d.setup.shares) epoch left clients
+own_shares p shares epoch left clients d is = is ∙ ap (λ (s : Shares). new_desk (setup_with p s) epoch left clients) (sym (ap (λ (x : DeskState). x.setup.shares) is))
+
+-- and so it may be opened with them
+pub own_opens : (p : Params) (shares : Shares) (epoch left : ℕ) (clients : List ℕ) (d : DeskState) → d ≡ new_desk (setup_with p shares) epoch left clients → MayOpen (setup_with p shares) epoch left clients
+    → MayOpen (setup_with p d.setup.shares) epoch left clients
+own_opens p shares epoch left clients d is opens = subst (λ (s : Shares). MayOpen (setup_with p s) epoch left clients) (sym (ap (λ (x : DeskState). x.setup.shares) is)) opens
 
 -- ---- a run
 

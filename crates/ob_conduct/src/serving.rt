@@ -3,7 +3,7 @@
 ghost use Rattle.std.specs.Prelude.{◌≡◌, ◌≤◌, ℕ, suc, All, map, [], false, vec_capacity};
 ghost use Rattle.ob_io.specs.Streams.{outflow};
 ghost use Rattle.ob_serial.specs.VaultKinds.{kind_of};
-ghost use Rattle.ob_desk.specs.Desk.{MayOpen, new_desk, setup_of};
+ghost use Rattle.ob_desk.specs.Desk.{MayOpen, new_desk, setup_with};
 ghost use Rattle.ob_desk.specs.Beats.{beat_kind};
 ghost use Rattle.ob_conduct.specs.Scenes.{scene, run_state, runner_kind};
 ghost use Rattle.ob_conduct.specs.Conducted.{ByHand};
@@ -37,9 +37,9 @@ fn run_rounds<R: Threads + Wait + Sync, V: Vault, W: Watch, U: Runner, B: Beat, 
     requires serves { (V.counts vault.old).spent ≡ false }
     requires whole { (W.trace watch.old).broken ≡ false }
     requires fresh { desk.old
-        ≡ new_desk (setup_of params.now) (suc (V.counts vault.old).epoch)
+        ≡ new_desk (setup_with params.now desk.old.setup.shares) (suc (V.counts vault.old).epoch)
         (V.counts vault.old).left (map U.client runners.old) }
-    requires opens { MayOpen (setup_of params.now) (suc (V.counts vault.old).epoch)
+    requires opens { MayOpen (setup_with params.now desk.old.setup.shares) (suc (V.counts vault.old).epoch)
         (V.counts vault.old).left (map U.client runners.old) }
     requires below { All (λ u. U.bound u ≤ params.now.keys) runners.old }
     requires none_made { All (λ u. U.fits u []) runners.old }
@@ -89,9 +89,9 @@ pub fn serve<R: Threads + Wait + Sync, V: Vault, W: Watch, U: Runner, B: Beat, O
     requires serves { (V.counts vault.old).spent ≡ false }
     requires whole { (W.trace watch.old).broken ≡ false }
     requires fresh { desk.old
-        ≡ new_desk (setup_of params.now) (suc (V.counts vault.old).epoch)
+        ≡ new_desk (setup_with params.now desk.old.setup.shares) (suc (V.counts vault.old).epoch)
         (V.counts vault.old).left (map U.client runners.old) }
-    requires opens { MayOpen (setup_of params.now) (suc (V.counts vault.old).epoch)
+    requires opens { MayOpen (setup_with params.now desk.old.setup.shares) (suc (V.counts vault.old).epoch)
         (V.counts vault.old).left (map U.client runners.old) }
     requires below { All (λ u. U.bound u ≤ params.now.keys) runners.old }
     requires none_made { All (λ u. U.fits u []) runners.old }

@@ -3,6 +3,7 @@ use Rattle.std.proofs.Common.{◌≡◌, ◌∙◌, ◌+◌, ℕ, suc, false, Li
 use Rattle.std.proofs.lemmas.List.Elements.{All-head, All-tail}
 use Rattle.ob_base.specs.declared.params.Params.{Params}
 use Rattle.ob_serial.specs.Vaults.{VaultCounts}
+use Rattle.ob_shares.specs.Shares.{no_shares}
 use Rattle.ob_desk.specs.Desk.{DeskState, new_desk, setup_of}
 use Rattle.ob_session.specs.Clients.{said_by}
 use Rattle.ob_turn.specs.declared.turn.Entry.{Entry}
@@ -54,6 +55,7 @@ pub first_pass : (hall : Hall) (p : Params) (c : VaultCounts) (epoch left : ℕ)
 first_pass hall p c epoch left driver first second two epoch_is left_is serves = record {
   fresh = two.fresh;
   raises = two.raises;
+  shares = no_shares;
   clients = two_clients;
   opening = let at : epoch ≡ suc c.epoch = omega (arith, epoch_is) in two.opening ∙ (ap (λ (n : ℕ). new_desk (setup_of p) n left two_clients) at ∙ ap (λ (n : ℕ). new_desk (setup_of p) (suc c.epoch) n two_clients) left_is);
   serves = serves;

@@ -4,7 +4,8 @@ use Rattle.ob_base.specs.declared.fault.Fault.TheVariants.{Memory}
 use Rattle.ob_base.specs.declared.params.Params.{Params}
 use Rattle.ob_serial.specs.Vaults.{VaultCounts}
 use Rattle.ob_serial.specs.VaultKinds.{Kind}
-use Rattle.ob_desk.specs.Desk.{DeskState, new_desk, setup_of}
+use Rattle.ob_shares.specs.declared.shares.Shares.{Shares}
+use Rattle.ob_desk.specs.Desk.{DeskState, new_desk, setup_with}
 use Rattle.ob_desk.specs.Beats.{BeatKind}
 use Rattle.ob_hall.specs.Passes.{Hall, Pass, opening_of, history_of, may_raise, IsLegal, IsRaised}
 use Rattle.ob_hall.specs.Opening.{IsFreshPass}
@@ -45,8 +46,9 @@ pub record IsOverAt (hall : Hall) (pass : Pass) : Type 0 where
 pub record IsFirstPass (hall : Hall) (pass : Pass) (p : Params) (c : VaultCounts) : Type 0 where
   pub fresh : IsFreshPass hall 0 pass
   pub raises : may_raise pass ≡ true
+  pub shares : Shares
   pub clients : List ℕ
-  pub opening : opening_of hall ≡ new_desk (setup_of p) (suc c.epoch) c.left clients
+  pub opening : opening_of hall ≡ new_desk (setup_with p shares) (suc c.epoch) c.left clients
   pub serves : c.spent ≡ false
 
 -- The bell was raised to the epoch that the vault's opening found; then things were done, up to the end of the run.

@@ -26,7 +26,9 @@ use Rattle.ob_top.specs.Runs.{RunDone}
 use Rattle.ob_vault.specs.RingLives.{ring_lives}
 use Rattle.ob_vault.specs.RingKind.{ring_kind}
 use Rattle.ob_word_forms.specs.Forms.{ArePlain, IsPlain}
-use Rattle.ob_words.specs.Work.{AreBadLanes, AreLanes, AreParams, HasKeys, IsBadNumber, IsKeysRefused}
+use Rattle.ob_shares.specs.declared.shares.Shares.{Shares}
+use Rattle.ob_words.specs.Reading.{AskedShares}
+use Rattle.ob_words.specs.Work.{AreBadLanes, AreLanes, AreShares, AreParams, HasKeys, IsBadNumber, IsKeysRefused}
 use Rattle.ob_life_tests.specs.Held.{HasHeadline, KeepsToHeadline}
 use Rattle.ob_life_tests.specs.Lived.{HasRun, HasFormatted}
 
@@ -49,9 +51,9 @@ module _ {S W : Type 0} (disk : S → Disk) (text : Bor (List ℕ)) (old new : S
   FormatTells tape numbers = Tell Memory ⊎ (((field : Field) × IsBadNumber numbers field × Tell (BadParams field))
       ⊎ ((p : Params) × AreParams numbers p × (KeysTell ⊎ ((keys : Keys) × HasKeys (Some text) keys × ((is ≡ was) × FormatDone ring_kind ring_lives disk tape keys p old new before after blind blind status)))))
 
-  abbrev RunTells : BeatKind → Given → Option (List ℕ) → Bool → Type 0
-  RunTells beat tape lanes turns = Tell Memory ⊎ ((AreBadLanes lanes × Tell (BadParams LANES))
-      ⊎ ((k : ℕ) × AreLanes lanes k × (KeysTell ⊎ ((keys : Keys) × HasKeys (Some text) keys × ((is ≡ was) × RunDone ring_kind ring_lives disk (manner beat (not turns) k) tape keys old new before after blind blind status)))))
+  abbrev RunTells : BeatKind → Given → Option (List ℕ) → Bool → AskedShares → Type 0
+  RunTells beat tape lanes turns limits = Tell Memory ⊎ ((AreBadLanes lanes × Tell (BadParams LANES))
+      ⊎ ((k : ℕ) × AreLanes lanes k × (shares : Shares) × AreShares limits shares × (KeysTell ⊎ ((keys : Keys) × HasKeys (Some text) keys × ((is ≡ was) × RunDone ring_kind ring_lives disk (manner beat (not turns) k shares) tape keys old new before after blind blind status)))))
 
   no_keys : (A : Type 0) → KeysTell → status ≡ 0 → A
   no_keys A (f, (refused, none), (kept, told)) zero = let two : status ≡ 2 = told.status_is ∙ ap fault_status refused in absurd (omega (arith, two, zero))
@@ -84,20 +86,20 @@ module _ {S W : Type 0} (disk : S → Disk) (text : Bor (List ℕ)) (old new : S
       }
       served (inr u) = absurd (no_fault_at_0 u.fault (sym u.status_is ∙ zero))
 
-  pub ran : (beat : BeatKind) (tape : Given) (lanes : Option (List ℕ)) (turns : Bool) (lacks : Bool) (rose_from rose_to : ℕ)
-      → ((k : ℕ) (keys : Keys) → AreLanes lanes k → HasKeys (Some text) keys → IsPromised keys (manner beat (not turns) k) tape lacks rose_from rose_to)
-      → RunTells beat tape lanes turns → status ≡ 0 → HasRun disk text.now tape old new
-  ran beat tape lanes turns lacks rose_from rose_to promised (inl (kept, told)) zero = absurd (omega (arith, told.status_is, zero))
-  ran beat tape lanes turns lacks rose_from rose_to promised (inr (inl (bad, (kept, told)))) zero = absurd (omega (arith, told.status_is, zero))
-  ran beat tape lanes turns lacks rose_from rose_to promised (inr (inr (k, are, inl refused))) zero = no_keys (HasRun disk text.now tape old new) refused zero
-  ran beat tape lanes turns lacks rose_from rose_to promised (inr (inr (k, are, inr (keys, has, (untraced, done))))) zero = record {
+  pub ran : (beat : BeatKind) (tape : Given) (lanes : Option (List ℕ)) (turns : Bool) (limits : AskedShares) (lacks : Bool) (rose_from rose_to : ℕ)
+      → ((k : ℕ) (shares : Shares) (keys : Keys) → AreLanes lanes k → AreShares limits shares → HasKeys (Some text) keys → IsPromised keys (manner beat (not turns) k shares) tape lacks rose_from rose_to)
+      → RunTells beat tape lanes turns limits → status ≡ 0 → HasRun disk text.now tape old new
+  ran beat tape lanes turns limits lacks rose_from rose_to promised (inl (kept, told)) zero = absurd (omega (arith, told.status_is, zero))
+  ran beat tape lanes turns limits lacks rose_from rose_to promised (inr (inl (bad, (kept, told)))) zero = absurd (omega (arith, told.status_is, zero))
+  ran beat tape lanes turns limits lacks rose_from rose_to promised (inr (inr (k, are, shares, given, inl refused))) zero = no_keys (HasRun disk text.now tape old new) refused zero
+  ran beat tape lanes turns limits lacks rose_from rose_to promised (inr (inr (k, are, shares, given, inr (keys, has, (untraced, done))))) zero = record {
     keys = keys;
     are = has;
-    by = manner beat (not turns) k;
+    by = manner beat (not turns) k shares;
     before = before;
     after = after;
-    done = subst (λ n. RunDone ring_kind ring_lives disk (manner beat (not turns) k) tape keys old new before after blind blind n) zero done;
-    held = held keys (manner beat (not turns) k) tape lacks rose_from rose_to (promised k keys are has) zero;
+    done = subst (λ n. RunDone ring_kind ring_lives disk (manner beat (not turns) k shares) tape keys old new before after blind blind n) zero done;
+    held = held keys (manner beat (not turns) k shares) tape lacks rose_from rose_to (promised k shares keys are given has) zero;
   }
 
 -- ---- words

@@ -3,9 +3,8 @@ use Rattle.std.proofs.Common.{◌∙◌, ◌++◌, ℕ, List, [], ◌∷◌, Opt
 use Rattle.std.specs.List.{All}
 use Rattle.std.proofs.lemmas.Option.{none-some}
 use Rattle.std.proofs.lemmas.List.Elements.{All-head, All-tail}
-use Rattle.ob_base.specs.declared.params.Params.{Params}
 use Rattle.ob_serial.specs.Serial.{EpochRecord}
-use Rattle.ob_desk.specs.Desk.{DeskState, MayOpen, Call, Reply, setup_of}
+use Rattle.ob_desk.specs.Desk.{DeskState, MayOpen, Call, Reply, Setup}
 use Rattle.ob_desk.specs.declared.calls.Look.{Look}
 use Rattle.ob_desk.specs.Beats.{BeatKind}
 use Rattle.ob_session.specs.Steps.{Leads}
@@ -13,28 +12,28 @@ use Rattle.ob_conduct.specs.Acts.{Act, Says, Halts, Rests, Takes, Delivers, Deli
 use Rattle.ob_outcomes.proofs.Walk.{leads_split, leads_on, NotClose, closed_before, act_closes_none}
 use Rattle.ob_outcomes.proofs.EndsWell.{EndsWell, AreWell, EndsAtLook, base, closes_well}
 
-module _ (p : Params) (epoch left : ℕ) (clients : List ℕ) (may : MayOpen (setup_of p) epoch left clients) (beat : BeatKind) where
+module _ (setup : Setup) (epoch left : ℕ) (clients : List ℕ) (may : MayOpen setup epoch left clients) (beat : BeatKind) where
   -- what an act leaves, and what follows it
   record Behind (h : List (Call × Reply)) (d : DeskState) (act : Act) (acts : List Act) (new : DeskState) : Type 0 where
     pub mid : DeskState
     pub first : Leads d (desk_calls act) mid
-    pub reached : Leads (base p epoch left clients may beat) (h ++ desk_calls act) mid
+    pub reached : Leads (base setup epoch left clients may beat) (h ++ desk_calls act) mid
     pub rest : Leads mid (history acts) new
 
-  behind : (h : List (Call × Reply)) (d : DeskState) (act : Act) (acts : List Act) (new : DeskState) → Leads (base p epoch left clients may beat) h d → Leads d (history (act ∷ acts)) new → Behind h d act acts new
+  behind : (h : List (Call × Reply)) (d : DeskState) (act : Act) (acts : List Act) (new : DeskState) → Leads (base setup epoch left clients may beat) h d → Leads d (history (act ∷ acts)) new → Behind h d act acts new
   behind h d act acts new reached run =
       let (mid, first, rest) = leads_split d (desk_calls act) (history acts) new run in
-      record { mid = mid; first = first; reached = leads_on (base p epoch left clients may beat) h (desk_calls act) d mid reached first; rest = rest }
+      record { mid = mid; first = first; reached = leads_on (base setup epoch left clients may beat) h (desk_calls act) d mid reached first; rest = rest }
 
   keeps : (closed : Option Look) (act : Act) (d mid : DeskState) → All NotClose (desk_calls act) → Leads d (desk_calls act) mid → EndsAtLook beat closed d → EndsAtLook beat closed mid
   keeps closed act d mid other first known part is = known part (closed_before d (desk_calls act) mid first other part is)
 
-  well_from : (h : List (Call × Reply)) (d : DeskState) (closed : Option Look) → Leads (base p epoch left clients may beat) h d → EndsAtLook beat closed d → (acts : List Act) → All (IsAllowed beat) acts → (new : DeskState) → Leads d (history acts) new → AreWell beat closed acts
+  well_from : (h : List (Call × Reply)) (d : DeskState) (closed : Option Look) → Leads (base setup epoch left clients may beat) h d → EndsAtLook beat closed d → (acts : List Act) → All (IsAllowed beat) acts → (new : DeskState) → Leads d (history acts) new → AreWell beat closed acts
   well_from h d closed reached known [] allowed new run = tt
   well_from h d closed reached known (Closes look batches writes ∷ acts) allowed new run =
       let b = behind h d (Closes look batches writes) acts new reached run in
       let (act, to_end) = All-head (IsAllowed beat) (Closes look batches writes) acts allowed in
-      well_from (h ++ desk_calls (Closes look batches writes)) b.mid (Some look) b.reached (closes_well p epoch left clients may beat h d reached look batches writes b.mid act to_end b.first) acts (All-tail (IsAllowed beat) (Closes look batches writes) acts allowed) new b.rest
+      well_from (h ++ desk_calls (Closes look batches writes)) b.mid (Some look) b.reached (closes_well setup epoch left clients may beat h d reached look batches writes b.mid act to_end b.first) acts (All-tail (IsAllowed beat) (Closes look batches writes) acts allowed) new b.rest
   well_from h d closed reached known (Publishes writes left_now told ∷ acts) allowed new run =
       let b = behind h d (Publishes writes left_now told) acts new reached run in
       let (last, may_publish, publishes, is) = b.first in
@@ -87,5 +86,5 @@ module _ (p : Params) (epoch left : ℕ) (clients : List ℕ) (may : MayOpen (se
       let b = behind h d Unwatched acts new reached run in
       well_from (h ++ desk_calls Unwatched) b.mid closed b.reached (keeps closed Unwatched d b.mid (act_closes_none beat Unwatched (All-head (IsAllowed beat) Unwatched acts allowed) tt) b.first known) acts (All-tail (IsAllowed beat) Unwatched acts allowed) new b.rest
 
-  pub all_well : (acts : List Act) → All (IsAllowed beat) acts → (new : DeskState) → Leads (base p epoch left clients may beat) (history acts) new → AreWell beat None acts
-  all_well acts allowed new run = well_from [] (base p epoch left clients may beat) None refl (λ part is. absurd (none-some part is)) acts allowed new run
+  pub all_well : (acts : List Act) → All (IsAllowed beat) acts → (new : DeskState) → Leads (base setup epoch left clients may beat) (history acts) new → AreWell beat None acts
+  all_well acts allowed new run = well_from [] (base setup epoch left clients may beat) None refl (λ part is. absurd (none-some part is)) acts allowed new run

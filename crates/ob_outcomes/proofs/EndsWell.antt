@@ -5,11 +5,10 @@ use Rattle.std.proofs.lemmas.Option.{same_Some}
 use Rattle.std.proofs.lemmas.Bool.{false≢true}
 use Rattle.std.proofs.lemmas.Bool.Decides.{Decides-eqb}
 use Rattle.std.proofs.lemmas.List.Elements.{All-weaker}
-use Rattle.ob_base.specs.declared.params.Params.{Params}
 use Rattle.ob_serial.specs.declared.records.Outcome.TheVariants.{Aborted as AbortedBy}
 use Rattle.ob_serial.specs.declared.records.Why.TheVariants.{EpochEnd}
 use Rattle.ob_serial.specs.Serial.{TxnRecord, EpochRecord}
-use Rattle.ob_desk.specs.Desk.{DeskState, Part, MayOpen, Call, Reply, new_desk, look_at, closing, record_of, setup_of}
+use Rattle.ob_desk.specs.Desk.{DeskState, Part, MayOpen, Call, Reply, new_desk, look_at, closing, record_of, Setup}
 use Rattle.ob_desk.specs.declared.calls.Look.{Look}
 use Rattle.ob_desk.specs.Beats.{BeatKind}
 use Rattle.ob_session.specs.Steps.{Leads}
@@ -41,9 +40,9 @@ AreWell beat closed (_ ∷ acts) = AreWell beat closed acts
 abbrev pub EndsAtLook : BeatKind → Option Look → DeskState → Type 0
 EndsAtLook beat closed d = (part : Part) → d.closed ≡ Some part → (look : Look) × (closed ≡ Some look) × EndsWell beat look (record_of part)
 
-module _ (p : Params) (epoch left : ℕ) (clients : List ℕ) (may : MayOpen (setup_of p) epoch left clients) (beat : BeatKind) where
+module _ (setup : Setup) (epoch left : ℕ) (clients : List ℕ) (may : MayOpen setup epoch left clients) (beat : BeatKind) where
   abbrev pub base : DeskState
-  base = new_desk (setup_of p) epoch left clients
+  base = new_desk setup epoch left clients
 
   module _ (h : List (Call × Reply)) (d : DeskState) (reached : Leads base h d) where
     module _ (look : Look) (batches : List Batch) (writes : List (ℕ × Option (List ℕ))) (told : EpochRecord ℕ) (new : DeskState) where
@@ -61,14 +60,14 @@ module _ (p : Params) (epoch left : ℕ) (clients : List ℕ) (may : MayOpen (se
 
         if_asked : AllAsked d.running → IsDueAt beat look told
         if_asked asked =
-            let stays : closing b.running ≡ b.running = asked_outlast_pads (setup_of p) epoch left clients h d may reached (rest_calls batches) b needs (of_batches batches) reads asked in
+            let stays : closing b.running ≡ b.running = asked_outlast_pads setup epoch left clients h d may reached (rest_calls batches) b needs (of_batches batches) reads asked in
             All-weaker NotEnded (λ (t : TxnRecord ℕ). t.outcome ≡ AbortedBy EpochEnd → (beat.passes look.waiting look.live look.queued look.left ≡ true) × (look.waiting < look.live)) (λ t no e. absurd (no e)) told.txns
             (subst (λ (r : EpochRecord ℕ). All NotEnded r.txns) (sym (told_is ∙ ap record_of stays))
-            (none_ended b.running.epoch 1 b.running.order.works b.running.holders (λ n. none_ended_yet (setup_of p) epoch left clients (h ++ rest_calls batches) b may reached_b (suc n))))
+            (none_ended b.running.epoch 1 b.running.order.works b.running.holders (λ n. none_ended_yet setup epoch left clients (h ++ rest_calls batches) b may reached_b (suc n))))
 
         fewer : (look.waiting ≡ look.live → ⊥) → look.waiting < look.live
         fewer other =
-            let few : (look_at d).waiting ≤ (look_at d).live = waiting_are_live (setup_of p) epoch left clients h d may reached in
+            let few : (look_at d).waiting ≤ (look_at d).live = waiting_are_live setup epoch left clients h d may reached in
             let here : look.waiting ≤ look.live = subst (λ (x : Look). x.waiting ≤ x.live) (sym same) few in
             below look.waiting look.live here other
           where
@@ -80,11 +79,11 @@ module _ (p : Params) (epoch left : ℕ) (clients : List ℕ) (may : MayOpen (se
                 by false is = let apart : m ≡ n → ⊥ = other in grind (arith, le, apart)
 
         by_act : MayAct beat look → IsDueAt beat look told
-        by_act (inl none) = if_asked (signed_off_have_asked (setup_of p) epoch left clients h d may reached (ap (λ (x : Look). x.clients) (sym same) ∙ none))
+        by_act (inl none) = if_asked (signed_off_have_asked setup epoch left clients h d may reached (ap (λ (x : Look). x.clients) (sym same) ∙ none))
         by_act (inr passed) = by (look.waiting == look.live) refl
           where
             by : (c : Bool) → (look.waiting == look.live) ≡ c → IsDueAt beat look told
-            by true is = if_asked (waiting_have_asked (setup_of p) epoch left clients h d may reached needs (subst (λ (x : Look). x.waiting ≡ x.live) same ((Decides-eqb look.waiting look.live).0 is)))
+            by true is = if_asked (waiting_have_asked setup epoch left clients h d may reached needs (subst (λ (x : Look). x.waiting ≡ x.live) same ((Decides-eqb look.waiting look.live).0 is)))
             by false is = every told.txns (passed, fewer (λ e. false≢true (sym is ∙ (Decides-eqb look.waiting look.live).1 e)))
               where
                 every : (txns : List (TxnRecord ℕ)) → (beat.passes look.waiting look.live look.queued look.left ≡ true) × (look.waiting < look.live)
@@ -93,8 +92,8 @@ module _ (p : Params) (epoch left : ℕ) (clients : List ℕ) (may : MayOpen (se
 
         counts : length told.txns ≡ look.txns
         counts =
-            let pads = pads_change_nothing (setup_of p) epoch left clients h d may reached (rest_calls batches) b needs (of_batches batches) reads in
-            let all : length (record_of (closing b.running)).txns ≡ length b.running.order.works = (close_loses_none b.running).told (each_has_holder (setup_of p) epoch left clients (h ++ rest_calls batches) b may reached_b) in
+            let pads = pads_change_nothing setup epoch left clients h d may reached (rest_calls batches) b needs (of_batches batches) reads in
+            let all : length (record_of (closing b.running)).txns ≡ length b.running.order.works = (close_loses_none b.running).told (each_has_holder setup epoch left clients (h ++ rest_calls batches) b may reached_b) in
             ap (λ (r : EpochRecord ℕ). length r.txns) told_is ∙ all ∙ ap (λ (x : DeskState). length x.running.order.works) pads ∙ ap (λ (x : Look). x.txns) (sym same)
 
         well : MayAct beat look → EndsWell beat look told

@@ -12,7 +12,7 @@ use Rattle.ob_outcomes.specs.Served.{IsServed, IsPatient, IsLonely, ClientsServe
 use Rattle.ob_outcomes.specs.Sums.{IsAdder, CountsUp, CountsAll}
 use Rattle.ob_outcomes.proofs.Counted.{lone_counts_up}
 
-pub served_counts : (Shape : List Act → Type 0) (IsMap : Map nat_cmp → Type 0) (beat : BeatKind) (p : Params) (epoch left client : ℕ) (script : Scripts) (told : List (EpochRecord ℕ)) (m last : Map nat_cmp) (s : IsServed Shape IsMap beat p epoch left script told)
+pub served_counts : (Shape : List Act → Type 0) (IsMap : Map nat_cmp → Type 0) (beat : BeatKind) (p : Params) (epoch left client : ℕ) (script : Scripts) (told : List (EpochRecord ℕ)) (m last : Map nat_cmp) (s : IsServed Shape IsMap beat (setup_of p) epoch left script told)
     → script.clients ≡ client ∷ [] → IsPatient beat → MayOpen (setup_of p) (suc epoch) left script.clients
     → Run m (new_desk (setup_of p) (suc epoch) left script.clients) (history s.evidence.acts) last s.evidence.desk
     → All IsAdder script.txns → All (λ t. t.client ≡ client) script.txns → All (AsksFew left p) script.txns → length script.txns < 2 ^ 62 → ((key : ℕ) → finite.get m key ≡ None)

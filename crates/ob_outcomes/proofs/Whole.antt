@@ -5,7 +5,6 @@ use Rattle.std.proofs.lemmas.Bool.Decides.{Decides-eqb}
 use Rattle.std.proofs.lemmas.List.{append-nil, append_assoc}
 use Rattle.std.proofs.lemmas.List.Elements.{All-head, All-tail, All-map}
 use Rattle.std.proofs.lemmas.Grind.{flat_map-append}
-use Rattle.ob_base.specs.declared.params.Params.{Params}
 use Rattle.ob_io.specs.Streams.{Flow}
 use Rattle.ob_store.specs.Lines.{Trace}
 use Rattle.ob_serial.specs.VaultKinds.{Kind}
@@ -17,7 +16,7 @@ use Rattle.ob_serial.specs.declared.records.Why.TheVariants.{Conflict, Depends, 
 use Rattle.ob_serial.specs.declared.vault.EndErr.{EndErr}
 use Rattle.ob_serial.specs.declared.vault.EndErr.TheVariants as refused
 use Rattle.ob_desk.specs.Desk as desk
-use Rattle.ob_desk.specs.Desk.{DeskState, MayOpen, Call, Reply, Run, new_desk, published, record_of, setup_of}
+use Rattle.ob_desk.specs.Desk.{DeskState, MayOpen, Call, Reply, Run, Setup, new_desk, published, record_of}
 use Rattle.ob_desk.specs.declared.calls.Look.{Look}
 use Rattle.ob_desk.specs.Beats.{BeatKind}
 use Rattle.ob_session.specs.Steps.{Leads}
@@ -138,9 +137,9 @@ keeps_script kind runs script us acts planned keeps = keeps_weaker (plan_rule ki
 
 module _ {V U : Type 0} (k : Kind V) (beat : BeatKind) (kind : RunnerKind U (List ScriptTxn))
     (means : RunsScripts kind)
-    (p : Params) (epoch left : ℕ) (script : Scripts) (sound : AreSound script) (may : MayOpen (setup_of p) (suc epoch) left script.clients) where
+    (setup : Setup) (epoch left : ℕ) (script : Scripts) (sound : AreSound script) (may : MayOpen setup (suc epoch) left script.clients) where
   abbrev base : DeskState
-  base = new_desk (setup_of p) (suc epoch) left script.clients
+  base = new_desk setup (suc epoch) left script.clients
 
   module _ (first : V) (trace : Trace) (before_runners : List U) (before : Flow) (end : RunState V U) (acts : List Act) (result : Result (Unit {0}) RunErr)
       (named : map kind.client before_runners ≡ script.clients) (planned : All (λ u. kind.plan u ≡ asks_by (kind.client u) script.txns) before_runners)
@@ -158,16 +157,16 @@ module _ {V U : Type 0} (k : Kind V) (beat : BeatKind) (kind : RunnerKind U (Lis
     clients_are = d.clients ∙ named
 
     only : (c : ℕ) → (Contains (map kind.client after_runners) c → ⊥) → said_by c (history acts) ≡ []
-    only c other = only_clients_call (setup_of p) (suc epoch) left script.clients (history acts) new c d.leads (subst (λ l. Contains l c → ⊥) clients_are other)
+    only c other = only_clients_call setup (suc epoch) left script.clients (history acts) new c d.leads (subst (λ l. Contains l c → ⊥) clients_are other)
 
     first_served : ClientsServed script (records acts)
     first_served c = clients_first kind.client kind.fits kind.plan means.means script.txns (history acts) after_runners runners only c (records acts)
-        (records_tell.first (setup_of p) (suc epoch) left script.clients (history acts) new c may d.leads)
+        (records_tell.first setup (suc epoch) left script.clients (history acts) new c may d.leads)
 
     well : AreWell beat None acts
-    well = all_well p (suc epoch) left script.clients may beat acts d.allowed new d.leads
+    well = all_well setup (suc epoch) left script.clients may beat acts d.allowed new d.leads
 
-    pub is_served : (Shape : List Act → Type 0) (IsMap : Map nat_cmp → Type 0) → Shape acts → ((m : Map nat_cmp) → IsMap m → Run m base (history acts) (contents m (records acts)) new) → IsServed Shape IsMap beat p epoch left script (records acts)
+    pub is_served : (Shape : List Act → Type 0) (IsMap : Map nat_cmp → Type 0) → Shape acts → ((m : Map nat_cmp) → IsMap m → Run m base (history acts) (contents m (records acts)) new) → IsServed Shape IsMap beat setup epoch left script (records acts)
     is_served Shape IsMap rounds fed = record {
       evidence = record {
         acts = acts;
@@ -180,13 +179,13 @@ module _ {V U : Type 0} (k : Kind V) (beat : BeatKind) (kind : RunnerKind U (Lis
       };
       told_are = refl;
       first = first_served;
-      shown = outcomes_are_shown (setup_of p) (suc epoch) left script.clients (history acts) new may d.leads;
+      shown = outcomes_are_shown setup (suc epoch) left script.clients (history acts) new may d.leads;
       due = due_of beat None acts well;
-      numbered = records_are_numbered (setup_of p) (suc epoch) left script.clients (history acts) new may d.leads;
+      numbered = records_are_numbered setup (suc epoch) left script.clients (history acts) new may d.leads;
       some = records_tell_all beat (λ (r : EpochRecord ℕ). 0 < length r.txns) (λ look told w. w.some) None base acts new d.allowed well d.leads;
       alone = λ c one patient. both_lonely (records acts)
-          (one_client (setup_of p) (suc epoch) left c (history acts) new (subst (MayOpen (setup_of p) (suc epoch) left) one may)
-          (subst (λ l. Leads (new_desk (setup_of p) (suc epoch) left l) (history acts) new) one d.leads))
+          (one_client setup (suc epoch) left c (history acts) new (subst (MayOpen setup (suc epoch) left) one may)
+          (subst (λ l. Leads (new_desk setup (suc epoch) left l) (history acts) new) one d.leads))
           (records_tell_all beat NotEndedIn (patient_told beat patient) None base acts new d.allowed well d.leads);
     }
 
@@ -206,11 +205,11 @@ module _ {V U : Type 0} (k : Kind V) (beat : BeatKind) (kind : RunnerKind U (Lis
         (λ n. not_refused n base (history acts) new d.leads over.at_rest.not_stopped)
         (λ n other. named_none script.clients script.txns n sound.owned (subst (λ l. Contains l n → ⊥) clients_are other))
         c (records acts)
-        (records_tell.all (setup_of p) (suc epoch) left script.clients (history acts) new c may d.leads over.at_rest)
+        (records_tell.all setup (suc epoch) left script.clients (history acts) new c may d.leads over.at_rest)
       where
         signed_off : (n : ℕ) → Contains (map kind.client after_runners) n → has_signed_off (said_by n (history acts)) ≡ true
         signed_off n among =
-            let a = calls_agree (setup_of p) (suc epoch) left script.clients (history acts) new n may d.leads (subst (λ l. Contains l n) clients_are among) in
+            let a = calls_agree setup (suc epoch) left script.clients (history acts) new n may d.leads (subst (λ l. Contains l n) clients_are among) in
             sym a.signed_off ∙ all_signed_off new.clients n a.client over.signed_off a.found
 
     -- where an epoch's end was refused, or left in doubt, also with the record of that epoch
@@ -234,7 +233,7 @@ module _ {V U : Type 0} (k : Kind V) (beat : BeatKind) (kind : RunnerKind U (Lis
           let (closed, before, (mid, may_call, made, is_mid)) = leads_split base (history front) halt halted led in
           subst (λ l. AreToldOn (told_of l) (told_of (said_by c (history acts)))) (said_same c)
           (subst (λ l. AreToldOn (told_of (said_by c (history front ++ halt))) (told_of (said_by c l))) (append_assoc (history front) halt (history behind) ∙ sym history_is)
-          (told_on (setup_of p) (suc epoch) left script.clients may c among (history front ++ halt) (history behind) halted new led after (anyones behind says) (subst IsStill (sym is_mid) (refused_still refusal closed mid made))))
+          (told_on setup (suc epoch) left script.clients may c among (history front ++ halt) (history behind) halted new led after (anyones behind says) (subst IsStill (sym is_mid) (refused_still refusal closed mid made))))
 
       on : (c : ℕ) → AreToldOn (told_of (said_by c (history front))) (told_of (said_by c (history acts)))
       on c = by (is_among script.clients c)
@@ -242,10 +241,10 @@ module _ {V U : Type 0} (k : Kind V) (beat : BeatKind) (kind : RunnerKind U (Lis
           by : Contains script.clients c ⊎ NoneIs c script.clients → AreToldOn (told_of (said_by c (history front))) (told_of (said_by c (history acts)))
           by (inl among) = still c among
           by (inr none) = subst (λ l. AreToldOn (told_of l) (told_of (said_by c (history acts))))
-              (sym (only_clients_call (setup_of p) (suc epoch) left script.clients (history front) r.mid.desk c r.moves.leads (none_is c script.clients none))) tt
+              (sym (only_clients_call setup (suc epoch) left script.clients (history front) r.mid.desk c r.moves.leads (none_is c script.clients none))) tt
 
       pub next_served : ClientsServed script (records acts ++ record_of r.closed ∷ [])
       next_served c = served_later c (asks_by c script.txns) (txns_by c (records acts ++ record_of r.closed ∷ [])) (told_of (said_by c (history front))) (told_of (said_by c (history acts)))
           (subst (λ l. TellFirst c (txns_by c (l ++ record_of r.closed ∷ [])) (told_of (said_by c (history front)))) (sym told_same)
-          (records_tell.closed (setup_of p) (suc epoch) left script.clients (history front) r.mid.desk r.closed c may r.moves.leads r.is_closed))
+          (records_tell.closed setup (suc epoch) left script.clients (history front) r.mid.desk r.closed c may r.moves.leads r.is_closed))
           (on c) (meant kind.client kind.fits kind.plan means.means script.txns (history acts) after_runners runners only c)

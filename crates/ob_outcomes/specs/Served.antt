@@ -1,13 +1,12 @@
 -- What the records of a run tell of the scripts that were run.
 use Rattle.std.specs.Prelude.{ℕ, suc, ◌≡◌, ◌⊎◌, ◌<◌, true, All, List, [], ◌∷◌, length, Option, Some, None}
 use Rattle.std.specs.Ordering.{nat_cmp}
-use Rattle.ob_base.specs.declared.params.Params.{Params}
 use Rattle.ob_base.specs.declared.op.Op.{Op}
 use Rattle.ob_serial.specs.declared.records.Outcome.{Outcome}
 use Rattle.ob_serial.specs.declared.records.Outcome.TheVariants.{Committed, Aborted, Unsure}
 use Rattle.ob_serial.specs.declared.records.Why.TheVariants.{ReadsFull, WritesFull, ShareReads, ShareWrites, EpochEnd, Asked}
 use Rattle.ob_serial.specs.Serial.{EpochRecord, Map, TxnRecord}
-use Rattle.ob_desk.specs.Desk.{DeskState, Run, new_desk, setup_of}
+use Rattle.ob_desk.specs.Desk.{DeskState, Setup, Run, new_desk}
 use Rattle.ob_desk.specs.declared.calls.Look.{Look}
 use Rattle.ob_desk.specs.Beats.{BeatKind}
 use Rattle.ob_session.specs.Steps.{Leads}
@@ -79,9 +78,9 @@ IsLonely _ = ⊥
 abbrev pub script_rule : Scripts → TurnRule
 script_rule script client said steps = IsScriptTurn (asks_by client script.txns) client said steps
 
--- How the script was run, whatever the vault: from a new desk on, whose first epoch is the one behind this, with so many batches left; the
+-- How the script was run, whatever the vault: from a new desk on, made with this setup, whose first epoch is the one behind this, with so many batches left; the
 -- acts have this shape.
-pub record Evidence (Shape : List Act → Type 0) (IsMap : Map nat_cmp → Type 0) (beat : BeatKind) (p : Params) (epoch left : ℕ) (script : Scripts) : Type 0 where
+pub record Evidence (Shape : List Act → Type 0) (IsMap : Map nat_cmp → Type 0) (beat : BeatKind) (setup : Setup) (epoch left : ℕ) (script : Scripts) : Type 0 where
   -- what was done, in order: calls of the desk, each of them allowed where it is made
   pub acts : List Act
   pub allowed : All (IsAllowed beat) acts
@@ -89,18 +88,18 @@ pub record Evidence (Shape : List Act → Type 0) (IsMap : Map nat_cmp → Type 
   pub turns : KeepRule (script_rule script) [] acts
   pub rounds : Shape acts
   pub desk : DeskState
-  pub leads : Leads (new_desk (setup_of p) (suc epoch) left script.clients) (history acts) desk
+  pub leads : Leads (new_desk setup (suc epoch) left script.clients) (history acts) desk
   -- What batches delivered is the map's, of each such map, so the acts are a run from it.
-  pub fed : (m : Map nat_cmp) → IsMap m → Run m (new_desk (setup_of p) (suc epoch) left script.clients) (history acts) (contents m (records acts)) desk
+  pub fed : (m : Map nat_cmp) → IsMap m → Run m (new_desk setup (suc epoch) left script.clients) (history acts) (contents m (records acts)) desk
 
 -- A run of a script, of whose acts the records are told.
-pub record IsServed (Shape : List Act → Type 0) (IsMap : Map nat_cmp → Type 0) (beat : BeatKind) (p : Params) (epoch left : ℕ) (script : Scripts) (told : List (EpochRecord ℕ)) : Type 0 where
-  pub evidence : Evidence Shape IsMap beat p epoch left script
+pub record IsServed (Shape : List Act → Type 0) (IsMap : Map nat_cmp → Type 0) (beat : BeatKind) (setup : Setup) (epoch left : ℕ) (script : Scripts) (told : List (EpochRecord ℕ)) : Type 0 where
+  pub evidence : Evidence Shape IsMap beat setup epoch left script
   pub told_are : told ≡ records evidence.acts
   -- Each client's transactions are a front of its script's, in order, each once, with the operations that it means.
   pub first : ClientsServed script told
   -- How each transaction ended is shown by its record; and for the end of its epoch one is aborted only where the beat was due.
-  pub shown : All (λ r. All (λ t. IsOutcome (setup_of p) r t t.outcome) r.txns) told
+  pub shown : All (λ r. All (λ t. IsOutcome setup r t t.outcome) r.txns) told
   pub due : AreDue beat None evidence.acts
   -- epochs and tickets are numbered one by one, and each epoch has a transaction
   pub numbered : AreNumbered (suc epoch) told

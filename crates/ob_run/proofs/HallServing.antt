@@ -6,7 +6,8 @@ use Rattle.ob_conduct.specs.declared.run_err.RunErr.{RunErr}
 use Rattle.ob_base.specs.declared.params.Params.{Params}
 use Rattle.ob_serial.specs.Vaults.{VaultCounts}
 use Rattle.ob_serial.specs.VaultKinds.{Kind}
-use Rattle.ob_desk.specs.Desk.{DeskState, MayOpen, new_desk, setup_of}
+use Rattle.ob_shares.specs.declared.shares.Shares.{Shares}
+use Rattle.ob_desk.specs.Desk.{DeskState, MayOpen, new_desk, setup_with}
 use Rattle.ob_desk.specs.Beats.{BeatKind}
 use Rattle.ob_hall.specs.Passes.{Steps, Hall, Pass, opening_of, IsPassOf, IsOutOfTurn}
 use Rattle.ob_hall.specs.Opening.{AreClients, ArePasses}
@@ -28,8 +29,8 @@ use Rattle.ob_run.proofs.Opening.{first_pass, are_clients, are_ready, as_many, d
 use Rattle.ob_run.proofs.Seats.{seated, still_clients, still_ready}
 use Rattle.ob_run.proofs.Whole.{served}
 
-module _ {V U Plan : Type 0} (k : Kind V) (beat : BeatKind) (client bound : U → ℕ) (plan : U → Plan) (fits : U → Steps → Type 0) (turn : Plan → StepRule) (p : Params) (hall : Hall) (c : VaultCounts) (runners : List U) (others : List Pass) (cs : List (Pass × U))
-    (old : Side V) (opening : opening_of hall ≡ new_desk (setup_of p) (suc c.epoch) c.left (map client runners)) (serves : c.spent ≡ false) (passes : ArePasses hall (map client runners) (old.pass ∷ others))
+module _ {V U Plan : Type 0} (k : Kind V) (beat : BeatKind) (client bound : U → ℕ) (plan : U → Plan) (fits : U → Steps → Type 0) (turn : Plan → StepRule) (p : Params) (hall : Hall) (shares : Shares) (c : VaultCounts) (runners : List U) (others : List Pass) (cs : List (Pass × U))
+    (old : Side V) (opening : opening_of hall ≡ new_desk (setup_with p shares) (suc c.epoch) c.left (map client runners)) (serves : c.spent ≡ false) (passes : ArePasses hall (map client runners) (old.pass ∷ others))
     (runners_are : map (λ (x : Pass × U). x.1) cs ≡ runners) (passes_are : map (λ (x : Pass × U). x.0) cs ≡ others) (below : All (λ u. bound u ≤ p.keys) runners) (none_made : All (λ u. fits u []) runners) (starts : ℕ) where
   abbrev w : Words U Plan
   w = words client bound plan fits turn
@@ -47,7 +48,7 @@ module _ {V U Plan : Type 0} (k : Kind V) (beat : BeatKind) (client bound : U �
   numbers = map client runners
 
   pub drivers : IsFirstPass hall old.pass p c
-  drivers = first_pass hall numbers old.pass others passes p c opening serves
+  drivers = first_pass hall numbers old.pass others passes p shares c opening serves
 
   pub clients : All (IsClient w hall) cs
   clients = seated client bound plan fits turn hall p.keys 0 cs (ap (λ (d : DeskState). d.setup.params.keys) opening)
@@ -69,10 +70,10 @@ module _ {V U Plan : Type 0} (k : Kind V) (beat : BeatKind) (client bound : U �
       },
     )
 
-    pub in_threads : (back : List U) (d : DeskState) → back ≡ runners_of ns → IsWholeHistory hall (new.pass ∷ passes_of ns) d → MayOpen (setup_of p) (suc c.epoch) c.left numbers → HistoriesWeave k → AreOwnCalls → IsQuiet turn → OverRunsEndOver k → FailedRunsFail k
+    pub in_threads : (back : List U) (d : DeskState) → back ≡ runners_of ns → IsWholeHistory hall (new.pass ∷ passes_of ns) d → MayOpen (setup_with p shares) (suc c.epoch) c.left numbers → HistoriesWeave k → AreOwnCalls → IsQuiet turn → OverRunsEndOver k → FailedRunsFail k
         → IdleHallsHaveNone → InThreads starts k kind beat (run_state (scene (opening_of hall) old.vault old.trace) runners old.output) (run_state (scene d new.vault new.trace) back new.output) result
     in_threads back d back_is whole opens weave own_calls quiet over fails idle =
         subst (λ (us : List U). InThreads starts k kind beat (run_state (scene (opening_of hall) old.vault old.trace) us old.output) (run_state (scene d new.vault new.trace) back new.output) result) runners_are
         (subst (λ (us : List U). InThreads starts k kind beat (run_state (scene (opening_of hall) old.vault old.trace) (runners_of cs) old.output) (run_state (scene d new.vault new.trace) us new.output) result) (sym back_is)
-        (served k beat client bound plan fits turn p hall c numbers opening opens weave own_calls old new cs ns d starts next result drivers (subst (λ (ps : List Pass). ArePasses hall numbers (old.pass ∷ ps)) (sym passes_are) passes) clients each
+        (served k beat client bound plan fits turn p hall shares c numbers opening opens weave own_calls old new cs ns d starts next result drivers (subst (λ (ps : List Pass). ArePasses hall numbers (old.pass ∷ ps)) (sym passes_are) passes) clients each
         whole (subst (All (λ u. fits u [])) (sym runners_are) none_made) quiet over fails idle ends))

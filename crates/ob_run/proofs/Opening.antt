@@ -4,7 +4,8 @@ use Rattle.ob_base.specs.declared.params.Params.{Params}
 use Rattle.ob_conduct.specs.declared.run_err.RunErr.{RunErr}
 use Rattle.ob_serial.specs.Vaults.{VaultCounts}
 use Rattle.ob_serial.specs.VaultKinds.{Kind}
-use Rattle.ob_desk.specs.Desk.{new_desk, setup_of}
+use Rattle.ob_shares.specs.declared.shares.Shares.{Shares}
+use Rattle.ob_desk.specs.Desk.{new_desk, setup_with}
 use Rattle.ob_desk.specs.Beats.{BeatKind}
 use Rattle.ob_hall.specs.Passes.{Hall, Pass, opening_of, may_raise, IsPassOf, IsOutOfTurn}
 use Rattle.ob_hall.specs.Opening.{IsFreshPass, AreClients, ArePasses}
@@ -33,10 +34,11 @@ module _ (hall : Hall) (numbers : List ℕ) (driver : Pass) (others : List Pass)
   same_others : others ≡ passes.others
   same_others = rest_is driver passes.driver others passes.others passes.are
 
-  pub first_pass : (p : Params) (c : VaultCounts) → opening_of hall ≡ new_desk (setup_of p) (suc c.epoch) c.left numbers → c.spent ≡ false → IsFirstPass hall driver p c
-  first_pass p c opening serves = record {
+  pub first_pass : (p : Params) (shares : Shares) (c : VaultCounts) → opening_of hall ≡ new_desk (setup_with p shares) (suc c.epoch) c.left numbers → c.spent ≡ false → IsFirstPass hall driver p c
+  first_pass p shares c opening serves = record {
     fresh = subst (IsFreshPass hall 0) (sym same_driver) passes.first;
     raises = ap may_raise same_driver ∙ passes.raises;
+    shares = shares;
     clients = numbers;
     opening = opening;
     serves = serves;

@@ -9,7 +9,8 @@ use Rattle.ob_report.specs.Report.{report}
 use Rattle.ob_serial.specs.Serial.{EpochRecord}
 use Rattle.ob_serial.specs.Vaults.{VaultCall, VaultAnswer, VaultCounts}
 use Rattle.ob_serial.specs.VaultKinds.{Kind, ended_of}
-use Rattle.ob_desk.specs.Desk.{DeskState, MayOpen, new_desk, setup_of}
+use Rattle.ob_shares.specs.declared.shares.Shares.{Shares}
+use Rattle.ob_desk.specs.Desk.{DeskState, MayOpen, new_desk, setup_with}
 use Rattle.ob_desk.specs.Beats.{BeatKind}
 use Rattle.ob_session.specs.Clients.{said_by, stands_after}
 use Rattle.ob_session.specs.declared.runner.Step.TheVariants.{Done}
@@ -77,7 +78,7 @@ module _ {V U Plan : Type 0} (k : Kind V) (beat : BeatKind) (client bound : U �
   abbrev kind : RunnerKind U Plan
   kind = runner_kind client bound plan fits turn
 
-  module _ (hall : Hall) (c : VaultCounts) (numbers : List ℕ) (opening : opening_of hall ≡ new_desk (setup_of p) (suc c.epoch) c.left numbers) (opens : MayOpen (setup_of p) (suc c.epoch) c.left numbers)
+  module _ (hall : Hall) (shares : Shares) (c : VaultCounts) (numbers : List ℕ) (opening : opening_of hall ≡ new_desk (setup_with p shares) (suc c.epoch) c.left numbers) (opens : MayOpen (setup_with p shares) (suc c.epoch) c.left numbers)
       (weave : HistoriesWeave k) (own_calls : AreOwnCalls) where
     abbrev w : Words U Plan
     w = words client bound plan fits turn
@@ -89,7 +90,7 @@ module _ {V U Plan : Type 0} (k : Kind V) (beat : BeatKind) (client bound : U �
     runners_of cs = map (λ (x : Pass × U). x.1) cs
 
     new_opening : IsNew (opening_of hall)
-    new_opening = record { setup = setup_of p; epoch = suc c.epoch; left = c.left; clients = numbers; opens = opens; is = opening }
+    new_opening = record { setup = setup_with p shares; epoch = suc c.epoch; left = c.left; clients = numbers; opens = opens; is = opening }
 
     numbers_are : client_numbers (opening_of hall) ≡ numbers
     numbers_are = ap client_numbers opening ∙ new_numbers numbers
@@ -175,7 +176,7 @@ module _ {V U Plan : Type 0} (k : Kind V) (beat : BeatKind) (client bound : U �
             → RunEnds k begin end woven.acts result → InThreads starts k kind beat begin end result
         run_is next result back told printed ends = (
           woven.acts,
-          finish k kind p beat begin (setup_of p) (suc c.epoch) c.left numbers opening woven.acts end next result woven.allowed moves
+          finish k kind p beat begin (setup_with p shares) (suc c.epoch) c.left numbers opening woven.acts end next result woven.allowed moves
               (subst (λ n. TellsEpochs n next (ended_of (calls woven.acts)) (records woven.acts)) (sym (ap (λ (x : DeskState). x.running.epoch) opening))
               (subst (λ (asked : List (VaultCall × VaultAnswer)). TellsEpochs (suc c.epoch) next (ended_of asked) (records woven.acts)) (sym woven.calls_are)
               (subst (λ (rs : List (EpochRecord ℕ)). TellsEpochs (suc c.epoch) next (ended_of (calls acts)) rs) (sym woven.records_are) told)))
@@ -209,7 +210,7 @@ module _ {V U Plan : Type 0} (k : Kind V) (beat : BeatKind) (client bound : U �
         let begin = run_state (scene (opening_of hall) old.vault old.trace) (runners_of cs) old.output in
         subst (λ (f : RunErr). InThreads starts k kind beat begin (run_state (scene d new.vault new.trace) (runners_of cs) new.output) (Err f)) (sym fault_is)
         (subst (λ (s : Side V). InThreads starts k kind beat begin (run_state (scene d s.vault s.trace) (runners_of cs) s.output) (Err (failed.Fault Memory))) (sym same)
-        (subst (λ (x : DeskState). InThreads starts k kind beat begin (run_state (scene x old.vault old.trace) (runners_of cs) old.output) (Err (failed.Fault Memory))) (sym desk_is) (idle k kind p beat begin (setup_of p) (suc c.epoch) c.left numbers opening starts none)))
+        (subst (λ (x : DeskState). InThreads starts k kind beat begin (run_state (scene x old.vault old.trace) (runners_of cs) old.output) (Err (failed.Fault Memory))) (sym desk_is) (idle k kind p beat begin (setup_with p shares) (suc c.epoch) c.left numbers opening starts none)))
 
     -- where it was served
     pub served : (old new : Side V) (cs ns : List (Pass × U)) (d : DeskState) (starts : ℕ) (next : VaultCounts) (result : Result (Unit {0}) RunErr) → IsFirstPass hall old.pass p c → ArePasses hall numbers (old.pass ∷ passes_of cs) → All (IsClient w hall) cs

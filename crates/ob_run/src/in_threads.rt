@@ -3,7 +3,7 @@
 ghost use Rattle.std.specs.Prelude.{◌≡◌, ◌≤◌, ◌+◌, ℕ, suc, All, length, map, [], ◌∷◌, false, vec_capacity, IfOk};
 ghost use Rattle.ob_io.specs.Streams.{outflow};
 ghost use Rattle.ob_serial.specs.VaultKinds.{kind_of};
-ghost use Rattle.ob_desk.specs.Desk.{DeskState, Setup, MayOpen, new_desk, setup_of};
+ghost use Rattle.ob_desk.specs.Desk.{DeskState, Setup, MayOpen, new_desk, setup_with};
 ghost use Rattle.ob_desk.specs.Beats.{beat_kind};
 ghost use Rattle.ob_hall.specs.Passes.{opening_of, IsPassOf, IsOutOfTurn};
 ghost use Rattle.ob_hall.specs.Opening.{ArePasses};
@@ -106,9 +106,9 @@ fn serve_hall<U: Runner + Send, R: Threads + Wait + Sync, V: Vault, W: Watch, B:
     requires serves { (V.counts vault.old).spent ≡ false }
     requires whole { (W.trace watch.old).broken ≡ false }
     requires fresh { opening_of opened.hall
-        ≡ new_desk (setup_of params.now) (suc (V.counts vault.old).epoch)
+        ≡ new_desk (setup_with params.now (opening_of opened.hall).setup.shares) (suc (V.counts vault.old).epoch)
         (V.counts vault.old).left (map U.client runners.old.items) }
-    requires opens { MayOpen (setup_of params.now) (suc (V.counts vault.old).epoch)
+    requires opens { MayOpen (setup_with params.now (opening_of opened.hall).setup.shares) (suc (V.counts vault.old).epoch)
         (V.counts vault.old).left (map U.client runners.old.items) }
     requires passes { ArePasses opened.hall (map U.client runners.old.items)
         (opened.driver ∷ opened.passes.items) }
@@ -181,9 +181,9 @@ pub fn run_in_threads<
     requires whole { (W.trace watch.old).broken ≡ false }
     requires clients { clients.now ≡ map U.client runners.old.items }
     requires fresh { desk
-        ≡ new_desk (setup_of params.now) (suc (V.counts vault.old).epoch)
+        ≡ new_desk (setup_with params.now desk.setup.shares) (suc (V.counts vault.old).epoch)
         (V.counts vault.old).left (map U.client runners.old.items) }
-    requires opens { MayOpen (setup_of params.now) (suc (V.counts vault.old).epoch)
+    requires opens { MayOpen (setup_with params.now desk.setup.shares) (suc (V.counts vault.old).epoch)
         (V.counts vault.old).left (map U.client runners.old.items) }
     requires below { All (λ u. U.bound u ≤ params.now.keys) runners.old.items }
     requires none_made { All (λ u. U.fits u []) runners.old.items }

@@ -3,6 +3,7 @@ use Rattle.std.proofs.Common.{◌≡◌, ◌∙◌, ◌≤◌, ℕ, suc, Bool, f
 use Rattle.std.proofs.lemmas.List.Elements.{All-nil, All-cons, All-same, All-weaker}
 use Rattle.ob_base.specs.declared.params.Params.{Params}
 use Rattle.ob_serial.specs.Vaults.{VaultCounts}
+use Rattle.ob_shares.specs.Shares.{no_shares}
 use Rattle.ob_desk.specs.Desk.{DeskState, new_desk, setup_of}
 use Rattle.ob_session.specs.Clients.{has_signed_off}
 use Rattle.ob_hall.specs.Passes.{Steps, Hall, Pass, opening_of, may_raise}
@@ -31,6 +32,7 @@ module _ (hall : Hall) (p : Params) (c : VaultCounts) (all : List Pass) (passes 
   driver_first driver taken = let is : driver ≡ passes.driver = taken ∙ ap (λ (ps : List Pass). slice_index_or ps 0 driver) passes.are in record {
     fresh = subst (λ (q : Pass). IsFreshPass hall 0 q) (sym is) passes.first;
     raises = ap may_raise is ∙ passes.raises;
+    shares = no_shares;
     clients = two_clients;
     opening = opening;
     serves = can.serves;

@@ -33,6 +33,7 @@ use Rattle.ob_store.specs.Images.{IsSynced}
 use Rattle.ob_store.specs.Lines.{Shows, Trace}
 use Rattle.ob_store.specs.Told.{TellsFirst}
 use Rattle.ob_store.specs.declared.watch.Note.TheVariants as note
+use Rattle.ob_shares.specs.declared.shares.Shares.{Shares}
 use Rattle.ob_conduct.specs.declared.run_err.RunErr.{RunErr}
 use Rattle.ob_conduct.specs.declared.run_err.RunErr.TheVariants as failed
 use Rattle.ob_top.specs.Outside.{Given, IsWatched, words_given}
@@ -49,13 +50,13 @@ use Rattle.ob_top.proofs.Running.{IsQuiet}
 use Rattle.ob_top.specs.Begun.{IsBegun, MayServe}
 use Rattle.ob_top.specs.Formats.{FormatEnds, IsFormatted}
 use Rattle.ob_top.specs.Runs.{BreaksAtHead, BreaksAtOpening, EndsEarly}
-use Rattle.ob_top.specs.Parts.{CameIn}
+use Rattle.ob_top.specs.Parts.{CameIn, SharesFit}
 
 -- the watch was found broken
-pub broke_early : {S : Type 0} (disk : S → Disk) (keys : Keys) (most : ℕ) (old new : Disk) (t u : Trace) (before after : Flow) (err : RunErr) → IsWatched u (Some err)
-    → (u.broken ≡ true → BreaksAtHead ring_kind ring_lives keys most old new t u before after ⊎ BreaksAtOpening ring_kind ring_lives keys most old new t u disk before) → EndsEarly ring_kind ring_lives keys most old new t u disk before after err
-broke_early disk keys most old new t u before after (failed.Fault refused) is so = absurd is
-broke_early disk keys most old new t u before after failed.Unwatched is so = so is
+pub broke_early : {S : Type 0} (disk : S → Disk) (keys : Keys) (most : ℕ) (shares : Shares) (old new : Disk) (t u : Trace) (before after : Flow) (err : RunErr) → IsWatched u (Some err)
+    → (u.broken ≡ true → BreaksAtHead ring_kind ring_lives keys most shares old new t u before after ⊎ BreaksAtOpening ring_kind ring_lives keys most shares old new t u disk before) → EndsEarly ring_kind ring_lives keys most shares old new t u disk before after err
+broke_early disk keys most shares old new t u before after (failed.Fault refused) is so = absurd is
+broke_early disk keys most shares old new t u before after failed.Unwatched is so = so is
 
 -- a refused opening has shown some notes
 abbrev SomeShown : Trace → Trace → Type 0
@@ -107,14 +108,14 @@ module _ {S : Type 0} (disk : S → Disk) (keys : Keys) (most : ℕ) (some : 1 �
       }
 
   -- it was refused
-  pub unopened : {T L : Type 0} (o : Result (Opening L) Fault) (tape_old tape_new : T) (present : ℕ) (drawn : List ℕ) (first shown later : Trace) (refused : Fault) (after : Flow) → Shows (note.Read 0 ∷ []) first shown → shown.broken ≡ false →
+  pub unopened : {T L : Type 0} (shares : Shares) (fits : SharesFit p script shares) (o : Result (Opening L) Fault) (tape_old tape_new : T) (present : ℕ) (drawn : List ℕ) (first shown later : Trace) (refused : Fault) (after : Flow) → Shows (note.Read 0 ∷ []) first shown → shown.broken ≡ false →
       ((c : Image) → (disk old).left_since (disk old).moment c → (disk old).may_leave c)
       → (disk old).faults ≤ (disk mid).faults → IsOpenFault refused → (IsStoreFault refused → Rose (disk mid).faults (disk new).faults) → RefusedDoes keys most p (disk mid) (disk new) shown later refused
       → ((disk mid).tells → IsOpenRefusal keys p (disk mid).cells refused) → ((s : RingStanding) → (disk mid).tells → stand.Stands keys p s (disk mid).cells → IsStandingRefusal s refused)
       → RefusedWrites disk keys p mid new tape_old tape_new present drawn refused → OpeningLeaves {L = L} disk keys p mid new (Err refused)
-      → ((word_of : WordId → ℕ) (s : LifeState) (pending : Option LifeAct) → (disk mid).tells → IsLeftAt keys p word_of s pending (disk mid).cells → OpensInLife keys most p word_of s pending (disk mid) (disk new) shown later false) → EndsEarly ring_kind ring_lives keys most (disk old)
+      → ((word_of : WordId → ℕ) (s : LifeState) (pending : Option LifeAct) → (disk mid).tells → IsLeftAt keys p word_of s pending (disk mid).cells → OpensInLife keys most p word_of s pending (disk mid) (disk new) shown later false) → EndsEarly ring_kind ring_lives keys most shares (disk old)
       (disk new) first later disk before after (failed.Fault refused)
-  unopened {T} {L} o tape_old tape_new present drawn first shown later refused after head_shown whole only further kind cause does refusal stood writes leaves acts =
+  unopened {T} {L} shares fits o tape_old tape_new present drawn first shown later refused after head_shown whole only further kind cause does refusal stood writes leaves acts =
       let so = ring_refuses T disk keys most p old mid new tape_old tape_new present drawn shown later refused some read kind does refusal stood writes in
       let either = opens_or_not disk keys p old mid new read.passes read.keeps leaves in
       inr (inr (record {
@@ -122,6 +123,7 @@ module _ {S : Type 0} (disk : S → Disk) (keys : Keys) (most : ℕ) (some : 1 �
         head = head;
         script = script;
         came = came;
+        fits = fits;
         kind = kind;
         read = so.refuses;
         cause = λ is. rose_later (disk old).faults (disk mid).faults (disk new).faults further (cause is);

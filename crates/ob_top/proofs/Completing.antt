@@ -26,8 +26,8 @@ use Rattle.ob_script.proofs.OneReading.{not_both}
 use Rattle.ob_outcomes.proofs.Counting.{few_txns, few_epochs}
 use Rattle.ob_base.specs.declared.fault.Field.{Field}
 use Rattle.ob_base.specs.declared.fault.Field.TheVariants.{LANES}
-use Rattle.ob_words.specs.Reading.{asked_by, format_asked, run_asked}
-use Rattle.ob_words.specs.Work.{AreParams, IsBadNumber, AreLanes, AreBadLanes, HasKeys, IsKeysRefused}
+use Rattle.ob_words.specs.Reading.{AskedShares, asked_by, format_asked, run_asked}
+use Rattle.ob_words.specs.Work.{AreParams, IsBadNumber, AreLanes, AreBadLanes, AreShares, HasKeys, IsKeysRefused}
 use Rattle.ob_top.specs.Outside.{ErrTold, Given, blind, HasTrace, Outside, IsOnlyTold, outside}
 use Rattle.ob_top.specs.Formats.{FormatEnds, FormatDone}
 use Rattle.ob_vault.specs.RingKind.{RingMayStop, ring_kind}
@@ -37,13 +37,15 @@ use Rattle.ob_vault.specs.Kinds.{StoreKind}
 use Rattle.ob_vault.specs.KindLives.{LifeWords}
 use Rattle.ob_vault.specs.Shapes.{Shape, refused, shapes}
 use Rattle.ob_conduct.specs.Acts.{calls}
+use Rattle.ob_shares.specs.declared.shares.Shares.{Shares}
 use Rattle.ob_desk.specs.Beats.{BeatKind}
-use Rattle.ob_top.specs.Runs.{IsInputRefused, EndsEarly, EndsFor, Ran, Went, RunDone}
-use Rattle.ob_top.specs.Parts.{Manner, manner, CameIn}
+use Rattle.ob_top.specs.Runs.{AreSharesRefused, IsInputRefused, EndsEarly, EndsFor, Ran, Went, RunDone}
+use Rattle.ob_top.specs.Parts.{Manner, manner, CameIn, IsShareRefused}
 use Rattle.ob_top.specs.Complete.{CanFormat, CanRun, DoesWhatItCan, StopsFull, TraceHolds}
 use Rattle.ob_vault.proofs.Standing.{ring_keeps}
 use Rattle.ob_top.proofs.Counted.{one_lanes, one_script}
-use Rattle.ob_words.proofs.Named.{no_bad_number, no_bad_lanes, one_keys, keys_stand}
+use Rattle.ob_top.proofs.Opens.{none_refused}
+use Rattle.ob_words.proofs.Named.{no_bad_number, no_bad_lanes, one_shares, one_keys, keys_stand}
 
 -- ---- format
 
@@ -97,6 +99,13 @@ module _ (store : StoreKind) (laws : AreStandingLaws store) (life : LifeWords st
   input_told n (fault.Worn number) same refused = absurd refused
   input_told n fault.SinkFault same refused = absurd refused
 
+  -- none of its shares is refused
+  either_told : (q : Params) (f : Fault) → q ≡ can.p → IsInputRefused q.keys before.input after.input f ⊎ AreSharesRefused q can.shares before.input f → status_of (Some f) ≡ 9
+  either_told q f same (inl refused) = input_told q.keys f (ap (λ (x : Params). x.keys) same) refused
+  either_told q f same (inr (field, is, found, came, refused)) =
+      let here = came_one q.keys found (ap (λ (x : Params). x.keys) same) came in
+      absurd (none_refused can.p script can.shares field can.fits (subst (λ (s : Scripts). IsShareRefused can.p s can.shares field) here (subst (λ (x : Params). IsShareRefused x found can.shares field) same refused)))
+
   -- what stands has one head
   one_p : (q : Params) → ((disk old).tells → store.is_head can.keys q ((disk old).cells 0)) → q ≡ can.p
   one_p q head = laws.one_head can.keys q can.p ((disk old).cells 0) (head can.tells) (laws.has_head can.keys can.p can.generation (disk old).cells can.at can.stands)
@@ -108,13 +117,13 @@ module _ (store : StoreKind) (laws : AreStandingLaws store) (life : LifeWords st
   by_memory f (inl is) holds = absurd (holds is)
   by_memory f (inr is) holds = ap (λ (x : Fault). status_of (Some x)) is
 
-  early : (most : ℕ) (t u : Trace) (f : RunErr) → t.broken ≡ false → (Rose t.faults u.faults → ⊥) → EndsEarly store life can.keys most (disk old) (disk new) t u disk before.input after.input f → status_of (told_fault (Some f)) ≡ 9
+  early : (most : ℕ) (t u : Trace) (f : RunErr) → t.broken ≡ false → (Rose t.faults u.faults → ⊥) → EndsEarly store life can.keys most can.shares (disk old) (disk new) t u disk before.input after.input f → status_of (told_fault (Some f)) ≡ 9
   early most t u failed.Unwatched whole watch (inl head) = absurd (watch (rose_added (lines_of (note.Read 0 ∷ [])) t u head.shown whole head.broken))
   early most t u failed.Unwatched whole watch (inr opening) = absurd (watch (rose_later t.faults opening.shown.between.faults u.faults opening.shown.head.faults
       (rose_added (lines_of (store.open_notes opening.p opening.found opening.start)) opening.shown.between u opening.shown.behind opening.shown.whole opening.broken)))
   early most t u (failed.Fault f) whole watch (inl head) =
       absurd (can.store_holds (head.cause (laws.reads_head can.keys can.p ((disk old).cells 0) f (laws.has_head can.keys can.p can.generation (disk old).cells can.at can.stands) head.kind (head.read can.tells))))
-  early most t u (failed.Fault f) whole watch (inr (inl input)) = input_told input.p.keys f (many_keys input.p input.head) input.refused
+  early most t u (failed.Fault f) whole watch (inr (inl input)) = either_told input.p f (one_p input.p input.head) input.refused
   early most t u (failed.Fault f) whole watch (inr (inr opening)) =
       by_memory f (laws.opens can.keys can.p can.generation (disk old).cells can.at (length script.txns) f can.stands can.lasts opening.kind
       (subst (λ (q : Params). store.refuses can.keys q (disk old).cells f) (one_p opening.p opening.head) (opening.read can.tells))) (λ is. can.store_holds (opening.cause is))
@@ -130,7 +139,7 @@ module _ (store : StoreKind) (laws : AreStandingLaws store) (life : LifeWords st
     pub written : Flow
     pub ran : Ran store life disk by tape can.keys old new before (outside after.input written) first last records (Some (failed.Fault told))
 
-  module _ (by : Manner) (tape : Given) (records : List (EpochRecord ℕ)) (t u : Trace) (written : Flow) (whole : t.broken ≡ false) (watch : Rose t.faults u.faults → ⊥) where
+  module _ (by : Manner) (shared : by.shares ≡ can.shares) (tape : Given) (records : List (EpochRecord ℕ)) (t u : Trace) (written : Flow) (whole : t.broken ≡ false) (watch : Rose t.faults u.faults → ⊥) where
     ran_keys : (f : Option RunErr) (r : Ran store life disk by tape can.keys old new before (outside after.input written) t u records f) → r.p.keys ≡ can.p.keys
     ran_keys f r = many_keys r.p r.opened.head
 
@@ -188,12 +197,12 @@ module _ (store : StoreKind) (laws : AreStandingLaws store) (life : LifeWords st
 
     answers : (status : ℕ) (f : Option RunErr) → status ≡ status_of (told_fault f) → ErrTold written after.output f → Went store life disk by tape can.keys old new before (outside after.input written) t u records f → Answers status
     answers status None is line ran = inl is
-    answers status (Some f) is line (inl (none, ended, lives)) = inr (inl (is ∙ early by.lanes t u f whole watch ended))
+    answers status (Some f) is line (inl (none, ended, lives)) = inr (inl (is ∙ early by.lanes t u f whole watch (subst (λ (x : Shares). EndsEarly store life can.keys by.lanes x (disk old) (disk new) t u disk before.input after.input f) shared ended)))
     answers status (Some (failed.Fault f)) is line (inr ran) = by_fault status f is ran (ran_fault f ran ran.serving.traced.behind (shapes (calls ran.serving.is_served.served.evidence.acts)) (refused (calls ran.serving.is_served.served.evidence.acts)) ran.serving.cause line)
     answers status (Some failed.Unwatched) is line (inr ran) = absurd (watch (rose_later t.faults ran.midway.faults u.faults ran.opening_shown.faults ran.serving.cause.1))
 
-  pub run_answers : (by : Manner) (tape : Given) (status : ℕ) (t u : Trace) → t.broken ≡ false → (Rose t.faults u.faults → ⊥) → RunDone store life disk by tape can.keys old new before after t u status → (status ≡ 0) ⊎ ((status ≡ 9) ⊎ StopsFor by tape status)
-  run_answers by tape status t u whole watch d = answers by tape d.records t u d.written whole watch status d.err d.status_is d.line d.went
+  pub run_answers : (by : Manner) → by.shares ≡ can.shares → (tape : Given) (status : ℕ) (t u : Trace) → t.broken ≡ false → (Rose t.faults u.faults → ⊥) → RunDone store life disk by tape can.keys old new before after t u status → (status ≡ 0) ⊎ ((status ≡ 9) ⊎ StopsFor by tape status)
+  run_answers by shared tape status t u whole watch d = answers by shared tape d.records t u d.written whole watch status d.err d.status_is d.line d.went
 
 -- ---- the trace
 
@@ -236,9 +245,9 @@ module _ {S W : Type 0} (disk : S → Disk) (flow : W → Flow) (beat : BeatKind
   FormatTells numbers trace = Tell fault.Memory ⊎ (((field : Field) × IsBadNumber numbers field × Tell (fault.BadParams field))
       ⊎ ((p : Params) × AreParams numbers p × (KeysTell ⊎ ((keys : Keys) × HasKeys text keys × ByTrace flow was is before after status trace (start_line p) (λ t u. FormatDone ring_kind ring_lives disk tape keys p old new before after t u status) old new))))
 
-  abbrev pub RunTells : Option (List ℕ) → Bool → Option (List ℕ) → Type 0
-  RunTells lanes turns trace = Tell fault.Memory ⊎ ((AreBadLanes lanes × Tell (fault.BadParams LANES))
-      ⊎ ((k : ℕ) × AreLanes lanes k × (KeysTell ⊎ ((keys : Keys) × HasKeys text keys × ByTrace flow was is before after status trace open_line (λ t u. RunDone ring_kind ring_lives disk (manner beat (not turns) k) tape keys old new before after t u status) old new))))
+  abbrev pub RunTells : Option (List ℕ) → Bool → Option (List ℕ) → AskedShares → Type 0
+  RunTells lanes turns trace limits = Tell fault.Memory ⊎ ((AreBadLanes lanes × Tell (fault.BadParams LANES))
+      ⊎ ((k : ℕ) × AreLanes lanes k × (shares : Shares) × AreShares limits shares × (KeysTell ⊎ ((keys : Keys) × HasKeys text keys × ByTrace flow was is before after status trace open_line (λ t u. RunDone ring_kind ring_lives disk (manner beat (not turns) k shares) tape keys old new before after t u status) old new))))
 
   format_whole : (can : CanFormat flow words text (disk old) (disk new) was is before after) → FormatTells can.numbers can.trace → (status ≡ 0) ⊎ (status ≡ 9)
   format_whole can (inl (kept, told)) = inr told.status_is
@@ -249,7 +258,7 @@ module _ {S W : Type 0} (disk : S → Disk) (flow : W → Flow) (beat : BeatKind
 
   module _ (script : Scripts) (can : CanRun flow words text (disk old) (disk new) was is before after ring_kind script) where
     abbrev by : Manner
-    by = manner beat (not can.turns) can.k
+    by = manner beat (not can.turns) can.k can.shares
 
     abbrev Full : Type 0
     Full = StopsFull disk flow beat tape words text was is before after status by can.keys can.p old new
@@ -275,20 +284,21 @@ module _ {S W : Type 0} (disk : S → Disk) (flow : W → Flow) (beat : BeatKind
     by_answer (inr (inl nine)) = inr (inl nine)
     by_answer (inr (inr s)) = inr (inr (by_stop s.told s.may s.status_is s.records s.first s.last s.written s.ran))
 
-    run_whole : RunTells can.lanes can.turns can.trace → (status ≡ 0) ⊎ ((status ≡ 9) ⊎ Full)
+    run_whole : RunTells can.lanes can.turns can.trace can.limits → (status ≡ 0) ⊎ ((status ≡ 9) ⊎ Full)
     run_whole (inl (kept, told)) = inr (inl told.status_is)
     run_whole (inr (inl (bad, (kept, told)))) = absurd (no_bad_lanes can.lanes can.k can.in_range bad)
-    run_whole (inr (inr (k, are, inl (f, refusal, (kept, told))))) = absurd (keys_stand text can.keys f can.has refusal)
-    run_whole (inr (inr (k, are, inr (keys, has, done)))) = of_trace flow was is before after status open_line can.trace (λ t u. RunDone ring_kind ring_lives disk (manner beat (not can.turns) k) tape keys old new before after t u status) old new can.trace_holds done
+    run_whole (inr (inr (k, are, shares, given, inl (f, refusal, (kept, told))))) = absurd (keys_stand text can.keys f can.has refusal)
+    run_whole (inr (inr (k, are, shares, given, inr (keys, has, done)))) = of_trace flow was is before after status open_line can.trace (λ t u. RunDone ring_kind ring_lives disk (manner beat (not can.turns) k shares) tape keys old new before after t u status) old new can.trace_holds done
         ((status ≡ 0) ⊎ ((status ≡ 9) ⊎ Full)) (λ t u whole watch d.
-        by_answer (run_answers ring_kind ring_keeps ring_lives disk words text old new flow was is before after script can by tape status t u whole watch
+        by_answer (run_answers ring_kind ring_keeps ring_lives disk words text old new flow was is before after script can by refl tape status t u whole watch
         (subst (λ (k : Keys). RunDone ring_kind ring_lives disk by tape k old new before after t u status) (one_keys text keys can.keys has can.has)
-        (subst (λ m. RunDone ring_kind ring_lives disk (manner beat (not can.turns) m) tape keys old new before after t u status) (one_lanes can.lanes k can.k are can.in_range) d))))
+        (subst (λ m. RunDone ring_kind ring_lives disk (manner beat (not can.turns) m can.shares) tape keys old new before after t u status) (one_lanes can.lanes k can.k are can.in_range)
+        (subst (λ (x : Shares). RunDone ring_kind ring_lives disk (manner beat (not can.turns) k x) tape keys old new before after t u status) (one_shares can.limits shares can.shares given can.given) d)))))
 
   pub completes : ((store keys : List ℕ) (numbers : List (List ℕ)) (trace : Option (List ℕ)) → asked_by words ≡ Some (format_asked store keys numbers trace) → FormatTells numbers trace)
-      → ((store keys : List ℕ) (lanes : Option (List ℕ)) (turns : Bool) (trace : Option (List ℕ)) → asked_by words ≡ Some (run_asked store keys lanes turns trace) → RunTells lanes turns trace)
+      → ((store keys : List ℕ) (lanes : Option (List ℕ)) (turns : Bool) (trace : Option (List ℕ)) (limits : AskedShares) → asked_by words ≡ Some (run_asked store keys lanes turns trace limits) → RunTells lanes turns trace limits)
       → DoesWhatItCan disk flow beat tape words text was is before after status old new
   completes format run = (
     λ can. format_whole can (format can.store_path can.keys_path can.numbers can.trace can.asked),
-    λ script can. run_whole script can (run can.store_path can.keys_path can.lanes can.turns can.trace can.asked),
+    λ script can. run_whole script can (run can.store_path can.keys_path can.lanes can.turns can.trace can.limits can.asked),
   )

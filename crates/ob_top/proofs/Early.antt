@@ -1,5 +1,5 @@
 -- Why nothing was run over a store that stood.
-use Rattle.std.proofs.Common.{◌≡◌, ◌∙◌, suc, false, [], ◌∷◌, sym, ap, subst, inl, inr}
+use Rattle.std.proofs.Common.{◌≡◌, ◌∙◌, ◌⊎◌, suc, false, [], ◌∷◌, sym, ap, subst, inl, inr}
 use Rattle.ob_base.specs.Causes.{Rose}
 use Rattle.ob_base.specs.declared.fault.Fault.{Fault}
 use Rattle.ob_base.specs.declared.fault.Fault.TheVariants.{Memory, Usage, BadScript, BadParams, NotStore, Damaged, StoreFault, StashFull, Worn, SourceFault, SinkFault}
@@ -24,7 +24,7 @@ use Rattle.ob_top.specs.Calls.{RunCall}
 use Rattle.ob_top.specs.Headline.{Stood}
 use Rattle.ob_top.specs.Pasts.{PastLife, life_of}
 use Rattle.ob_top.specs.Promised.{IsEarlyCause}
-use Rattle.ob_top.specs.Runs.{EndsEarly, IsInputRefused}
+use Rattle.ob_top.specs.Runs.{AreSharesRefused, EndsEarly, IsInputRefused}
 use Rattle.ob_top.proofs.Completing.{rose_added}
 
 module _ {S : Type 0} (disk : S → Disk) (keys : Keys) (p : Params) (at : Standing) (past : PastLife) (call : RunCall S) (stood : Stood disk keys p at past call.tape call.old) where
@@ -57,6 +57,10 @@ module _ {S : Type 0} (disk : S → Disk) (keys : Keys) (p : Params) (at : Stand
   by_input (Worn number) refusal = absurd refusal
   by_input SinkFault refusal = absurd refusal
 
+  by_either : (f : Fault) → IsInputRefused p.keys call.before.input call.after.input f ⊎ AreSharesRefused p call.by.shares call.before.input f → Early f
+  by_either f (inl refusal) = by_input f refusal
+  by_either f (inr (field, is, script, came, refusal)) = subst Early (sym is) (script, came, refusal)
+
   by_opening : (s : RingStanding) → s.generation ≡ (life_of p past).generation → (f : Fault) → IsStandingRefusal s f → (IsStoreFault f → Rose (disk call.old).faults (disk call.new).faults) → Early f
   by_opening s same Memory is cause = tt
   by_opening s same (StoreFault unsure) is cause = cause tt
@@ -77,11 +81,11 @@ module _ {S : Type 0} (disk : S → Disk) (keys : Keys) (p : Params) (at : Stand
   one_head q head = ring_keeps.one_head keys q p ((disk call.old).cells 0) (head stood.tells.0) has_head
 
   module _ (t u : Trace) (whole : t.broken ≡ false) (traced : Rose t.faults u.faults → Rose call.traced_before call.traced_after) where
-    pub early_cause : (e : RunErr) → EndsEarly ring_kind ring_lives keys call.by.lanes (disk call.old) (disk call.new) t u disk call.before.input call.after.input e → Early (fault_of e)
+    pub early_cause : (e : RunErr) → EndsEarly ring_kind ring_lives keys call.by.lanes call.by.shares (disk call.old) (disk call.new) t u disk call.before.input call.after.input e → Early (fault_of e)
     early_cause (failed.Fault f) (inl head) =
         let is = ring_keeps.reads_head keys p ((disk call.old).cells 0) f has_head head.kind (head.read stood.tells.0) in
         by_store f is (head.cause is)
-    early_cause (failed.Fault f) (inr (inl input)) = by_input f (subst (λ (q : Params). IsInputRefused q.keys call.before.input call.after.input f) (one_head input.p input.head) input.refused)
+    early_cause (failed.Fault f) (inr (inl input)) = by_either f (subst (λ (q : Params). IsInputRefused q.keys call.before.input call.after.input f ⊎ AreSharesRefused q call.by.shares call.before.input f) (one_head input.p input.head) input.refused)
     early_cause (failed.Fault f) (inr (inr o)) =
         let there = stood.is_at.there in
         by_opening there.standing there.generation f

@@ -29,7 +29,7 @@ use Rattle.ob_top.specs.Runs.{Went, RunOn, RunDone}
 use Rattle.ob_top.specs.Parts.{IsInClearBehind, Manner}
 use Rattle.ob_top.proofs.Lines.{cut_printed}
 use Rattle.ob_top.specs.Sound.{StandsOn}
-use Rattle.ob_top.proofs.Running.{IsQuiet}
+use Rattle.ob_top.proofs.Running.{IsQuiet, not_sink}
 use Rattle.ob_top.proofs.Sounding.{formatted_sound, none_told_at_0}
 
 -- a text behind one that is whole
@@ -86,7 +86,7 @@ module _ (store : StoreKind) (quiet : IsQuiet store) (life : LifeWords store) wh
 
       sink_rose : (records : List (EpochRecord ℕ)) → Went store life disk by tape keys old new before mid t u records (Some (failed.Fault SinkFault)) → Rose before.output.faults mid.output.faults
       sink_rose records (inl (none, inl head, lives)) = absurd (quiet.head head.kind)
-      sink_rose records (inl (none, inr (inl input), lives)) = absurd input.refused
+      sink_rose records (inl (none, inr (inl input), lives)) = absurd (not_sink input.p by.shares before.input mid.input input.refused)
       sink_rose records (inl (none, inr (inr opening), lives)) = absurd (quiet.opening opening.kind)
       sink_rose records (inr ran) = ran.serving.cause
 

@@ -46,8 +46,10 @@ use Rattle.ob_vault.specs.Lives.{IsLeftInLife, IsNextInLife, IsOpenedInLife, IsR
 use Rattle.ob_vault.specs.RingLives.{ring_lives}
 use Rattle.ob_vault.specs.RingKind.{RingFound, ring_hidden, ring_kind}
 use Rattle.ob_vault.specs.Shapes.{Shape, answered, refused, shapes}
-use Rattle.ob_words.proofs.Named.{keys_stand, no_bad_lanes, one_keys}
-use Rattle.ob_words.specs.Work.{AreLanes, HasKeys}
+use Rattle.ob_words.proofs.Named.{keys_stand, no_bad_lanes, one_keys, one_shares}
+use Rattle.ob_shares.specs.declared.shares.Shares.{Shares}
+use Rattle.ob_words.specs.Reading.{AskedShares}
+use Rattle.ob_words.specs.Work.{AreLanes, AreShares, HasKeys}
 use Rattle.ob_top.specs.Calls.{RunCall, EndPoint, IsRunCause, end_point}
 use Rattle.ob_top.specs.Endings.{told_fault}
 use Rattle.ob_top.specs.Headline.{Headline, RunTold, Stood}
@@ -63,7 +65,7 @@ use Rattle.ob_top.proofs.Completing.{RunTells, rose_added}
 use Rattle.ob_top.proofs.Counted.{one_lanes}
 use Rattle.ob_top.proofs.Living.{whole_clear, whole_lives}
 use Rattle.ob_top.proofs.Lasting.{fresh_on, idle_at, leads_on, past_on, opened_there, opened_turn, stopped_next}
-use Rattle.ob_desk.specs.Desk.{setup_of}
+use Rattle.ob_desk.specs.Desk.{setup_with}
 
 no_rise : Rose 0 0 → ⊥
 no_rise rose = omega (arith, rose)
@@ -114,7 +116,7 @@ module _ {S : Type 0} (disk : S → Disk) (keys : Keys) (call : RunCall S) (t u 
       pub opened_at : IsOpenedAt ring_kind keys p at r.found (disk r.between)
       opened_at = r.stood at stood.tells.0 stood.is_at.stands
 
-      pub left : IsLeftOnDisk ring_kind keys p r.found at r.script r.serving.records err r.serving.is_served.served.evidence.acts disk (disk r.between) (disk call.new)
+      pub left : IsLeftOnDisk ring_kind keys p call.by.shares r.found at r.script r.serving.records err r.serving.is_served.served.evidence.acts disk (disk r.between) (disk call.new)
       left = r.serving.left at (r.durable stood.tells.0).0 (r.durable stood.tells.0).1 opened_at
 
       tape_words : AreTapeWords past.word_of (ring_hidden r.found).generation call.tape.words
@@ -169,15 +171,15 @@ module _ {S : Type 0} (disk : S → Disk) (keys : Keys) (call : RunCall S) (t u 
         next_there c (inl may) = left_there c may
         next_there c (inr (tells, same)) = subst Next (sym same) (left_there (disk call.new).cells (includes_reads call.new tells (goes.leaves.0 stood.tells.1)))
 
-        listed : AreListed ring_kind keys p at (ring_kind.left p r.found) r.script.clients r.serving.is_served.served.evidence.acts
-        listed = subst (λ n. AreListed ring_kind keys p (record { epoch = n; content = at.content }) (ring_kind.left p r.found) r.script.clients r.serving.is_served.served.evidence.acts) opened_at.epoch (r.serving.world at.content opened_at.content)
+        listed : AreListed ring_kind keys (setup_with p call.by.shares) at (ring_kind.left p r.found) r.script.clients r.serving.is_served.served.evidence.acts
+        listed = subst (λ n. AreListed ring_kind keys (setup_with p call.by.shares) (record { epoch = n; content = at.content }) (ring_kind.left p r.found) r.script.clients r.serving.is_served.served.evidence.acts) opened_at.epoch (r.serving.world at.content opened_at.content)
 
         all_told : err ≡ None → (client : ℕ) → TellAll client (txns_by client r.serving.records) (told_of (said_by client (history r.serving.is_served.served.evidence.acts)))
         all_told none client =
             let served = r.serving.is_served.served in
             let over : IsOver served.evidence.desk = subst (λ (e : Option RunErr). EndsWith e served.evidence.acts served.evidence.desk) none r.serving.is_served.ends in
             subst (λ (rs : List (EpochRecord ℕ)). TellAll client (txns_by client rs) (told_of (said_by client (history served.evidence.acts)))) (sym served.told_are)
-            (records_tell.all (setup_of p) (suc (ring_kind.epoch r.found)) (ring_kind.left p r.found) r.script.clients (history served.evidence.acts) served.evidence.desk client r.serving.is_served.opens served.evidence.leads over.at_rest)
+            (records_tell.all (setup_with p call.by.shares) (suc (ring_kind.epoch r.found)) (ring_kind.left p r.found) r.script.clients (history served.evidence.acts) served.evidence.desk client r.serving.is_served.opens served.evidence.leads over.at_rest)
 
         pub headline : Output r.serving.records → Headline disk keys p at past call told
         headline output = record {
@@ -253,7 +255,7 @@ module _ {S : Type 0} (disk : S → Disk) (keys : Keys) (call : RunCall S) (t u 
             let (g, stands) = stood.is_at.stands in
             ring_keeps.one_head keys p q ((disk call.old).cells 0) (ring_keeps.has_head keys p g (disk call.old).cells at stands) (head stood.tells.0)
 
-        pub early : (e : RunErr) → Told (fault_of e) → EndsEarly ring_kind ring_lives keys call.by.lanes (disk call.old) (disk call.new) t u disk call.before.input call.after.input e → Unserved disk keys p past call
+        pub early : (e : RunErr) → Told (fault_of e) → EndsEarly ring_kind ring_lives keys call.by.lanes call.by.shares (disk call.old) (disk call.new) t u disk call.before.input call.after.input e → Unserved disk keys p past call
         early (failed.Fault refusal) said (inl head) = read_only refusal said head.passes
         early (failed.Fault refusal) said (inr (inl input)) = read_only refusal said input.passes
         early (failed.Fault refusal) said (inr (inr o)) =
@@ -330,12 +332,12 @@ module _ {S : Type 0} (disk : S → Disk) (keys : Keys) (call : RunCall S) (t u 
 
 module _ {S W : Type 0} (disk : S → Disk) (flow : W → Flow) (beat : BeatKind) (tape : Given) (text : Option (Bor (List ℕ))) (old new : S) (was is : Option W) (before after : Outside) (status : ℕ)
     (only_now : (x : S) (c : Image) → (disk x).left_since (disk x).moment c → (disk x).may_leave c) (includes_reads : (x : S) → (disk x).tells → (disk x).leaves → (disk x).may_leave (disk x).cells) (goes : GoesOn (disk old) (disk new)) where
-  abbrev pub called : Bool → Option (List ℕ) → ℕ → RunCall S
-  called turns trace k = record { old = old; new = new; before = before; after = after; lacks_trace = is_lacking trace was; traced_before = faults_of flow was; traced_after = faults_of flow is; by = manner beat (not turns) k; tape = tape; status = status }
+  abbrev pub called : Bool → Option (List ℕ) → ℕ → Shares → RunCall S
+  called turns trace k shares = record { old = old; new = new; before = before; after = after; lacks_trace = is_lacking trace was; traced_before = faults_of flow was; traced_after = faults_of flow is; by = manner beat (not turns) k shares; tape = tape; status = status }
 
-  module _ (turns : Bool) (k : ℕ) (keys : Keys) (p : Params) (at : Standing) (past : PastLife) (stood : Stood disk keys p at past tape old) where
+  module _ (turns : Bool) (k : ℕ) (shares : Shares) (keys : Keys) (p : Params) (at : Standing) (past : PastLife) (stood : Stood disk keys p at past tape old) where
     abbrev Keeps : Option (List ℕ) → Type 0
-    Keeps trace = Promised disk keys p at past (called turns trace k)
+    Keeps trace = Promised disk keys p at past (called turns trace k shares)
 
     -- what rose for the watch rose for its sink
     sink_rose : (first : List ℕ) (t u : Trace) → HasTrace flow first was is t u → Rose t.faults u.faults → Rose (faults_of flow was) (faults_of flow is)
@@ -350,19 +352,20 @@ module _ {S W : Type 0} (disk : S → Disk) (flow : W → Flow) (beat : BeatKind
         (subst (λ n. Rose (flow has.before).faults n) (sym has.told.1) (subst (λ n. Rose n u.faults) (sym has.tells.1) (subst (λ (x : Trace). Rose has.start.faults x.faults) (sym still) (rose_added open_line has.start t has.line has.whole broken)))))
 
     abbrev Done : Trace → Trace → Type 0
-    Done t u = RunDone ring_kind ring_lives disk (manner beat (not turns) k) tape keys old new before after t u status
+    Done t u = RunDone ring_kind ring_lives disk (manner beat (not turns) k shares) tape keys old new before after t u status
 
     by_trace : (trace : Option (List ℕ)) → ByTrace flow was is before after status trace open_line Done old new → Keeps trace
-    by_trace None (kept, done) = done_promised disk keys (called turns None k) blind blind (λ rose. absurd (no_rise rose)) only_now includes_reads goes p at past stood refl done
+    by_trace None (kept, done) = done_promised disk keys (called turns None k shares) blind blind (λ rose. absurd (no_rise rose)) only_now includes_reads goes p at past stood refl done
     by_trace (Some file) (inl (none, kept, same, line)) =
-        none_promised disk keys (called turns (Some file) k) blind blind (λ rose. absurd (no_rise rose)) only_now includes_reads goes p at past stood refl SinkFault line (inl (subst (λ (x : Option W). is_lacking (Some file) x ≡ true) (sym none) refl)) same
-    by_trace (Some file) (inr (t, u, has, inl (broken, still, same, line))) = none_promised disk keys (called turns (Some file) k) blind blind (λ rose. absurd (no_rise rose)) only_now includes_reads goes p at past stood refl SinkFault line (inr (first_broke t u has broken still)) same
-    by_trace (Some file) (inr (t, u, has, inr (whole, done))) = done_promised disk keys (called turns (Some file) k) t u (sink_rose open_line t u has) only_now includes_reads goes p at past stood whole done
+        none_promised disk keys (called turns (Some file) k shares) blind blind (λ rose. absurd (no_rise rose)) only_now includes_reads goes p at past stood refl SinkFault line (inl (subst (λ (x : Option W). is_lacking (Some file) x ≡ true) (sym none) refl)) same
+    by_trace (Some file) (inr (t, u, has, inl (broken, still, same, line))) = none_promised disk keys (called turns (Some file) k shares) blind blind (λ rose. absurd (no_rise rose)) only_now includes_reads goes p at past stood refl SinkFault line (inr (first_broke t u has broken still)) same
+    by_trace (Some file) (inr (t, u, has, inr (whole, done))) = done_promised disk keys (called turns (Some file) k shares) t u (sink_rose open_line t u has) only_now includes_reads goes p at past stood whole done
 
-    pub told_promised : (lanes trace : Option (List ℕ)) → AreLanes lanes k → HasKeys text keys → RunTells disk flow beat tape [] text old new was is before after status lanes turns trace → Keeps trace
-    told_promised lanes trace are has (inl (kept, line)) = none_promised disk keys (called turns trace k) blind blind (λ rose. absurd (no_rise rose)) only_now includes_reads goes p at past stood refl Memory line tt kept.0
-    told_promised lanes trace are has (inr (inl (bad, line))) = absurd (no_bad_lanes lanes k are bad)
-    told_promised lanes trace are has (inr (inr (m, these, inl (f, refusal, line)))) = absurd (keys_stand text keys f has refusal)
-    told_promised lanes trace are has (inr (inr (m, these, inr (own, holds, by)))) =
-        by_trace trace (subst (λ (x : Keys). ByTrace flow was is before after status trace open_line (λ t u. RunDone ring_kind ring_lives disk (manner beat (not turns) k) tape x old new before after t u status) old new) (one_keys text own keys holds has)
-        (subst (λ n. ByTrace flow was is before after status trace open_line (λ t u. RunDone ring_kind ring_lives disk (manner beat (not turns) n) tape own old new before after t u status) old new) (one_lanes lanes m k these are) by))
+    pub told_promised : (lanes trace : Option (List ℕ)) (limits : AskedShares) → AreLanes lanes k → AreShares limits shares → HasKeys text keys → RunTells disk flow beat tape [] text old new was is before after status lanes turns trace limits → Keeps trace
+    told_promised lanes trace limits are given has (inl (kept, line)) = none_promised disk keys (called turns trace k shares) blind blind (λ rose. absurd (no_rise rose)) only_now includes_reads goes p at past stood refl Memory line tt kept.0
+    told_promised lanes trace limits are given has (inr (inl (bad, line))) = absurd (no_bad_lanes lanes k are bad)
+    told_promised lanes trace limits are given has (inr (inr (m, these, those, limited, inl (f, refusal, line)))) = absurd (keys_stand text keys f has refusal)
+    told_promised lanes trace limits are given has (inr (inr (m, these, those, limited, inr (own, holds, by)))) =
+        by_trace trace (subst (λ (x : Keys). ByTrace flow was is before after status trace open_line (λ t u. RunDone ring_kind ring_lives disk (manner beat (not turns) k shares) tape x old new before after t u status) old new) (one_keys text own keys holds has)
+        (subst (λ n. ByTrace flow was is before after status trace open_line (λ t u. RunDone ring_kind ring_lives disk (manner beat (not turns) n shares) tape own old new before after t u status) old new) (one_lanes lanes m k these are)
+        (subst (λ (x : Shares). ByTrace flow was is before after status trace open_line (λ t u. RunDone ring_kind ring_lives disk (manner beat (not turns) m x) tape own old new before after t u status) old new) (one_shares limits those shares limited given) by)))

@@ -1,6 +1,6 @@
 -- What serving a script does to the store that a ring vault was lent, where the vault's words are those of what it runs with.
 use Rattle.std.specs.Borrow.{GName}
-use Rattle.std.proofs.Common.{false, ◌≡◌, ◌∙◌, ◌∷◌, ◌++◌, ◌<◌, ◌≤◌, ◌^◌, ℕ, suc, Bool, List, [], Option, Result, map, sym, ap, subst}
+use Rattle.std.proofs.Common.{false, ◌≡◌, ◌∙◌, ◌∷◌, ◌++◌, ◌<◌, ◌≤◌, ◌^◌, ℕ, suc, Bool, List, [], length, Option, Result, map, sym, ap, subst}
 use Rattle.std.proofs.lemmas.List.Elements.{All-weaker}
 use Rattle.ob_base.specs.declared.params.Params.{Params}
 use Rattle.ob_io.specs.Streams.{Flow}
@@ -37,7 +37,9 @@ use Rattle.ob_runner.specs.Runners.{AreRunners, IsNewOf}
 use Rattle.ob_runner.specs.Turns.{IsScriptTurn}
 use Rattle.ob_runner.specs.declared.runner.ScriptRunner.{ScriptRunner}
 use Rattle.ob_desk.specs.Beats.{BeatKind}
-use Rattle.ob_desk.specs.Desk.{DeskState, new_desk, setup_of}
+use Rattle.ob_shares.specs.declared.shares.Shares.{Shares}
+use Rattle.ob_shares.specs.Shares.{AreFitting}
+use Rattle.ob_desk.specs.Desk.{DeskState, new_desk, setup_with}
 use Rattle.ob_conduct.specs.Left.{Rests}
 use Rattle.ob_conduct.specs.declared.run_err.RunErr.{RunErr}
 use Rattle.ob_conduct.specs.Scenes.{RunnerKind, run_state, runner_kind, scene}
@@ -148,21 +150,21 @@ module _ {V S : Type 0} (k : Kind V) (disk : S → Disk) (counts_now : (x : S) (
   }
 
 -- a run that was conducted over a vault that was just made of an opening
-pub serves_lent : {V S : Type 0} (first : V) (k : Kind V) (beat : BeatKind) (threads : Bool) (p : Params) (script : Scripts) (trace : Trace) (runners : List ScriptRunner)
+pub serves_lent : {V S : Type 0} (first : V) (k : Kind V) (beat : BeatKind) (threads : Bool) (p : Params) (shares : Shares) (script : Scripts) (trace : Trace) (runners : List ScriptRunner)
     (before : Flow) (last : V) (seen : Trace) (ran : List ScriptRunner) (after : Flow) (result : Result (Unit {0}) RunErr) (epoch left : ℕ)
-    → ((new : DeskState) × RunsBy threads k script_kind beat (run_state (scene (new_desk (setup_of p) (suc epoch) left script.clients) first trace) runners before) (run_state (scene new last seen) ran after) result)
-    → trace.broken ≡ false → AreSound script → AreRunners script runners
+    → ((new : DeskState) × RunsBy threads k script_kind beat (run_state (scene (new_desk (setup_with p shares) (suc epoch) left script.clients) first trace) runners before) (run_state (scene new last seen) ran after) result)
+    → trace.broken ≡ false → AreSound script → AreFitting shares (length script.clients) p.places p.writes → AreRunners script runners
     → (disk : S → Disk) (counts_now : (x : S) (t : Clock) (c : Image) → NotAfter t (disk x).moment → (disk x).may_leave c → (disk x).left_since t c)
     (only_now : (x : S) (c : Image) → (disk x).left_since (disk x).moment c → (disk x).may_leave c) (runs : V → Running S) → HasRingWords k disk runs → IsLent k disk runs
     → (keys : Keys) (most : ℕ) (found : Found) (f : RingFound) (start : Run) → GoesOnFrom keys p found f → (runs first).run ≡ start → f.run ≡ start → epoch ≡ (runs first).run.epoch → left ≡ (runs first).run.left
     → start.epoch < 2 ^ 62 → start.left ≤ p.batches → (runs first).lanes ≡ most → (1 ≤ most) × (most ≤ 16) → HasPlanned f.run f.content f.records → (runs first).drawn ≡ [] → (runs first).present ≡ start.sealer.generation
-    → (s : ServedOver ring_kind ring_lives disk (manner beat threads most) keys p f f.run.sealer script (told_by (runs last)) (runs first).store (runs last).store before after trace seen (err_of result))
+    → (s : ServedOver ring_kind ring_lives disk (manner beat threads most shares) keys p f f.run.sealer script (told_by (runs last)) (runs first).store (runs last).store before after trace seen (err_of result))
     × CallsBehind k first (calls s.is_served.served.evidence.acts) last (err_of result)
-serves_lent first k beat threads p script trace runners before last seen ran after result epoch left done unbroken sound are disk counts_now only_now runs words lent keys most found f start goes is same epoch_is left_is small few lanes many has none present_is =
+serves_lent first k beat threads p shares script trace runners before last seen ran after result epoch left done unbroken sound fit are disk counts_now only_now runs words lent keys most found f start goes is same epoch_is left_is small few lanes many has none present_is =
     let (new, run) = done in
     let run_is : (runs first).run ≡ f.run = is ∙ sym same in
-    let may = may_open p f.run.epoch f.run.left script (subst (λ (r : Run). r.epoch < 2 ^ 62) (sym same) small) (subst (λ (r : Run). r.left ≤ p.batches) (sym same) few) sound in
+    let may = may_open p shares f.run.epoch f.run.left script (subst (λ (r : Run). r.epoch < 2 ^ 62) (sym same) small) (subst (λ (r : Run). r.left ≤ p.batches) (sym same) few) sound fit in
     let planned = All-weaker (IsNewOf script) (λ r. plan_of r ≡ asks_by (client_of r) script.txns) (λ r n. n.plan) runners are.new in
-    ring_serves k disk counts_now only_now runs words keys most p f first beat threads script_kind runs_scripts script sound may trace runners before (run_state (scene new last seen) ran after) result epoch left
+    ring_serves k disk counts_now only_now runs words keys most p f first beat threads shares script_kind runs_scripts script sound may trace runners before (run_state (scene new last seen) ran after) result epoch left
     unbroken are.clients_are planned (epoch_is ∙ ap (λ (r : Run). r.epoch) run_is) (left_is ∙ ap (λ (r : Run). r.left) run_is) run (lender k disk counts_now only_now runs words lent keys most p found f first goes run_is (present_is ∙ ap (λ (r : Run). r.sealer.generation) (sym same)))
     (ring_begun k disk runs keys most p found f first goes run_is lanes many has none (λ u holds. lent.holds first u (subst (λ (r : Run). RingHolds r (disk (runs first).store) u) (sym run_is) holds)))

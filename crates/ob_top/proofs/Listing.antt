@@ -1,10 +1,9 @@
 -- A run's acts are a list of the world's events, whatever its vault.
 use Rattle.std.proofs.Common.{ℕ, zero, suc, Bool, true, false, List, [], ◌∷◌, ◌++◌, refl, ap}
-use Rattle.ob_base.specs.declared.params.Params.{Params}
 use Rattle.std.specs.List.{All}
 use Rattle.ob_conduct.specs.Acts.{Act, IsAllowed, calls, history}
 use Rattle.ob_desk.specs.Beats.{BeatKind}
-use Rattle.ob_desk.specs.Desk.{DeskState, new_desk, setup_of}
+use Rattle.ob_desk.specs.Desk.{DeskState, Setup, new_desk}
 use Rattle.ob_driver.specs.Drives.{AreThings}
 use Rattle.ob_run.specs.Threaded.{AreShaped, driven}
 use Rattle.ob_seal.specs.declared.keys.Keys.{Keys}
@@ -36,12 +35,12 @@ one_run (one ∷ made) asked reports =
     let due = due_behind one.call one.reply in
     due_one_run due asked reports (woven_from made (asked_left due asked) (reports_left due reports)) (one_run made (asked_left due asked) (reports_left due reports))
 
-module _ {V : Type 0} (k : Kind V) (store : StoreKind) (keys : Keys) (p : Params) where
+module _ {V : Type 0} (k : Kind V) (store : StoreKind) (keys : Keys) (setup : Setup) where
   -- a world of which the past is forgotten
   abbrev forget : World V → World (Unit {0})
   forget w = record { desk = w.desk; vault = w.vault; past = tt; driver = w.driver; found = w.found; ended = w.ended }
 
-  forgotten : (events : List WorldEvent) (w last : World V) → IsOneRun events → IsWorld (course_of k) w events last → IsWorld (store_course store keys p) (forget w) events (forget last)
+  forgotten : (events : List WorldEvent) (w last : World V) → IsOneRun events → IsWorld (course_of k) w events last → IsWorld (store_course store keys setup.params) (forget w) events (forget last)
   forgotten [] w last one same = ap forget same
   forgotten (Desk caller call reply ∷ events) w last one (mid, e, rest) = (
     forget mid,
@@ -62,12 +61,12 @@ module _ {V : Type 0} (k : Kind V) (store : StoreKind) (keys : Keys) (p : Params
   are_things false clients acts shaped = rounds_are_things clients acts shaped
 
   -- from an opening at this standing on
-  pub are_listed : (at : Standing) (left : ℕ) (clients : List ℕ) (beat : BeatKind) (threads : Bool) (start last : V) (acts : List Act) (d : DeskState) → k.holds start (opened_with p left at) → AllCalled k start (calls acts) last
-      → All (IsAllowed beat) acts → Leads (new_desk (setup_of p) (suc at.epoch) left clients) (history acts) d → AreShaped threads clients acts → AreListed store keys p at left clients acts
+  pub are_listed : (at : Standing) (left : ℕ) (clients : List ℕ) (beat : BeatKind) (threads : Bool) (start last : V) (acts : List Act) (d : DeskState) → k.holds start (opened_with setup.params left at) → AllCalled k start (calls acts) last
+      → All (IsAllowed beat) acts → Leads (new_desk setup (suc at.epoch) left clients) (history acts) d → AreShaped threads clients acts → AreListed store keys setup at left clients acts
   are_listed at left clients beat threads start last acts d holds chain allowed leads shaped =
-      let w : IsWovenWorld k (setup_of p) clients (opened_with p left at) start last acts d = acts_are_a_world k (setup_of p) clients (opened_with p left at) start last acts d
+      let w : IsWovenWorld k setup clients (opened_with setup.params left at) start last acts d = acts_are_a_world k setup clients (opened_with setup.params left at) start last acts d
       (record { beat = beat; allowed = allowed; leads = leads; chain = chain; holds = holds; fresh = refl }) (are_things threads clients acts shaped) in
-      (forget w.last, forgotten (woven acts (reports_of acts)) (first_world (setup_of p) clients at left start) w.last (one_run (calls_made acts) (calls acts) (reports_of acts)) w.leads)
+      (forget w.last, forgotten (woven acts (reports_of acts)) (first_world setup clients at left start) w.last (one_run (calls_made acts) (calls acts) (reports_of acts)) w.leads)
 
 pub lists_hold : (store : StoreKind) → ListsHold store
 lists_hold store keys p = headline (store_course store keys p)

@@ -26,7 +26,8 @@ use Rattle.ob_vault.specs.Lives.{RingGoesOn}
 use Rattle.ob_vault.specs.RingLives.{ring_lives}
 use Rattle.ob_vault.proofs.Calling.{RingBehind, ring_does, words_are_of_tape}
 use Rattle.ob_script.specs.Script.{ScriptTxn, Scripts, AreSound, asks_by}
-use Rattle.ob_desk.specs.Desk.{MayOpen, new_desk, setup_of}
+use Rattle.ob_shares.specs.declared.shares.Shares.{Shares}
+use Rattle.ob_desk.specs.Desk.{MayOpen, new_desk, setup_with}
 use Rattle.ob_conduct.specs.declared.run_err.RunErr.{RunErr}
 use Rattle.ob_conduct.specs.Scenes.{scene, RunState, run_state, RunnerKind}
 use Rattle.ob_run.specs.Threaded.{RunsBy}
@@ -64,13 +65,13 @@ module _ {V S : Type 0} (k : Kind V) (disk : S → Disk) (counts_now : (x : S) (
   abbrev pub IsRingLender : Type 1
   IsRingLender = IsLender k ring_kind disk (λ v. (runs v).store) keys most p f first (RingBehind k disk runs words keys most p f (disk (runs first).store)) (λ v. told_by (runs v)) (ring_does k disk runs words keys most p f (disk (runs first).store)) tells ring_lives at_rest at_stop at_stage (f.run).sealer
 
-  pub ring_serves : {U : Type 0} (beat : BeatKind) (threads : Bool) (kind : RunnerKind U (List ScriptTxn)) (means : RunsScripts kind) (script : Scripts) (sound : AreSound script)
-      (may : MayOpen (setup_of p) (suc (f.run).epoch) (f.run).left script.clients) (trace : Trace) (runners : List U) (before : Flow) (end : RunState V U) (result : Result (Unit {0}) RunErr) (epoch left : ℕ)
+  pub ring_serves : {U : Type 0} (beat : BeatKind) (threads : Bool) (shares : Shares) (kind : RunnerKind U (List ScriptTxn)) (means : RunsScripts kind) (script : Scripts) (sound : AreSound script)
+      (may : MayOpen (setup_with p shares) (suc (f.run).epoch) (f.run).left script.clients) (trace : Trace) (runners : List U) (before : Flow) (end : RunState V U) (result : Result (Unit {0}) RunErr) (epoch left : ℕ)
       → trace.broken ≡ false → map kind.client runners ≡ script.clients → All (λ u. kind.plan u ≡ asks_by (kind.client u) script.txns) runners → epoch ≡ (f.run).epoch → left ≡ (f.run).left
-      → RunsBy threads k kind beat (run_state (scene (new_desk (setup_of p) (suc epoch) left script.clients) first trace) runners before) end result
+      → RunsBy threads k kind beat (run_state (scene (new_desk (setup_with p shares) (suc epoch) left script.clients) first trace) runners before) end result
       → IsRingLender → RingAt k disk runs keys most p f (disk (runs first).store) (ring_public p f) (ring_hidden f) 0 first
-      → (s : ServedOver ring_kind ring_lives disk (manner beat threads most) keys p f (f.run).sealer script (told_by (runs end.scene.vault)) (runs first).store (runs end.scene.vault).store before end.output trace end.scene.trace (err_of result))
+      → (s : ServedOver ring_kind ring_lives disk (manner beat threads most shares) keys p f (f.run).sealer script (told_by (runs end.scene.vault)) (runs first).store (runs end.scene.vault).store before end.output trace end.scene.trace (err_of result))
       × CallsBehind k first (calls s.is_served.served.evidence.acts) end.scene.vault (err_of result)
-  ring_serves beat threads kind means script sound may trace runners before end result epoch left unbroken named planned epoch_is left_is run l begun =
+  ring_serves beat threads shares kind means script sound may trace runners before end result epoch left unbroken named planned epoch_is left_is run l begun =
       serves_on k ring_kind disk (λ v. (runs v).store) keys most p f first (RingBehind k disk runs words keys most p f (disk (runs first).store)) (λ v. told_by (runs v)) (ring_does k disk runs words keys most p f (disk (runs first).store)) tells ring_lives at_rest at_stop at_stage
-      beat threads kind means (f.run).sealer script sound may trace runners before end result epoch left unbroken named planned epoch_is left_is run l begun
+      beat threads shares kind means (f.run).sealer script sound may trace runners before end result epoch left unbroken named planned epoch_is left_is run l begun

@@ -39,6 +39,8 @@ use Rattle.ob_runner.specs.RunnerViews.{plan_of, client_of}
 use Rattle.ob_runner.specs.Runners.{AreRunners, IsNewOf}
 use Rattle.ob_runner.specs.declared.runner.ScriptRunner.{ScriptRunner}
 use Rattle.ob_desk.specs.Beats.{BeatKind, beat_kind}
+use Rattle.ob_shares.specs.Shares.{no_shares}
+use Rattle.ob_shares.proofs.Fitting.{none_fit}
 use Rattle.ob_desk.specs.Desk.{DeskState, MayOpen, Run, new_desk, setup_of}
 use Rattle.ob_conduct.specs.Acts.{Act, calls, fault_of, history, records}
 use Rattle.ob_conduct.specs.declared.run_err.RunErr.{RunErr}
@@ -202,7 +204,7 @@ module _ {V : Type 0} (k : Kind V) (p : Params) (numbers : numbers_of p ≡ dril
   script = drill_script n
 
   pub may : MayOpen (setup_of p) (suc epoch) left script.clients
-  may = may_open p epoch left script small (omega (arith, left_is)) (drill_sound n)
+  may = may_open p no_shares epoch left script small (omega (arith, left_is)) (drill_sound n) (none_fit (length script.clients) p.places p.writes)
 
   abbrev base : DeskState
   base = new_desk (setup_of p) (suc epoch) left script.clients
@@ -226,9 +228,9 @@ module _ {V : Type 0} (k : Kind V) (p : Params) (numbers : numbers_of p ≡ dril
         let (acts, d, shaped) = runs_shaped true k script_runners beat _ _ (Ok tt) run in
         let (answered, over, written, still) = d.ends in
         let begun : HoldsMap k first finite.empty = (v, held, none) in
-        let served = is_served k beat script_runners runs_scripts p epoch left script (drill_sound n) may first trace runners no_output _ acts (Ok tt) are.clients_are planned d (AreShaped true (map client_of runners)) (λ m. ⊥) shaped (λ m none. absurd none) in
-        let same = sym (its_acts k beat script_runners runs_scripts p epoch left script (drill_sound n) may first trace runners no_output _ acts (Ok tt) are.clients_are planned d (AreShaped true (map client_of runners)) (λ m. ⊥) shaped (λ m none. absurd none)) in
-        let same_desk = sym (its_desk k beat script_runners runs_scripts p epoch left script (drill_sound n) may first trace runners no_output _ acts (Ok tt) are.clients_are planned d (AreShaped true (map client_of runners)) (λ m. ⊥) shaped (λ m none. absurd none)) in
+        let served = is_served k beat script_runners runs_scripts (setup_of p) epoch left script (drill_sound n) may first trace runners no_output _ acts (Ok tt) are.clients_are planned d (AreShaped true (map client_of runners)) (λ m. ⊥) shaped (λ m none. absurd none) in
+        let same = sym (its_acts k beat script_runners runs_scripts (setup_of p) epoch left script (drill_sound n) may first trace runners no_output _ acts (Ok tt) are.clients_are planned d (AreShaped true (map client_of runners)) (λ m. ⊥) shaped (λ m none. absurd none)) in
+        let same_desk = sym (its_desk k beat script_runners runs_scripts (setup_of p) epoch left script (drill_sound n) may first trace runners no_output _ acts (Ok tt) are.clients_are planned d (AreShaped true (map client_of runners)) (λ m. ⊥) shaped (λ m none. absurd none)) in
         let last = contents finite.empty (records acts) in
         let fed = subst (λ (x : DeskState). Run finite.empty base (history served.evidence.acts) last x) same_desk (subst (λ (xs : List Act). Run finite.empty base (history xs) last desk) same (d.serial finite.empty begun).0) in
         record {
@@ -241,7 +243,7 @@ module _ {V : Type 0} (k : Kind V) (p : Params) (numbers : numbers_of p ≡ dril
           counts = λ patient.
               (served_counts (AreShaped true (map client_of runners)) (λ m. ⊥) beat p epoch left 1 script (records acts) finite.empty last served refl patient may fed
               (adders n) (all_its_own n) (ask_few n left p (omega (arith, left_is, batches_are p numbers)) (omega (arith, writes_are p numbers))) (let many = its_length n in omega (arith, many, few)) (λ key. finite.get-empty nat_cmp key)).1
-              (all_served k beat script_runners runs_scripts p epoch left script (drill_sound n) may first trace runners no_output _ acts (Ok tt) are.clients_are planned d over);
+              (all_served k beat script_runners runs_scripts (setup_of p) epoch left script (drill_sound n) may first trace runners no_output _ acts (Ok tt) are.clients_are planned d over);
         }
 
 -- the same of a run over a vault that tells of itself what it holds
@@ -304,7 +306,7 @@ all_kept (r ∷ records) all = one_more r records (all 0 r (omega arith)) ∙ ap
 
 -- each transaction of the script is committed, where it was served from an empty map on
 pub all_committed : (p : Params) → numbers_of p ≡ drill_numbers → (n : ℕ) → n ≤ 10000 → (beat : BeatKind) (keys : Keys) (opened : Disk) (f : RingFound) → (f.run).left ≡ p.batches → IsRingMap keys p opened f finite.empty → (records : List (EpochRecord ℕ))
-    → ScriptServed ring_kind (manner beat true 4) keys p opened f (drill_script n) records None → IsPatient beat → AllCommitted n records
+    → ScriptServed ring_kind (manner beat true 4 no_shares) keys p opened f (drill_script n) records None → IsPatient beat → AllCommitted n records
 all_committed p numbers n few beat keys opened f left is_map records s patient =
     let script = drill_script n in
     let counted = served_counts (AreShaped true script.clients) (ring_kind.is_map keys p opened f) beat p (f.run).epoch (f.run).left 1 script records finite.empty (contents finite.empty records) s.served refl patient s.opens (subst (λ (rs : List (EpochRecord ℕ)). Run finite.empty (new_desk (setup_of p) (suc (f.run).epoch) (f.run).left script.clients) (history s.served.evidence.acts) (contents finite.empty rs) s.served.evidence.desk) (sym s.served.told_are) (s.served.evidence.fed finite.empty is_map))

@@ -37,7 +37,8 @@ use Rattle.ob_vault.specs.Steps.{IsAnsweredCall, Stops, IsCallOfKind}
 use Rattle.ob_vault.specs.KindLaws.{AllAnswered}
 use Rattle.ob_vault.proofs.Shapes.{answered_join as answers_join, shapes_join, answered_not_refused, refused_last}
 use Rattle.ob_script.specs.Script.{ScriptTxn, Scripts, AreSound, asks_by}
-use Rattle.ob_desk.specs.Desk.{DeskState, MayOpen, Run, new_desk, setup_of}
+use Rattle.ob_shares.specs.declared.shares.Shares.{Shares}
+use Rattle.ob_desk.specs.Desk.{DeskState, MayOpen, Run, new_desk, setup_with}
 use Rattle.ob_conduct.specs.Acts.{Act, Says, Halts, Rests as Looked, Takes, Delivers, DeliverFails, FetchFails, RestUnwatched, Closes, Publishes, Refuses, Unprinted, Unwatched, calls, history, vault_calls, rest_fetches, fault_in, fault_of as stop_fault, fault_told, records as records_of_acts}
 use Rattle.ob_conduct.specs.declared.run_err.RunErr.{RunErr}
 use Rattle.ob_conduct.specs.declared.run_err.RunErr.TheVariants as failed
@@ -472,13 +473,13 @@ module _ {V S : Type 0} (k : Kind V) (store : StoreKind) (disk : S → Disk) (st
     pub seals : (w : V) (asked : List (VaultCall × VaultAnswer)) (h : store.Hidden) (err : Option RunErr) → Parted k start w asked err (Hides h)
         → LivesBehind disk under sealing (store_of start) (store_of w) (map (λ s. s.1) asked) (store.seals h) × ((disk (store_of w)).tells → IsInClearBehind under (disk (store_of start)) (disk (store_of w)) err)
 
-  module _ {U : Type 0} (beat : BeatKind) (threads : Bool) (kind : RunnerKind U (List ScriptTxn))
+  module _ {U : Type 0} (beat : BeatKind) (threads : Bool) (shares : Shares) (kind : RunnerKind U (List ScriptTxn))
       (means : RunsScripts kind)
-      (sealing : Sealing) (script : Scripts) (sound : AreSound script) (may : MayOpen (setup_of p) (suc (store.epoch found)) (store.left p found) script.clients)
+      (sealing : Sealing) (script : Scripts) (sound : AreSound script) (may : MayOpen (setup_with p shares) (suc (store.epoch found)) (store.left p found) script.clients)
       (trace : Trace) (runners : List U) (before : Flow) (end : RunState V U) (result : Result (Unit {0}) RunErr)
       (unbroken : trace.broken ≡ false) (named : map kind.client runners ≡ script.clients) (planned : All (λ u. kind.plan u ≡ asks_by (kind.client u) script.txns) runners) where
     abbrev base : DeskState
-    base = new_desk (setup_of p) (suc (store.epoch found)) (store.left p found) script.clients
+    base = new_desk (setup_with p shares) (suc (store.epoch found)) (store.left p found) script.clients
 
     abbrev begin : RunState V U
     begin = run_state (scene base start trace) runners before
@@ -502,10 +503,10 @@ module _ {V S : Type 0} (k : Kind V) (store : StoreKind) (disk : S → Disk) (st
       comes_next epoch same (Some r) (err, told, f, (writes, refused, act_is, u, the)) =
           let is = f.acts_are ∙ ap (λ (x : Act). f.front ++ x ∷ f.behind) act_is in
           subst (ComesNext (store.is_map under p (disk (store_of start)) found) (suc epoch + length records) script records) the (record {
-            epoch_is = due_epoch k kind p beat begin (setup_of p) (suc (store.epoch found)) (store.left p found) script.clients refl acts end result d f.front writes refused f.behind is f.says u ∙ ap (λ e. suc e + length records) (sym same);
-            served = next_served k beat kind means p (store.epoch found) (store.left p found) script sound may start trace runners before end acts result named planned d f.front writes refused f.behind is f.says u;
-            in_order = due_in_order k kind p beat begin (setup_of p) (suc (store.epoch found)) (store.left p found) script.clients refl acts end result d f.front writes refused f.behind is f.says u;
-            one_by_one = λ m of. due_one_by_one k kind p beat begin (setup_of p) (suc (store.epoch found)) (store.left p found) script.clients refl acts end result d f.front writes refused f.behind is f.says u m (held_map m of);
+            epoch_is = due_epoch k kind p beat begin (setup_with p shares) (suc (store.epoch found)) (store.left p found) script.clients refl acts end result d f.front writes refused f.behind is f.says u ∙ ap (λ e. suc e + length records) (sym same);
+            served = next_served k beat kind means (setup_with p shares) (store.epoch found) (store.left p found) script sound may start trace runners before end acts result named planned d f.front writes refused f.behind is f.says u;
+            in_order = due_in_order k kind p beat begin (setup_with p shares) (suc (store.epoch found)) (store.left p found) script.clients refl acts end result d f.front writes refused f.behind is f.says u;
+            one_by_one = λ m of. due_one_by_one k kind p beat begin (setup_with p shares) (suc (store.epoch found)) (store.left p found) script.clients refl acts end result d f.front writes refused f.behind is f.says u m (held_map m of);
           })
 
       doubt_told : (epoch n : ℕ) → epoch ≡ n → TellsDoubt epoch result → err_of result ≡ Some (failed.Fault (StoreFault (Some n)))
@@ -524,7 +525,7 @@ module _ {V S : Type 0} (k : Kind V) (store : StoreKind) (disk : S → Disk) (st
       staged_stores at (r ∷ told) next from to (mid, leaves, rest) = (store_of mid, as_stored (IsThisOrNext at (Some r)) from mid leaves, staged_stores (next_at at r) told next mid to rest)
 
       left : (at : Standing) → (disk (store_of start)).tells → IsSynced (disk (store_of start)) → IsOpenedAt store under p at found (disk (store_of start))
-          → IsLeftOnDisk store under p found at script records (err_of result) acts disk (disk (store_of start)) (disk (store_of last))
+          → IsLeftOnDisk store under p shares found at script records (err_of result) acts disk (disk (store_of start)) (disk (store_of last))
       left at tells settled opened =
           let v = opened_with p (store.left p found) at in
           let same : at.epoch ≡ store.epoch found = sym opened.epoch in
@@ -541,7 +542,7 @@ module _ {V S : Type 0} (k : Kind V) (store : StoreKind) (disk : S → Disk) (st
           }
 
       whole : (r : Result (Unit {0}) RunErr) → RunEnds k begin end acts r → r ≡ result → err_of result ≡ None → ClientsServedAll script records
-      whole (Ok done) (answered, over, written, still) is none = all_served k beat kind means p (store.epoch found) (store.left p found) script sound may start trace runners before end acts result named planned d over
+      whole (Ok done) (answered, over, written, still) is none = all_served k beat kind means (setup_with p shares) (store.epoch found) (store.left p found) script sound may start trace runners before end acts result named planned d over
       whole (Err err) ends is none = absurd (no_err err (ap err_of is ∙ none))
         where
           no_err : (f : RunErr) → ◌≡◌ {A = Option RunErr} (Some f) None → ⊥
@@ -576,14 +577,14 @@ module _ {V S : Type 0} (k : Kind V) (store : StoreKind) (disk : S → Disk) (st
       fed_on : (m : Map nat_cmp) → store.is_map under p (disk (store_of start)) found m → Run m base (history acts) (contents m records) end.scene.desk
       fed_on m of = (d.serial m (held_map m of)).0
 
-      abbrev is_run : IsServed (AreShaped threads script.clients) (store.is_map under p (disk (store_of start)) found) beat p (store.epoch found) (store.left p found) script records
-      is_run = is_served k beat kind means p (store.epoch found) (store.left p found) script sound may start trace runners before end acts result named planned d (AreShaped threads script.clients) (store.is_map under p (disk (store_of start)) found) rounds fed_on
+      abbrev is_run : IsServed (AreShaped threads script.clients) (store.is_map under p (disk (store_of start)) found) beat (setup_with p shares) (store.epoch found) (store.left p found) script records
+      is_run = is_served k beat kind means (setup_with p shares) (store.epoch found) (store.left p found) script sound may start trace runners before end acts result named planned d (AreShaped threads script.clients) (store.is_map under p (disk (store_of start)) found) rounds fed_on
 
-      acts_are : acts ≡ (is_served k beat kind means p (store.epoch found) (store.left p found) script sound may start trace runners before end acts result named planned d (AreShaped threads script.clients) (store.is_map under p (disk (store_of start)) found) rounds fed_on).evidence.acts
-      acts_are = sym (its_acts k beat kind means p (store.epoch found) (store.left p found) script sound may start trace runners before end acts result named planned d (AreShaped threads script.clients) (store.is_map under p (disk (store_of start)) found) rounds fed_on)
+      acts_are : acts ≡ (is_served k beat kind means (setup_with p shares) (store.epoch found) (store.left p found) script sound may start trace runners before end acts result named planned d (AreShaped threads script.clients) (store.is_map under p (disk (store_of start)) found) rounds fed_on).evidence.acts
+      acts_are = sym (its_acts k beat kind means (setup_with p shares) (store.epoch found) (store.left p found) script sound may start trace runners before end acts result named planned d (AreShaped threads script.clients) (store.is_map under p (disk (store_of start)) found) rounds fed_on)
 
-      desk_is : end.scene.desk ≡ (is_served k beat kind means p (store.epoch found) (store.left p found) script sound may start trace runners before end acts result named planned d (AreShaped threads script.clients) (store.is_map under p (disk (store_of start)) found) rounds fed_on).evidence.desk
-      desk_is = sym (its_desk k beat kind means p (store.epoch found) (store.left p found) script sound may start trace runners before end acts result named planned d (AreShaped threads script.clients) (store.is_map under p (disk (store_of start)) found) rounds fed_on)
+      desk_is : end.scene.desk ≡ (is_served k beat kind means (setup_with p shares) (store.epoch found) (store.left p found) script sound may start trace runners before end acts result named planned d (AreShaped threads script.clients) (store.is_map under p (disk (store_of start)) found) rounds fed_on).evidence.desk
+      desk_is = sym (its_desk k beat kind means (setup_with p shares) (store.epoch found) (store.left p found) script sound may start trace runners before end acts result named planned d (AreShaped threads script.clients) (store.is_map under p (disk (store_of start)) found) rounds fed_on)
 
       ends_with : (r : Result (Unit {0}) RunErr) → RunEnds k begin end acts r → EndsWith (err_of r) acts end.scene.desk
       ends_with (Ok done) (answered, over, written, still) = over
@@ -600,15 +601,15 @@ module _ {V S : Type 0} (k : Kind V) (store : StoreKind) (disk : S → Disk) (st
           × Staged (refused (calls xs)) (tape_of last).words t.behind (store_of last) [] [] (store.public p found) (store.hidden p found) (answered (calls xs)) t.steps (store_of start)
 
       -- the acts, as a list of the world's events
-      listed : ListsActs store under p (disk (store_of start)) found script acts
-      listed m of = are_listed k store under p (record { epoch = store.epoch found; content = m }) (store.left p found) script.clients beat threads start last acts end.scene.desk (l.holds m of) chain d.allowed d.leads rounds
+      listed : ListsActs store under p shares (disk (store_of start)) found script acts
+      listed m of = are_listed k store under (setup_with p shares) (record { epoch = store.epoch found; content = m }) (store.left p found) script.clients beat threads start last acts end.scene.desk (l.holds m of) chain d.allowed d.leads rounds
 
       -- the vault's calls, beside what serving does
       calls_behind : CallsBehind k start (calls is_run.evidence.acts) last (err_of result)
       calls_behind = subst (λ (xs : List Act). CallsBehind k start (calls xs) last (err_of result)) acts_are (record { called = chain; answered = all_given result d.ends })
 
       -- what serving does
-      pub serves : At (store.public p found) (store.hidden p found) [] 0 start → (s : ServedOver store life disk (manner beat threads most) under p found sealing script (tape_of last) (store_of start) (store_of last) before after trace end.scene.trace (err_of result))
+      pub serves : At (store.public p found) (store.hidden p found) [] 0 start → (s : ServedOver store life disk (manner beat threads most shares) under p found sealing script (tape_of last) (store_of start) (store_of last) before after trace end.scene.trace (err_of result))
           × CallsBehind k start (calls s.is_served.served.evidence.acts) last (err_of result)
       serves begun =
           let e = ending start last trace end.scene.trace unbroken before after records begun l.faults acts d.notes refl d.chain d.wrote base end.scene.desk runners end.runners result d.ends in
@@ -624,7 +625,7 @@ module _ {V S : Type 0} (k : Kind V) (store : StoreKind) (disk : S → Disk) (st
                 opens = may;
                 one_by_one = λ m of. d.one_by_one m (held_map m of);
               };
-              world = subst (λ (xs : List Act). ListsActs store under p (disk (store_of start)) found script xs) acts_are listed;
+              world = subst (λ (xs : List Act). ListsActs store under p shares (disk (store_of start)) found script xs) acts_are listed;
               cause = told.3;
               shown = told.1;
               watched = watch_whole result d.ends;
@@ -636,7 +637,7 @@ module _ {V S : Type 0} (k : Kind V) (store : StoreKind) (disk : S → Disk) (st
               seen = e.seen;
               goes = l.goes start last (goes_all k start trace (calls acts) d.notes last end.scene.trace d.chain);
               tells = still_told result d.ends;
-              left = λ at tells settled opened. subst (λ (xs : List Act). IsLeftOnDisk store under p found at script records (err_of result) xs disk (disk (store_of start)) (disk (store_of last))) acts_are (left at tells settled opened);
+              left = λ at tells settled opened. subst (λ (xs : List Act). IsLeftOnDisk store under p shares found at script records (err_of result) xs disk (disk (store_of start)) (disk (store_of last))) acts_are (left at tells settled opened);
               seals_on = told.4;
               clear = clear;
               goes_on = told.2;
@@ -646,20 +647,20 @@ module _ {V S : Type 0} (k : Kind V) (store : StoreKind) (disk : S → Disk) (st
           )
 
   -- the same, from the epoch and the batches left that the vault tells
-  pub serves_on : {U : Type 0} (beat : BeatKind) (threads : Bool) (kind : RunnerKind U (List ScriptTxn))
+  pub serves_on : {U : Type 0} (beat : BeatKind) (threads : Bool) (shares : Shares) (kind : RunnerKind U (List ScriptTxn))
       (means : RunsScripts kind)
-      (sealing : Sealing) (script : Scripts) (sound : AreSound script) (may : MayOpen (setup_of p) (suc (store.epoch found)) (store.left p found) script.clients)
+      (sealing : Sealing) (script : Scripts) (sound : AreSound script) (may : MayOpen (setup_with p shares) (suc (store.epoch found)) (store.left p found) script.clients)
       (trace : Trace) (runners : List U) (before : Flow) (end : RunState V U) (result : Result (Unit {0}) RunErr) (epoch left : ℕ)
       → trace.broken ≡ false → map kind.client runners ≡ script.clients → All (λ u. kind.plan u ≡ asks_by (kind.client u) script.txns) runners → epoch ≡ store.epoch found → left ≡ store.left p found
-      → RunsBy threads k kind beat (run_state (scene (new_desk (setup_of p) (suc epoch) left script.clients) start trace) runners before) end result
+      → RunsBy threads k kind beat (run_state (scene (new_desk (setup_with p shares) (suc epoch) left script.clients) start trace) runners before) end result
       → IsLender sealing → At (store.public p found) (store.hidden p found) [] 0 start
-      → (s : ServedOver store life disk (manner beat threads most) under p found sealing script (tape_of end.scene.vault) (store_of start) (store_of end.scene.vault) before end.output trace end.scene.trace (err_of result))
+      → (s : ServedOver store life disk (manner beat threads most shares) under p found sealing script (tape_of end.scene.vault) (store_of start) (store_of end.scene.vault) before end.output trace end.scene.trace (err_of result))
       × CallsBehind k start (calls s.is_served.served.evidence.acts) end.scene.vault (err_of result)
-  serves_on beat threads kind means sealing script sound may trace runners before end result epoch left unbroken named planned epoch_is left_is run l begun =
-      let run_is = subst (λ n. RunsBy threads k kind beat (run_state (scene (new_desk (setup_of p) (suc (store.epoch found)) n script.clients) start trace) runners before) end result) left_is
-      (subst (λ e. RunsBy threads k kind beat (run_state (scene (new_desk (setup_of p) (suc e) left script.clients) start trace) runners before) end result) epoch_is run) in
+  serves_on beat threads shares kind means sealing script sound may trace runners before end result epoch left unbroken named planned epoch_is left_is run l begun =
+      let run_is = subst (λ n. RunsBy threads k kind beat (run_state (scene (new_desk (setup_with p shares) (suc (store.epoch found)) n script.clients) start trace) runners before) end result) left_is
+      (subst (λ e. RunsBy threads k kind beat (run_state (scene (new_desk (setup_with p shares) (suc e) left script.clients) start trace) runners before) end result) epoch_is run) in
       let (acts, d, shaped) = runs_shaped threads k kind beat _ end result run_is in
-      serves beat threads kind means sealing script sound may trace runners before end result unbroken named planned acts d (subst (λ numbers. AreShaped threads numbers acts) named shaped) l begun
+      serves beat threads shares kind means sealing script sound may trace runners before end result unbroken named planned acts d (subst (λ numbers. AreShaped threads numbers acts) named shaped) l begun
 
 -- the same by other names
 pub renamed : (store : StoreKind) (life : LifeWords store) {S : Type 0} (disk : S → Disk) (by : Manner) (keys : Keys) (p : Params) (found : store.Found) (was sealing : Sealing) (script : Scripts) (first_told tape : Given) (a old b new : S) (before after : Flow) (t u : Trace) (err : Option RunErr)

@@ -6,7 +6,8 @@ use Rattle.ob_base.specs.declared.fault.Fault.TheVariants.{Memory, StoreFault, S
 use Rattle.ob_base.specs.declared.params.Params.{Params}
 use Rattle.ob_conduct.specs.declared.run_err.RunErr.{RunErr}
 use Rattle.ob_conduct.specs.declared.run_err.RunErr.TheVariants as failed
-use Rattle.ob_desk.specs.Desk.{DeskState, new_desk, setup_of}
+use Rattle.ob_shares.specs.declared.shares.Shares.{Shares}
+use Rattle.ob_desk.specs.Desk.{DeskState, new_desk, setup_with}
 use Rattle.ob_recover.specs.Life.{LifeAct, LifeState, WordId}
 use Rattle.ob_script.specs.Script.{Scripts}
 use Rattle.ob_seal.specs.declared.keys.Keys.{Keys}
@@ -35,8 +36,8 @@ pub record RunCall (S : Type 0) : Type 0 where
   pub status : ℕ
 
 -- the desk that is made behind an opening
-abbrev pub desk_behind : Params → RingFound → Scripts → DeskState
-desk_behind p found script = new_desk (setup_of p) (suc (ring_kind.epoch found)) (ring_kind.left p found) script.clients
+abbrev pub desk_behind : Params → Shares → RingFound → Scripts → DeskState
+desk_behind p shares found script = new_desk (setup_with p shares) (suc (ring_kind.epoch found)) (ring_kind.left p found) script.clients
 
 -- The image stands for this, at the generation that the run began.
 abbrev pub StandsNow : Keys → Params → RingFound → Image → Standing → Type 0

@@ -4,6 +4,7 @@ use Rattle.std.specs.Borrow.{Bor, MutBor}
 use Rattle.ob_base.specs.declared.params.Params.{Params}
 use Rattle.ob_base.specs.declared.fault.Fault.TheVariants.{StashFull}
 use Rattle.ob_base.specs.Causes.{Rose}
+use Rattle.ob_shares.specs.declared.shares.Shares.{Shares}
 use Rattle.ob_desk.specs.Beats.{BeatKind}
 use Rattle.ob_seal.specs.declared.keys.Keys.{Keys}
 use Rattle.ob_store.specs.Disk.{Disk}
@@ -11,11 +12,11 @@ use Rattle.ob_serial.specs.Serial.{EpochRecord}
 use Rattle.ob_serial.specs.Vaults.{Standing}
 use Rattle.ob_script.specs.Script.{Scripts, IsScript, limit}
 use Rattle.ob_vault.specs.Kinds.{StoreKind}
-use Rattle.ob_words.specs.Reading.{asked_by, format_asked, run_asked, audit_asked, drill_asked}
-use Rattle.ob_words.specs.Work.{AreParams, AreLanes, IsCount, HasKeys}
+use Rattle.ob_words.specs.Reading.{AskedShares, asked_by, format_asked, run_asked, audit_asked, drill_asked}
+use Rattle.ob_words.specs.Work.{AreParams, AreLanes, AreShares, IsCount, HasKeys}
 use Rattle.ob_top.specs.Outside.{Given, Outside, Left, OfStore, outside}
 use Rattle.ob_top.specs.Runs.{Ran}
-use Rattle.ob_top.specs.Parts.{Manner, manner}
+use Rattle.ob_top.specs.Parts.{Manner, SharesFit, manner}
 use Rattle.ob_store.specs.Lines.{Trace}
 use Rattle.ob_io.specs.Streams.{Flow}
 use Rattle.ob_conduct.specs.declared.run_err.RunErr.TheVariants as failed
@@ -46,7 +47,7 @@ module _ {W : Type 0} (flow : W → Flow) (words : List (List ℕ)) (text : Opti
     pub trace_holds : TraceHolds flow was is trace
 
   -- A script can be run: the words ask for `run`, with lanes in range; the keys are keys; the store tells its cells, and they stand for a map under
-  -- these keys; the bytes that come in are the script; no count of faults rose, the store's, the input's, the output's or the trace's; and no
+  -- these keys; the bytes that come in are the script, whose clients may have the shares; no count of faults rose, the store's, the input's, the output's or the trace's; and no
   -- number comes to its end.
   pub record CanRun (store : StoreKind) (script : Scripts) : Type 0 where
     pub store_path : List ℕ
@@ -54,9 +55,12 @@ module _ {W : Type 0} (flow : W → Flow) (words : List (List ℕ)) (text : Opti
     pub lanes : Option (List ℕ)
     pub turns : Bool
     pub trace : Option (List ℕ)
-    pub asked : asked_by words ≡ Some (run_asked store_path keys_path lanes turns trace)
+    pub limits : AskedShares
+    pub asked : asked_by words ≡ Some (run_asked store_path keys_path lanes turns trace limits)
     pub k : ℕ
     pub in_range : AreLanes lanes k
+    pub shares : Shares
+    pub given : AreShares limits shares
     pub keys : Keys
     pub has : HasKeys text keys
     pub tells : old.tells
@@ -67,6 +71,7 @@ module _ {W : Type 0} (flow : W → Flow) (words : List (List ℕ)) (text : Opti
     pub bytes : List ℕ
     pub told : before.input.bytes ≡ Some bytes
     pub is_script : IsScript p.keys (take (limit + 1) bytes) script
+    pub fits : SharesFit p script shares
     pub store_holds : Rose old.faults new.faults → ⊥
     pub input_holds : Rose before.input.faults after.input.faults → ⊥
     pub output_holds : Rose before.output.faults after.output.faults → ⊥
@@ -95,7 +100,7 @@ module _ {S W : Type 0} (disk : S → Disk) (flow : W → Flow) (beat : BeatKind
   DoesWhatItCan old new =
       (CanFormat flow words text (disk old) (disk new) was is before after → (status ≡ 0) ⊎ (status ≡ 9))
       × ((script : Scripts) (can : CanRun flow words text (disk old) (disk new) was is before after ring_kind script) → (status ≡ 0)
-      ⊎ ((status ≡ 9) ⊎ StopsFull (manner beat (not can.turns) can.k) can.keys can.p old new))
+      ⊎ ((status ≡ 9) ⊎ StopsFull (manner beat (not can.turns) can.k can.shares) can.keys can.p old new))
 
   abbrev pub Completes : Option (MutBor S) → Left S → Type 0
   Completes entry exit = OfStore entry exit (Unit {0}) DoesWhatItCan

@@ -6,6 +6,7 @@ use Rattle.ob_conduct.specs.Acts.{calls, history}
 use Rattle.ob_conduct.specs.Left.{IsLeftNow}
 use Rattle.ob_conduct.specs.Records.{contents}
 use Rattle.ob_conduct.specs.declared.run_err.RunErr.{RunErr}
+use Rattle.ob_desk.specs.Desk.{setup_with}
 use Rattle.ob_io.specs.Flows.{appended}
 use Rattle.ob_outcomes.specs.Served.{ClientsServed, ClientsServedAll, IsServed}
 use Rattle.ob_pads.specs.Lives.{LivesTo}
@@ -72,8 +73,8 @@ module _ {S : Type 0} (disk : S → Disk) (keys : Keys) (p : Params) (at : Stand
     -- they are what the clients' scripts ask for, in order, each once, and no others; all of them where nothing cut the run off.
     pub scripts : ClientsServed run.script run.records × (run.err ≡ None → ClientsServedAll run.script run.records)
     -- Behind them is one history of clients, workers and epoch ends, a list of the world's events; it shows how each transaction ended.
-    pub served : IsServed (AreShaped call.by.threads run.script.clients) (ring_kind.is_map keys p (disk run.opened) run.found) call.by.beat p (ring_kind.epoch run.found) (ring_kind.left p run.found) run.script run.records
-    pub world : AreListed ring_kind keys p at (ring_kind.left p run.found) run.script.clients served.evidence.acts
+    pub served : IsServed (AreShaped call.by.threads run.script.clients) (ring_kind.is_map keys p (disk run.opened) run.found) call.by.beat (setup_with p call.by.shares) (ring_kind.epoch run.found) (ring_kind.left p run.found) run.script run.records
+    pub world : AreListed ring_kind keys (setup_with p call.by.shares) at (ring_kind.left p run.found) run.script.clients served.evidence.acts
     -- At its end all clients signed off, and all that they began is told; or it stopped for what cut it off, which has its cause and no other.
     pub over : EndsWith run.err served.evidence.acts served.evidence.desk × (run.err ≡ None → (client : ℕ) → TellAll client (txns_by client run.records) (told_of (said_by client (history served.evidence.acts))))
     pub trace : IsTraced ring_kind call.by.lanes p run.found call.tape.words (calls served.evidence.acts) (told_fault run.err) run.events
@@ -84,7 +85,7 @@ module _ {S : Type 0} (disk : S → Disk) (keys : Keys) (p : Params) (at : Stand
     pub opening : LeavesOnly (disk call.old) (disk run.opened) (StandsAsBefore ring_kind keys p (disk call.old))
     pub prefix : StagedFrom disk (StandsNow keys p run.found) at run.records run.next (disk run.opened) (disk call.new)
     -- and at most the next one, whose end was begun, as the history had closed it;
-    pub next : IsNextBy (desk_behind p run.found run.script) served.evidence.acts run.next × IsNextEpoch (λ m. m ≡ at.content) (suc at.epoch + length run.records) run.script run.records run.next
+    pub next : IsNextBy (desk_behind p call.by.shares run.found run.script) served.evidence.acts run.next × IsNextEpoch (λ m. m ≡ at.content) (suc at.epoch + length run.records) run.script run.records run.next
     -- so in the end every epoch whose lines stand in the output: each image, and what reads give, where they are told.
     pub kept : (c : Image) → IsImageOf (disk call.new) c → StandsIn (StandsNow keys p run.found) (IsLeftNow (opened_with p (ring_kind.left p run.found) at) run.records run.next (IsToldInDoubt (suc at.epoch + length run.records) run.err)) c
     -- What the store sees is the public schedule: an opening's, and (trace) that of batches and ends as they followed, filled by what these draw.

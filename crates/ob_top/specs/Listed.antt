@@ -6,7 +6,7 @@ use Rattle.ob_seal.specs.declared.keys.Keys.{Keys}
 use Rattle.ob_serial.specs.Vaults.{Standing}
 use Rattle.ob_vault.specs.Kinds.{Stands, StoreKind}
 use Rattle.ob_world.specs.Courses.{Course}
-use Rattle.ob_desk.specs.Desk.{setup_of}
+use Rattle.ob_desk.specs.Desk.{Setup}
 use Rattle.ob_world.specs.Headlines.{HeadlineHolds}
 use Rattle.ob_world.specs.Weaves.{reports_of, woven}
 use Rattle.ob_world.specs.Worlds.{IsWorld, World, first_world}
@@ -33,8 +33,8 @@ store_course store keys p = record {
 
 -- The acts are a list of the world's events, from the opening at this epoch and map on, with so many batches left: the clients' and the
 -- driver's calls of the desk, the vault's calls right behind the batches and closes that they are made for, and the reports.
-abbrev pub AreListed : StoreKind → Keys → Params → Standing → (left : ℕ) → (clients : List ℕ) → List Act → Type 0
-AreListed store keys p at left clients acts = (last : World (Unit {0})) × IsWorld (store_course store keys p) (first_world (setup_of p) clients at left tt) (woven acts (reports_of acts)) last
+abbrev pub AreListed : StoreKind → Keys → Setup → Standing → (left : ℕ) → (clients : List ℕ) → List Act → Type 0
+AreListed store keys setup at left clients acts = (last : World (Unit {0})) × IsWorld (store_course store keys setup.params) (first_world setup clients at left tt) (woven acts (reports_of acts)) last
 
 -- What holds of every list of events holds of theirs.
 abbrev pub ListsHold : StoreKind → Type 0

@@ -1,9 +1,11 @@
 -- How a run begins, what is seen of it, and how it ends: what the headline and `RunDone` share.
-use Rattle.std.specs.Prelude.{ℕ, Bool, ◌≡◌, ◌⊎◌, All, List, [], ◌∷◌, ◌++◌, map, Option, Some, None}
+use Rattle.std.specs.Prelude.{ℕ, Bool, ◌≡◌, ◌≤◌, ◌*◌, ◌⊎◌, length, All, List, [], ◌∷◌, ◌++◌, map, Option, Some, None}
 use Rattle.std.specs.Ordering.{nat_cmp}
 use Rattle.ob_base.specs.declared.params.Params.{Params}
 use Rattle.ob_seal.specs.declared.keys.Keys.{Keys}
 use Rattle.ob_base.specs.declared.fault.Fault.{Fault}
+use Rattle.ob_base.specs.declared.fault.Field.{Field}
+use Rattle.ob_base.specs.declared.fault.Field.TheVariants.{READS, WRITES}
 use Rattle.ob_base.specs.declared.fault.Fault.TheVariants.{Memory}
 use Rattle.ob_io.specs.Flows.{IsInput}
 use Rattle.ob_io.specs.Streams.{Flow}
@@ -20,6 +22,7 @@ use Rattle.ob_twin.specs.Keyed.{tagging}
 use Rattle.ob_vault.specs.Shapes.{Shape, answered, shapes, refused}
 use Rattle.ob_vault.specs.Kinds.{StoreKind}
 use Rattle.ob_vault.specs.KindShown.{AreDrawn, IsSeenCut, public_behind, steps_phases}
+use Rattle.ob_shares.specs.declared.shares.Shares.{Shares}
 use Rattle.ob_desk.specs.Desk.{DeskState}
 use Rattle.ob_desk.specs.Beats.{BeatKind}
 use Rattle.ob_script.specs.Script.{Scripts, IsScript, limit}
@@ -58,6 +61,22 @@ pub record CameIn (keys : ℕ) (before : Flow) (script : Scripts) : Type 0 where
   pub input_is : IsInput before.bytes limit input
   pub is_script : IsScript keys input script
 
+-- So many clients may have this share, where it is given: it isn't 0, and there is a place for each key that they may name together.
+abbrev pub ShareFits : ℕ → ℕ → Option ℕ → Type 0
+ShareFits clients places None = Unit {0}
+ShareFits clients places (Some keys) = (1 ≤ keys) × (clients * keys ≤ places)
+
+-- the script's clients may have these shares: of the places of a read batch, and of the write batch
+pub record SharesFit (p : Params) (script : Scripts) (shares : Shares) : Type 0 where
+  pub reads : ShareFits (length script.clients) p.places shares.reads
+  pub writes : ShareFits (length script.clients) p.writes shares.writes
+
+-- the first one that they may not have
+abbrev pub IsShareRefused : Params → Scripts → Shares → Field → Type 0
+IsShareRefused p script shares READS = ShareFits (length script.clients) p.places shares.reads → ⊥
+IsShareRefused p script shares WRITES = ShareFits (length script.clients) p.places shares.reads × (ShareFits (length script.clients) p.writes shares.writes → ⊥)
+IsShareRefused p script shares _ = ⊥
+
 -- A script came in for a store of these parameters, and this was found in it.
 pub record IsOpened (store : StoreKind) (keys : Keys) (old : Disk) (before : Flow) (p : Params) (script : Scripts) (found : store.Found) (start : store.Start) : Type 0 where
   pub head : old.tells → store.is_head keys p (old.cells 0)
@@ -73,15 +92,16 @@ abbrev pub EndsWith : Option RunErr → List Act → DeskState → Type 0
 EndsWith None acts desk = IsOver desk
 EndsWith (Some err) acts desk = ((err ≡ failed.Fault Memory) × (acts ≡ [])) ⊎ ((front : List Act) × (act : Act) × (behind : List Act) × (acts ≡ front ++ act ∷ behind) × All IsSaid behind × (fault_told act ≡ Some err) × IsStoppedFor desk.stop (fault_of err) act front)
 
--- How a run goes: at which looks its driver may act, whether its clients have threads of their own, and how many lanes may share a
--- phase's reads.
+-- How a run goes: at which looks its driver may act, whether its clients have threads of their own, how many lanes may share a phase's
+-- reads, and which shares each client has.
 pub record Manner : Type 0 where
   pub beat : BeatKind
   pub threads : Bool
   pub lanes : ℕ
+  pub shares : Shares
 
-abbrev pub manner : BeatKind → Bool → ℕ → Manner
-manner beat threads lanes = record { beat = beat; threads = threads; lanes = lanes }
+abbrev pub manner : BeatKind → Bool → ℕ → Shares → Manner
+manner beat threads lanes shares = record { beat = beat; threads = threads; lanes = lanes; shares = shares }
 
 -- What stands in the clear behind a run: each cell of the head and of the registers is as it was, or has what a register writes there, byte
 -- by byte. Where something cut the run off: but for one whose write the store refused, which was the last call; so where the store doesn't tell

@@ -3,8 +3,9 @@ use Rattle.std.specs.Prelude.{ℕ, suc, ◌≡◌, ◌⊎◌, ◌^◌, Bool, fal
 use Rattle.std.specs.Borrow.{Bor, MutBor}
 use Rattle.ob_base.specs.Causes.{Rose}
 use Rattle.ob_base.specs.declared.fault.Fault.{Fault}
-use Rattle.ob_base.specs.declared.fault.Fault.TheVariants.{Memory, BadScript, StoreFault, Worn, SourceFault, SinkFault}
+use Rattle.ob_base.specs.declared.fault.Fault.TheVariants.{Memory, BadParams, BadScript, StoreFault, Worn, SourceFault, SinkFault}
 use Rattle.ob_base.specs.declared.params.Params.{Params}
+use Rattle.ob_shares.specs.declared.shares.Shares.{Shares}
 use Rattle.ob_desk.specs.Beats.{BeatKind}
 use Rattle.ob_io.specs.Flows.{IsInput}
 use Rattle.ob_io.specs.Streams.{Flow}
@@ -12,7 +13,7 @@ use Rattle.ob_opening.specs.OpeningActs.{StandsInLife}
 use Rattle.ob_recover.specs.Life.{LifeAct}
 use Rattle.ob_report.specs.Faults.{fault_line, fault_status}
 use Rattle.ob_report.specs.Printed.{IsPrinted}
-use Rattle.ob_script.specs.Script.{IsFirstBad, limit}
+use Rattle.ob_script.specs.Script.{Scripts, IsFirstBad, limit}
 use Rattle.ob_seal.specs.declared.keys.Keys.{Keys}
 use Rattle.ob_serial.specs.Vaults.{Standing}
 use Rattle.ob_store.specs.Disk.{Disk, Image}
@@ -22,21 +23,22 @@ use Rattle.ob_twin.specs.Keyed.{tagging}
 use Rattle.ob_vault.specs.Kinds.{AllStand, StandsAsBefore}
 use Rattle.ob_vault.specs.Lives.{opening_acts}
 use Rattle.ob_vault.specs.RingKind.{ring_kind}
-use Rattle.ob_words.specs.Reading.{asked_by, run_asked}
-use Rattle.ob_words.specs.Work.{AreLanes, HasKeys}
+use Rattle.ob_words.specs.Reading.{AskedShares, asked_by, run_asked}
+use Rattle.ob_words.specs.Work.{AreLanes, AreShares, HasKeys}
 use Rattle.ob_top.specs.Calls.{RunCall}
 use Rattle.ob_top.specs.Headline.{Headline, RunTold, Stood}
 use Rattle.ob_top.specs.Outside.{Given, Left, OfStore, Outside}
 use Rattle.ob_top.specs.Pasts.{LeadsTo, PastLife, life_of, with_acts}
-use Rattle.ob_top.specs.Parts.{manner}
+use Rattle.ob_top.specs.Parts.{CameIn, IsShareRefused, manner}
 
 -- Why nothing was run over a store that stood: memory was wanting; the store failed; the input did, or has this first line that breaks the
--- grammar; the trace's sink failed, or none was handed in though it is asked for; or no generation is left.
+-- grammar; the clients of the script that came in may not have a share; the trace's sink failed, or none was handed in though it is asked for; or no generation is left.
 abbrev pub IsEarlyCause : {S : Type 0} → (S → Disk) → Params → PastLife → RunCall S → Fault → Type 0
 IsEarlyCause disk p past call Memory = Unit {0}
 IsEarlyCause disk p past call (StoreFault unsure) = Rose (disk call.old).faults (disk call.new).faults
 IsEarlyCause disk p past call SourceFault = Rose call.before.input.faults call.after.input.faults
 IsEarlyCause disk p past call (BadScript line) = (input : List ℕ) × IsInput call.before.input.bytes limit input × IsFirstBad p.keys input line
+IsEarlyCause disk p past call (BadParams field) = (script : Scripts) × CameIn p.keys call.before.input script × IsShareRefused p script call.by.shares field
 IsEarlyCause disk p past call SinkFault = (call.lacks_trace ≡ true) ⊎ Rose call.traced_before call.traced_after
 IsEarlyCause disk p past call (Worn number) = suc (life_of p past).generation ≡ 2 ^ 62
 IsEarlyCause disk p past call _ = ⊥
@@ -70,11 +72,11 @@ is_lacking (Some file) None = true
 is_lacking (Some file) (Some w) = false
 is_lacking None was = false
 
--- The words ask for `run`, with lanes in range, the keys are keys, and a store was handed in that stood.
+-- The words ask for `run`, with lanes in range and these shares, the keys are keys, and a store was handed in that stood.
 module _ {S W : Type 0} (disk : S → Disk) (flow : W → Flow) (beat : BeatKind) (words : List (List ℕ)) (text : Option (Bor (List ℕ))) (entry : Option (MutBor S)) (exit : Left S) (was is : Option W) (before after : Outside) (status : ℕ) (tape : Given) where
   abbrev pub KeepsHeadline : Type 0
-  KeepsHeadline = (store_path keys_path : List ℕ) (lanes : Option (List ℕ)) (turns : Bool) (trace : Option (List ℕ)) (k : ℕ) (keys : Keys)
-      → asked_by words ≡ Some (run_asked store_path keys_path lanes turns trace) → AreLanes lanes k → HasKeys text keys
+  KeepsHeadline = (store_path keys_path : List ℕ) (lanes : Option (List ℕ)) (turns : Bool) (trace : Option (List ℕ)) (limits : AskedShares) (k : ℕ) (shares : Shares) (keys : Keys)
+      → asked_by words ≡ Some (run_asked store_path keys_path lanes turns trace limits) → AreLanes lanes k → AreShares limits shares → HasKeys text keys
       → OfStore entry exit (Unit {0}) (λ old new. (p : Params) (at : Standing) (past : PastLife) → Stood disk keys p at past tape old → Promised disk keys p at past (record {
         old = old;
         new = new;
@@ -83,7 +85,7 @@ module _ {S W : Type 0} (disk : S → Disk) (flow : W → Flow) (beat : BeatKind
         lacks_trace = is_lacking trace was;
         traced_before = faults_of flow was;
         traced_after = faults_of flow is;
-        by = manner beat (not turns) k;
+        by = manner beat (not turns) k shares;
         tape = tape;
         status = status;
       }))

@@ -5,7 +5,8 @@ use Rattle.ob_base.specs.declared.params.Params.{Params}
 use Rattle.ob_seal.specs.declared.keys.Keys.{Keys}
 use Rattle.ob_seal.specs.Sealing.{Sealing}
 use Rattle.ob_base.specs.declared.fault.Fault.{Fault}
-use Rattle.ob_base.specs.declared.fault.Fault.TheVariants.{Memory, BadScript, StoreFault, SourceFault, SinkFault}
+use Rattle.ob_base.specs.declared.fault.Field.{Field}
+use Rattle.ob_base.specs.declared.fault.Fault.TheVariants.{Memory, BadParams, BadScript, StoreFault, SourceFault, SinkFault}
 use Rattle.ob_base.specs.Causes.{Rose}
 use Rattle.ob_io.specs.Flows.{appended, IsInput}
 use Rattle.ob_report.specs.Faults.{status_of, fault_line}
@@ -33,7 +34,8 @@ use Rattle.ob_vault.specs.KindLives.{LifeWords}
 use Rattle.ob_vault.specs.Openings.{OpensStanding}
 use Rattle.ob_vault.specs.Kinds.{StoreKind, Stands, AllStand, StandsAsBefore, IsOpenedAt, opened_with}
 use Rattle.ob_vault.specs.KindShown.{IsCutShown, public_behind, steps_notes}
-use Rattle.ob_desk.specs.Desk.{MayOpen, new_desk, setup_of}
+use Rattle.ob_shares.specs.declared.shares.Shares.{Shares}
+use Rattle.ob_desk.specs.Desk.{MayOpen, new_desk, setup_with}
 use Rattle.ob_script.specs.Script.{Scripts, IsFirstBad, limit}
 use Rattle.ob_conduct.specs.declared.run_err.RunErr.TheVariants as failed
 use Rattle.ob_conduct.specs.Acts.{Act, calls}
@@ -46,7 +48,7 @@ use Rattle.ob_top.specs.Listed.{AreListed}
 use Rattle.ob_top.specs.Outside.{Outside, ErrTold, Given, outside}
 use Rattle.ob_top.specs.Sound.{StandsOn}
 use Rattle.ob_top.specs.Staged.{CallsStaged}
-use Rattle.ob_top.specs.Parts.{begin_phases, IsTraced, CameIn, IsInClearBehind, IsOpened, EndsWith, Manner, IsNextEpoch, StagedFrom}
+use Rattle.ob_top.specs.Parts.{begin_phases, IsTraced, CameIn, IsShareRefused, SharesFit, IsInClearBehind, IsOpened, EndsWith, Manner, IsNextEpoch, StagedFrom}
 
 -- What the watch is shown of the opening: the head's read, and the notes that the kind of store gives.
 abbrev pub beginning_notes : (store : StoreKind) → Params → store.Found → store.Start → List Note
@@ -90,8 +92,12 @@ IsInputRefused keys before after SourceFault = Rose before.faults after.faults
 IsInputRefused keys before after (BadScript line) = (input : List ℕ) × IsInput before.bytes limit input × IsFirstBad keys input line
 IsInputRefused keys before after _ = ⊥
 
+-- A script came in, whose clients may not have the shares that are asked for: the first one that they may not have is told.
+abbrev pub AreSharesRefused : Params → Shares → Flow → Fault → Type 0
+AreSharesRefused p shares before fault = (field : Field) × (fault ≡ BadParams field) × (script : Scripts) × CameIn p.keys before script × IsShareRefused p script shares field
+
 -- what the watch told before an early end, and behind it
-module _ (store : StoreKind) (life : LifeWords store) (keys : Keys) (most : ℕ) (old new : Disk) (t u : Trace) where
+module _ (store : StoreKind) (life : LifeWords store) (keys : Keys) (most : ℕ) (shares : Shares) (old new : Disk) (t u : Trace) where
   -- The head was refused: all that was done is to read it.
   pub record StopsAtHead (before after : Flow) (fault : Fault) : Type 0 where
     pub untouched : after ≡ before
@@ -105,11 +111,11 @@ module _ (store : StoreKind) (life : LifeWords store) (keys : Keys) (most : ℕ)
     pub seen : NotesReads {V = Params} (event.Read 0 ∷ []) old.seen new.seen (Err fault)
     pub shown : DoesReads {V = Params} (note.Read 0 ∷ []) old.seen new.seen t u (Err fault)
 
-  -- The input was refused, once the head was read, behind which the watch is whole.
+  -- The input was refused, or the shares for what came in, once the head was read, behind which the watch is whole.
   pub record StopsAtInput (before after : Flow) (fault : Fault) : Type 0 where
     pub p : Params
     pub head : old.tells → store.is_head keys p (old.cells 0)
-    pub refused : IsInputRefused p.keys before after fault
+    pub refused : IsInputRefused p.keys before after fault ⊎ AreSharesRefused p shares before fault
     pub keeps : Keeps old new
     -- a crash leaves what it might have left before
     pub passes : Passes Same old new
@@ -123,6 +129,7 @@ module _ (store : StoreKind) (life : LifeWords store) (keys : Keys) (most : ℕ)
     pub head : old.tells → store.is_head keys p (old.cells 0)
     pub script : Scripts
     pub came : CameIn p.keys before script
+    pub fits : SharesFit p script shares
     pub kind : store.open_fault fault
     pub read : old.tells → store.refuses keys p old.cells fault
     pub cause : IsStoreFault fault → Rose old.faults new.faults
@@ -157,6 +164,7 @@ module _ (store : StoreKind) (life : LifeWords store) (keys : Keys) (most : ℕ)
     pub found : store.Found
     pub start : store.Start
     pub opened : IsOpened store keys old before p script found start
+    pub fits : SharesFit p script shares
     pub seen : ArePhasesMade most (begin_phases store p found start) old.seen new.seen
     pub shown : ShownBehindHead (store.open_notes p found start) t u
     pub broken : u.broken ≡ true
@@ -185,13 +193,13 @@ EndsFor store keys p found opened h behind n call words old new before after t u
 -- ran one by one from the map that was found, in the order of their epochs and tickets.
 pub record ScriptServed (store : StoreKind) (by : Manner) (keys : Keys) (p : Params) (opened : Disk) (found : store.Found) (script : Scripts) (records : List (EpochRecord ℕ)) (err : Option RunErr) : Type 0 where
   -- By hand the acts are whole rounds; by threads they are, without the clients' turns, things that the driver does.
-  pub served : IsServed (AreShaped by.threads script.clients) (store.is_map keys p opened found) by.beat p (store.epoch found) (store.left p found) script records
+  pub served : IsServed (AreShaped by.threads script.clients) (store.is_map keys p opened found) by.beat (setup_with p by.shares) (store.epoch found) (store.left p found) script records
   pub all : err ≡ None → ClientsServedAll script records
   pub ends : EndsWith err served.evidence.acts served.evidence.desk
-  pub opens : MayOpen (setup_of p) (suc (store.epoch found)) (store.left p found) script.clients
+  pub opens : MayOpen (setup_with p by.shares) (suc (store.epoch found)) (store.left p found) script.clients
   pub one_by_one : (m : Map nat_cmp) → store.is_map keys p opened found m → OneByOne nat_cmp m (committed_of records) (contents m records)
 
-module _ (store : StoreKind) (keys : Keys) (p : Params) (found : store.Found) (at : Standing) (script : Scripts) (records : List (EpochRecord ℕ)) (err : Option RunErr) where
+module _ (store : StoreKind) (keys : Keys) (p : Params) (shares : Shares) (found : store.Found) (at : Standing) (script : Scripts) (records : List (EpochRecord ℕ)) (err : Option RunErr) where
   -- what the vault held once the store was opened
   abbrev pub held : VaultState
   held = opened_with p (store.left p found) at
@@ -207,7 +215,7 @@ module _ (store : StoreKind) (keys : Keys) (p : Params) (found : store.Found) (a
   module _ (acts : List Act) where
     -- the epoch whose end was begun last is the one that the desk had closed, as these acts tell
     abbrev pub IsClosedNext : Option (EpochRecord ℕ) → Type 0
-    IsClosedNext next = IsNextBy (new_desk (setup_of p) (suc (store.epoch found)) (store.left p found) script.clients) acts next
+    IsClosedNext next = IsNextBy (new_desk (setup_with p shares) (suc (store.epoch found)) (store.left p found) script.clients) acts next
 
     -- What a crash leaves of the store, from when it was opened at an epoch and its map: an image that stands for a front of the records
     -- laid over that map, or for all of them and the epoch whose end was begun. At the return it stands for all of them, or, only where that
@@ -237,15 +245,15 @@ abbrev pub LivesBehind : {S : Type 0} → (S → Disk) → Keys → Sealing → 
 LivesBehind {S} disk keys sealing opened new answers number = (old : S) → ((disk opened).tells → Opens keys (disk old) (disk opened) sealing) → (disk new).tells → LivesTo disk keys old new answers number
 
 -- From a map that was found on, at the epoch that was, the acts are a list of the world's events.
-abbrev pub ListsActs : (store : StoreKind) → Keys → Params → (opened : Disk) → store.Found → Scripts → List Act → Type 0
-ListsActs store keys p opened found script acts = (m : Map nat_cmp) → store.is_map keys p opened found m → AreListed store keys p (record { epoch = store.epoch found; content = m }) (store.left p found) script.clients acts
+abbrev pub ListsActs : (store : StoreKind) → Keys → Params → Shares → (opened : Disk) → store.Found → Scripts → List Act → Type 0
+ListsActs store keys p shares opened found script acts = (m : Map nat_cmp) → store.is_map keys p opened found m → AreListed store keys (setup_with p shares) (record { epoch = store.epoch found; content = m }) (store.left p found) script.clients acts
 
 -- What serving does to the store and the output, and what the watch is shown of it; behind it the tape has given these words.
 pub record ServedOver (store : StoreKind) (life : LifeWords store) {S : Type 0} (disk : S → Disk) (by : Manner) (keys : Keys) (p : Params) (found : store.Found) (sealing : Sealing) (script : Scripts) (tape : Given) (old new : S) (before after : Flow)
     (t u : Trace) (err : Option RunErr) : Type 0 where
   pub records : List (EpochRecord ℕ)
   pub is_served : ScriptServed store by keys p (disk old) found script records err
-  pub world : ListsActs store keys p (disk old) found script is_served.served.evidence.acts
+  pub world : ListsActs store keys p by.shares (disk old) found script is_served.served.evidence.acts
   -- all lines of so many records stand
   pub whole : ℕ
   pub lines : LinesStand err records whole before after
@@ -261,7 +269,7 @@ pub record ServedOver (store : StoreKind) (life : LifeWords store) {S : Type 0} 
   pub goes : GoesOn (disk old) (disk new)
   -- unless there was a fault, cells are told where they were
   pub tells : err ≡ None → (disk old).tells → (disk new).tells
-  pub left : (at : Standing) → (disk old).tells → IsSynced (disk old) → IsOpenedAt store keys p at found (disk old) → IsLeftOnDisk store keys p found at script records err is_served.served.evidence.acts disk (disk old) (disk new)
+  pub left : (at : Standing) → (disk old).tells → IsSynced (disk old) → IsOpenedAt store keys p at found (disk old) → IsLeftOnDisk store keys p by.shares found at script records err is_served.served.evidence.acts disk (disk old) (disk new)
   -- the next seal has the number that is hidden behind the calls that were answered
   pub seals_on : LivesBehind disk keys sealing old new (map (λ s. s.1) (calls is_served.served.evidence.acts)) (store.seals traced.behind)
   pub clear : (disk new).tells → IsInClearBehind keys (disk old) (disk new) err
@@ -278,6 +286,7 @@ module _ (store : StoreKind) (life : LifeWords store) {S : Type 0} (disk : S →
     pub found : store.Found
     pub start : store.Start
     pub opened : IsOpened store keys (disk old) before.input p script found start
+    pub fits : SharesFit p script by.shares
     -- The store as it was once it was opened, with this sealer, before the first transaction was run: its cells are told where they were, and
     -- then no write waits; and no count of faults has fallen.
     pub between : S
@@ -307,7 +316,7 @@ module _ (store : StoreKind) (life : LifeWords store) {S : Type 0} (disk : S →
   abbrev pub Went : Keys → S → S → Outside → Outside → Trace → Trace → List (EpochRecord ℕ) → Option RunErr → Type 0
   Went keys old new before after t u records None = Ran keys old new before after t u records None
   Went keys old new before after t u records (Some err) =
-      ((records ≡ []) × EndsEarly store life keys by.lanes (disk old) (disk new) t u disk before.input after.input err × ((disk new).tells → LivesOn disk keys old new [])) ⊎ Ran keys old new before after t u records (Some err)
+      ((records ≡ []) × EndsEarly store life keys by.lanes by.shares (disk old) (disk new) t u disk before.input after.input err × ((disk new).tells → LivesOn disk keys old new [])) ⊎ Ran keys old new before after t u records (Some err)
 
   -- What it comes to before the fault's line is written.
   pub record RunOn (keys : Keys) (old new : S) (before after : Outside) (t u : Trace) (err : Option RunErr) : Type 0 where

@@ -16,6 +16,7 @@ use Rattle.ob_vault.specs.Shapes.{Shape, answered, shapes}
 use Rattle.ob_vault.specs.RingLives.{ring_lives}
 use Rattle.ob_vault.specs.RingKind.{IsRingMap, RingFound, ring_hidden, ring_kind, ring_public}
 use Rattle.ob_script.specs.Drill.{drill_script}
+use Rattle.ob_shares.specs.Shares.{no_shares}
 use Rattle.ob_desk.specs.Beats.{BeatKind}
 use Rattle.ob_conduct.specs.Acts.{calls}
 use Rattle.ob_drill.specs.Reading.{IsReading}
@@ -52,7 +53,7 @@ module _ {S : Type 0} (disk : S → Disk) (beat : BeatKind) (keys : Keys) (p : P
     pub between : S
     -- what the tape has given until then
     pub tape : Given
-    pub served : ServedOver ring_kind ring_lives disk (manner beat true 4) keys p found (found.run).sealer (drill_script n) tape old between no_output no_output blind blind None
+    pub served : ServedOver ring_kind ring_lives disk (manner beat true 4 no_shares) keys p found (found.run).sealer (drill_script n) tape old between no_output no_output blind blind None
     pub committed : IsPatient beat → AllCommitted n served.records
     pub read : IsReadBehind found (calls served.is_served.served.evidence.acts) old new
 

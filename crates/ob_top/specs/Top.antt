@@ -11,9 +11,10 @@ use Rattle.ob_seal.specs.declared.keys.Keys.{Keys}
 use Rattle.ob_store.specs.Disk.{Disk}
 use Rattle.ob_store.specs.Lines.{Trace, open_line, start_line}
 use Rattle.ob_io.specs.Streams.{Flow}
+use Rattle.ob_shares.specs.declared.shares.Shares.{Shares}
 use Rattle.ob_desk.specs.Beats.{BeatKind}
-use Rattle.ob_words.specs.Reading.{asked_by, format_asked, run_asked, audit_asked, drill_asked}
-use Rattle.ob_words.specs.Work.{AreParams, IsBadNumber, AreLanes, AreBadLanes, IsCount, IsBadCount, HasKeys, IsKeysRefused}
+use Rattle.ob_words.specs.Reading.{AskedShares, asked_by, format_asked, run_asked, audit_asked, drill_asked}
+use Rattle.ob_words.specs.Work.{AreParams, IsBadNumber, AreLanes, AreBadLanes, AreShares, IsCount, IsBadCount, HasKeys, IsKeysRefused}
 use Rattle.ob_top.specs.Outside.{Given, HasTrace, Outside, Left, OfStore, IsOnlyTold, blind}
 use Rattle.ob_top.specs.Audits.{AuditDone}
 use Rattle.ob_top.specs.Drills.{DrillDone}
@@ -77,11 +78,11 @@ module _ {S W : Type 0} (disk : S → Disk) (flow : W → Flow) (beat : BeatKind
       ⊎ ((keys : Keys) × HasKeys text keys × OfStore entry exit HasNoStore (λ old new. ByTrace flow was is before after status trace (start_line p) (λ t u. FormatDone ring_kind ring_lives disk tape keys p old new before after t u status) old new)))))
 
   -- `run`: want of memory for the words is told, then lanes out of their range, then what is wrong with the keys, then that there is no
-  -- store, before anything is touched. With `--turns` all clients are made by hand; so many lanes share a phase's reads. Behind it the tape
-  -- has given this.
+  -- store, before anything is touched. With `--turns` all clients are made by hand; so many lanes share a phase's reads; and each
+  -- client has these shares. Behind it the tape has given this.
   abbrev pub RunDoes : (tape : Given) → Type 0
-  RunDoes tape = (store_path keys_path : List ℕ) (lanes : Option (List ℕ)) (turns : Bool) (trace : Option (List ℕ)) → asked_by words ≡ Some (run_asked store_path keys_path lanes turns trace) →
+  RunDoes tape = (store_path keys_path : List ℕ) (lanes : Option (List ℕ)) (turns : Bool) (trace : Option (List ℕ)) (limits : AskedShares) → asked_by words ≡ Some (run_asked store_path keys_path lanes turns trace limits) →
       Refuses Memory
       ⊎ ((AreBadLanes lanes × Refuses (BadParams LANES))
-      ⊎ ((k : ℕ) × AreLanes lanes k × (KeysDo
-      ⊎ ((keys : Keys) × HasKeys text keys × OfStore entry exit HasNoStore (λ old new. ByTrace flow was is before after status trace open_line (λ t u. RunDone ring_kind ring_lives disk (manner beat (not turns) k) tape keys old new before after t u status) old new)))))
+      ⊎ ((k : ℕ) × AreLanes lanes k × (shares : Shares) × AreShares limits shares × (KeysDo
+      ⊎ ((keys : Keys) × HasKeys text keys × OfStore entry exit HasNoStore (λ old new. ByTrace flow was is before after status trace open_line (λ t u. RunDone ring_kind ring_lives disk (manner beat (not turns) k shares) tape keys old new before after t u status) old new)))))

@@ -23,7 +23,7 @@ ghost use Rattle.ob_top.specs.Drilling.{IsOpenedEmpty, OpensEmpty, IsWant, HasDr
 ghost use Rattle.ob_top.specs.SelfTests.{IsDrilled, IsServedAndRead};
 
 use crate::endings::finish;
-use crate::run::{Begun, conduct, hand_back};
+use crate::run::{Begun, Means, conduct, hand_back};
 use ob_bare::{BareStore, Void};
 use ob_base::{Failed, Fault, Memory, Params, ring_cells};
 use ob_desk::{Beat, Eager};
@@ -36,6 +36,7 @@ use ob_runner::{ScriptRunner, runners};
 use ob_script::{Scripts, drill};
 use ob_seal::{ChaChaTape, Keys, Tape};
 use ob_serial::Vault;
+use ob_shares::NO_SHARES;
 use ob_store::Blind;
 use ob_vault::RingVault;
 use std::sync::Wait;
@@ -153,7 +154,11 @@ fn drill_vault<R: AllocGlobal + Threads + Wait + Sync, V: Vault, B: Beat>(
         &mut Blind,
         &mut Void,
         beat,
-        true,
+        &Means {
+            lanes: LANES as u32,
+            threads: true,
+            shares: NO_SHARES,
+        },
     ) {
         Ok(()) => {}
         Err(err) => return Err(err.fault()),

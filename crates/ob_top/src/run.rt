@@ -1,6 +1,6 @@
 //! `run` over a store.
 
-ghost use Rattle.std.specs.Prelude.{◌≡◌, ◌≤◌, ℕ, List, IfOk, IfErr, OnOk, OnErr, None, suc, false, map, All, []};
+ghost use Rattle.std.specs.Prelude.{◌≡◌, ◌≤◌, ℕ, List, IfOk, IfErr, OnOk, OnErr, MatchBool, MatchResult, None, suc, false, length, map, All, []};
 ghost use Rattle.ob_base.specs.declared.params.Params.{Params};
 ghost use Rattle.ob_io.specs.Streams.{inflow, outflow};
 ghost use Rattle.ob_store.specs.Calls.{GoesOn};
@@ -12,7 +12,7 @@ ghost use Rattle.ob_vault.specs.RingKind.{GoesOnFrom, RingFound, ring_kind};
 ghost use Rattle.ob_vault.specs.RingLives.{ring_lives};
 ghost use Rattle.ob_vault.specs.RingVaults.{HasPlanned, run_over};
 ghost use Rattle.ob_top.specs.Begun.{AreFewLanes, IsBegun, MayServe};
-ghost use Rattle.ob_desk.specs.Desk.{DeskState, MayOpen, new_desk, setup_of};
+ghost use Rattle.ob_desk.specs.Desk.{DeskState, MayOpen, new_desk, setup_with};
 ghost use Rattle.ob_desk.specs.Beats.{beat_kind};
 ghost use Rattle.ob_script.specs.Script.{AreSound};
 ghost use Rattle.ob_runner.specs.Runners.{AreRunners};
@@ -22,13 +22,14 @@ ghost use Rattle.ob_conduct.specs.Scenes.{scene, run_state, runner_kind};
 ghost use Rattle.ob_run.specs.Threaded.{RunsBy};
 ghost use Rattle.ob_serial.specs.VaultKinds.{kind_of};
 ghost use Rattle.ob_top.specs.Runs.{IsInputRefused, EndsEarly, IsReadAndOpened, LivesUnserved, ServedOver, RunOn};
-ghost use Rattle.ob_top.specs.Parts.{manner, CameIn};
+ghost use Rattle.ob_shares.specs.Shares.{AreFitting};
+ghost use Rattle.ob_top.specs.Parts.{manner, CameIn, ShareFits, SharesFit, IsShareRefused};
 ghost use Rattle.ob_top.specs.Staged.{OpensInStages};
 ghost use Rattle.ob_top.specs.Endings.{err_of};
 ghost use Rattle.ob_top.specs.Outside.{words_given, outside};
 
 use crate::endings::still_watched;
-use ob_base::{Fault, Memory, Params};
+use ob_base::{Fault, Field, Memory, Params};
 use ob_conduct::RunErr;
 use ob_desk::{Beat, Desk};
 use ob_io::{ReadErr, Sink, Source, read_all};
@@ -40,7 +41,7 @@ use ob_runner::{ScriptRunner, runners};
 use ob_script::{LIMIT, Scripts, parse};
 use ob_seal::{Keys, Tape};
 use ob_serial::Vault;
-use ob_shares::NO_SHARES;
+use ob_shares::Shares;
 use ob_store::Watch;
 use ob_vault::RingVault;
 use std::alloc::Global;
@@ -54,6 +55,8 @@ pub struct Means {
     pub lanes: u32,
     /// Whether clients have threads of their own.
     pub threads: bool,
+    /// How many different keys each client may name in an epoch.
+    pub shares: Shares,
 }
 
 /// A run of which all is ready: the store's parameters, the script, what makes its clients' calls,
@@ -64,6 +67,33 @@ pub struct Begun<L> {
     pub scripts: Scripts,
     pub runners: Vec<ScriptRunner>,
     pub opening: Opening<L>,
+}
+
+// Whether so many clients may have the share: it isn't 0, and there are places for all of theirs.
+fn share_fits(share: Option<u32>, clients: usize, places: u32) -> bool
+    ensures { MatchBool result (ShareFits clients places share)
+        (ShareFits clients places share → ⊥) }
+{
+    match share {
+        None => true,
+        Some(0) => false,
+        Some(keys) => (clients as u64).saturating_mul(keys as u64) <= places as u64,
+    }
+}
+
+// Which of the shares the script's clients may not have: the first one.
+fn check_shares(params: &Params, scripts: &Scripts, shares: &Shares) -> Result<(), Field>
+    ensures { MatchResult result (λ done. SharesFit params.now scripts.now shares.now)
+        (λ field. IsShareRefused params.now scripts.now shares.now field) }
+{
+    let clients = scripts.clients().len();
+    if !share_fits(shares.reads, clients, params.places) {
+        return Err(Field::READS);
+    }
+    if !share_fits(shares.writes, clients, params.writes) {
+        return Err(Field::WRITES);
+    }
+    Ok(())
 }
 
 // Reads the script that comes in.
@@ -82,8 +112,8 @@ fn read_script<I: Source>(alloc: Global, input: &mut I, keys: u32) -> Result<Scr
     parse(alloc, &bytes, keys)
 }
 
-// Reads the head, then the script, and then opens the store, for so many lanes. Behind a head at
-// which the watch broke nothing is done.
+// Reads the head, then the script, and then opens the store, for so many lanes and clients with
+// these shares. Behind a head at which the watch broke nothing is done.
 fn begin<R: Threads + Sync, S: Lanes, T: Tape, I: Source, W: Watch>(
     rt: &R,
     alloc: Global,
@@ -91,19 +121,21 @@ fn begin<R: Threads + Sync, S: Lanes, T: Tape, I: Source, W: Watch>(
     tape: &mut T,
     keys: &Keys,
     input: &mut I,
-    lanes: u32,
+    means: &Means,
     watch: &mut W,
 ) -> Result<Begun<S::Lane>, RunErr>
     requires none_out { (S.disk store.old).out ≡ 0 }
     requires unstarted { T.present tape.old ≡ 0 }
-    requires lanes { AreFewLanes lanes }
+    requires lanes { AreFewLanes means.now.lanes }
     requires whole { (W.trace watch.old).broken ≡ false }
     ensures none_out { (S.disk store.new).out ≡ 0 }
     ensures goes { GoesOn (S.disk store.old) (S.disk store.new) }
-    ensures serves { IfOk result (λ begun. MayServe lanes begun.params (S.disk store.new)
+    ensures serves { IfOk result (λ begun. MayServe means.now.lanes begun.params (S.disk store.new)
         (T.present tape.new) (T.drawn tape.new) begun.opening) }
     ensures sealer { IfOk result (λ begun. begun.opening.sealer.next ≡ 0) }
     ensures sound { IfOk result (λ begun. AreSound begun.scripts) }
+    ensures fits { IfOk result
+        (λ begun. SharesFit begun.params begun.scripts means.now.shares) }
     ensures runners { IfOk result (λ begun. AreRunners begun.scripts begun.runners.items) }
     ensures keys { IfOk result (λ begun. begun.scripts.keys ≡ begun.params.keys) }
     ensures durable { (S.disk store.old).tells
@@ -117,11 +149,12 @@ fn begin<R: Threads + Sync, S: Lanes, T: Tape, I: Source, W: Watch>(
         (λ begun. OpensInStages ring_kind ring_lives S.disk keys.now begun.params store.old
         store.new) }
     ensures begun { IfOk result (λ begun. (f : RingFound) × (f.run ≡ run_over begun.opening)
-        × IsBegun keys.now lanes begun.params begun.scripts (S.disk store.old) (S.disk store.new)
-        (W.trace watch.old) (W.trace watch.new) (inflow I.Source input.old) f) }
+        × IsBegun keys.now means.now.lanes begun.params begun.scripts (S.disk store.old)
+        (S.disk store.new) (W.trace watch.old) (W.trace watch.new) (inflow I.Source input.old)
+        f) }
     ensures refused { IfErr result
-        (λ err. EndsEarly ring_kind ring_lives keys.now lanes (S.disk store.old)
-        (S.disk store.new) (W.trace watch.old) (W.trace watch.new) S.disk
+        (λ err. EndsEarly ring_kind ring_lives keys.now means.now.lanes means.now.shares
+        (S.disk store.old) (S.disk store.new) (W.trace watch.old) (W.trace watch.new) S.disk
         (inflow I.Source input.old) (inflow I.Source input.new) err) }
     ensures opens { IfOk result (λ begun. IsReadAndOpened S.disk keys.now store.old store.new
         begun.opening.sealer) }
@@ -140,11 +173,16 @@ fn begin<R: Threads + Sync, S: Lanes, T: Tape, I: Source, W: Watch>(
         Ok(scripts) => scripts,
         Err(fault) => return Err(RunErr::Fault(fault)),
     };
+    match check_shares(&params, &scripts, &means.shares) {
+        Ok(()) => {}
+        Err(field) => return Err(RunErr::Fault(Fault::BadParams { field })),
+    }
     let runners = match runners(alloc, &scripts) {
         Ok(runners) => runners,
         Err(Memory) => return Err(RunErr::Fault(Fault::Memory)),
     };
-    match prepare(rt, alloc, store, tape, keys, &params, lanes as usize, watch) {
+    let lanes = means.lanes as usize;
+    match prepare(rt, alloc, store, tape, keys, &params, lanes, watch) {
         Ok(opening) => Ok(Begun {
             params,
             scripts,
@@ -169,7 +207,7 @@ pub fn conduct<R: Threads + Wait + Sync, V: Vault, W: Watch, O: Sink, B: Beat>(
     watch: &mut W,
     output: &mut O,
     beat: &mut B,
-    threads: bool,
+    means: &Means,
 ) -> Result<(), RunErr>
     requires params { V.params vault.old ≡ params.now }
     requires serves { (V.counts vault.old).spent ≡ false }
@@ -178,13 +216,15 @@ pub fn conduct<R: Threads + Wait + Sync, V: Vault, W: Watch, O: Sink, B: Beat>(
     requires sound { AreSound scripts.now }
     requires keys { scripts.now.keys ≡ params.now.keys }
     requires runners { AreRunners scripts.now runners.old.items }
+    requires fit { AreFitting means.now.shares (length scripts.now.clients) params.now.places
+        params.now.writes }
     ensures params { V.params vault.new ≡ params.now }
     ensures anchors { (V.disk vault.new).anchors ≡ (V.disk vault.old).anchors }
     ensures done { (new : DeskState)
-        × RunsBy threads (kind_of V.Vault)
+        × RunsBy means.now.threads (kind_of V.Vault)
         (runner_kind client_of bound_of plan_of MayHaveMade IsScriptTurn)
         (beat_kind B.passes B.exact)
-        (run_state (scene (new_desk (setup_of params.now)
+        (run_state (scene (new_desk (setup_with params.now means.now.shares)
         (suc (V.counts vault.old).epoch) (V.counts vault.old).left scripts.now.clients) vault.old
         (W.trace watch.old)) runners.old.items (outflow O.Sink output.old))
         (run_state (scene new vault.new (W.trace watch.new)) runners.new.items
@@ -196,7 +236,7 @@ pub fn conduct<R: Threads + Wait + Sync, V: Vault, W: Watch, O: Sink, B: Beat>(
         vault.epoch() + 1,
         vault.left(),
         scripts.clients(),
-        NO_SHARES,
+        means.shares,
     ) {
         Ok(desk) => desk,
         Err(Memory) => return Err(RunErr::Fault(Fault::Memory)),
@@ -212,7 +252,7 @@ pub fn conduct<R: Threads + Wait + Sync, V: Vault, W: Watch, O: Sink, B: Beat>(
         watch,
         beat,
         output,
-        threads,
+        means.threads,
     )
 }
 
@@ -243,11 +283,12 @@ fn serve_on<R: Threads + Wait + Sync, S: Lanes, T: Tape, O: Sink, B: Beat, W: Wa
     requires sound { AreSound begun.scripts }
     requires runners { AreRunners begun.scripts begun.runners.items }
     requires keys { begun.scripts.keys ≡ begun.params.keys }
+    requires fits { SharesFit begun.params begun.scripts means.shares }
     ensures none_out { (S.disk store.new).out ≡ 0 }
     ensures serves { (f : RingFound) (found : Found) → f.run ≡ run_over begun.opening
         → GoesOnFrom keys.now begun.params found f → HasPlanned f.run f.content f.records
         → ServedOver ring_kind ring_lives S.disk
-        (manner (beat_kind B.passes B.exact) means.threads means.lanes)
+        (manner (beat_kind B.passes B.exact) means.threads means.lanes means.shares)
         keys.now begun.params f begun.opening.sealer begun.scripts
         (words_given (T.present tape.new) (T.drawn tape.new)) store.old store.new
         (outflow O.Sink output.old) (outflow O.Sink output.new) (W.trace watch.old)
@@ -270,7 +311,7 @@ fn serve_on<R: Threads + Wait + Sync, S: Lanes, T: Tape, O: Sink, B: Beat, W: Wa
         watch,
         output,
         beat,
-        means.threads,
+        &means,
     );
     let (store, tape) = vault.into_lent();
     hand_back(store, tape);
@@ -282,7 +323,8 @@ fn serve_on<R: Threads + Wait + Sync, S: Lanes, T: Tape, O: Sink, B: Beat, W: Wa
 /// is whole, is shown all that the store sees.
 ///
 /// # Errors
-/// In this order: the head, the input, the opening; then what the run met. Where the watch broke
+/// In this order: the head, the input, the shares of what came in, the opening; then what the run
+/// met. Where the watch broke
 /// nothing more is begun.
 pub fn run_on<R: Threads + Wait + Sync, S: Lanes, T: Tape, I: Source, O: Sink, B: Beat, W: Watch>(
     rt: &R,
@@ -303,13 +345,13 @@ pub fn run_on<R: Threads + Wait + Sync, S: Lanes, T: Tape, I: Source, O: Sink, B
     ensures goes { GoesOn (S.disk store.old) (S.disk store.new) }
     ensures none_out { (S.disk store.new).out ≡ 0 }
     ensures done { RunOn ring_kind ring_lives S.disk
-        (manner (beat_kind B.passes B.exact) means.threads means.lanes)
+        (manner (beat_kind B.passes B.exact) means.threads means.lanes means.shares)
         (words_given (T.present tape.new) (T.drawn tape.new)) keys.now store.old store.new
         (outside (inflow I.Source input.old) (outflow O.Sink output.old))
         (outside (inflow I.Source input.new) (outflow O.Sink output.new))
         (W.trace watch.old) (W.trace watch.new) (err_of result) }
 {
-    let begun = match begin(rt, alloc, store, tape, keys, input, means.lanes, watch) {
+    let begun = match begin(rt, alloc, store, tape, keys, input, &means, watch) {
         Ok(begun) => begun,
         Err(err) => return Err(err),
     };

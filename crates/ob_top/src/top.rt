@@ -78,10 +78,16 @@ fn do_watched<R: Threads + Wait + Sync, S: Lanes, T: Tape, I: Source, O: Sink, B
         Command::Format { params, .. } => {
             format_on(rt, alloc, store, tape, keys, &params, output, watch)
         }
-        Command::Run { lanes, turns, .. } => {
+        Command::Run {
+            lanes,
+            turns,
+            shares,
+            ..
+        } => {
             let means = Means {
                 lanes,
                 threads: !turns,
+                shares,
             };
             run_on(
                 rt, alloc, store, tape, keys, input, output, beat, means, watch,

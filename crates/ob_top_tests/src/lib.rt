@@ -11,6 +11,8 @@ mod events;
 #[cfg(test)]
 mod lanes;
 #[cfg(test)]
+mod limits;
+#[cfg(test)]
 mod many;
 #[cfg(test)]
 mod noting;

@@ -5,7 +5,7 @@ use Rattle.clap.specs.Walk.{Held, Row, Text, Walk, first_of, idle, nothing_held,
 use Rattle.clap.specs.Kinds.{or_else}
 use Rattle.clap.specs.Faults.{check_fault, defaults_fault, level_fault}
 use Rattle.clap.proofs.OnLiterals.{clap_on_literals}
-use Rattle.ob_word_forms.specs.Forms.{Choice, AreChoices, AreOfFormat, ArePlain, lanes, trace, trace_in, turns, words_of}
+use Rattle.ob_word_forms.specs.Forms.{Choice, AreChoices, AreOfFormat, ArePlain, lanes, reads, writes, trace, trace_in, turns, words_of}
 use Rattle.ob_words.specs.Reading.{asked_command, format_asked}
 use Rattle.ob_words.proofs.Built.{built_option, format_built, format_rules, operand_at}
 use Rattle.ob_word_forms.proofs.Rows.{given_row}
@@ -189,8 +189,12 @@ module _ (store keys n l z s r br bw e t : Text) where
       twice : true ≡ false → ⊥
       twice is = cc is
   choices_go (trace file ∷ lanes k ∷ cs) plain fine only = absurd only
+  choices_go (trace file ∷ reads q ∷ cs) plain fine only = absurd only
+  choices_go (trace file ∷ writes w ∷ cs) plain fine only = absurd only
   choices_go (trace file ∷ turns ∷ cs) plain fine only = absurd only
   choices_go (lanes k ∷ cs) plain fine only = absurd only
+  choices_go (reads q ∷ cs) plain fine only = absurd only
+  choices_go (writes w ∷ cs) plain fine only = absurd only
   choices_go (turns ∷ cs) plain fine only = absurd only
 
   format_defaults : (cs : List Choice) → defaults_fault (format_end cs) format_rules ≡ []
@@ -198,24 +202,32 @@ module _ (store keys n l z s r br bw e t : Text) where
   format_defaults [] = refl
   format_defaults (trace file ∷ cs) = refl
   format_defaults (lanes k ∷ cs) = refl
+  format_defaults (reads q ∷ cs) = refl
+  format_defaults (writes w ∷ cs) = refl
   format_defaults (turns ∷ cs) = refl
 
   format_checked : (cs : List Choice) → check_fault format_built (fold with_default (format_end cs) format_rules) false ≡ []
   format_checked [] = refl
   format_checked (trace file ∷ cs) = refl
   format_checked (lanes k ∷ cs) = refl
+  format_checked (reads q ∷ cs) = refl
+  format_checked (writes w ∷ cs) = refl
   format_checked (turns ∷ cs) = refl
 
   format_finished : (cs : List Choice) → fold with_default (format_end cs) format_rules ≡ format_end cs
   format_finished [] = refl
   format_finished (trace file ∷ cs) = refl
   format_finished (lanes k ∷ cs) = refl
+  format_finished (reads q ∷ cs) = refl
+  format_finished (writes w ∷ cs) = refl
   format_finished (turns ∷ cs) = refl
 
   pub format_trace_read : (cs : List Choice) → AreOfFormat cs → first_of (codes "trace") (format_end cs) ≡ trace_in cs
   format_trace_read [] only = refl
   format_trace_read (trace file ∷ cs) only = refl
   format_trace_read (lanes k ∷ cs) only = absurd only
+  format_trace_read (reads q ∷ cs) only = absurd only
+  format_trace_read (writes w ∷ cs) only = absurd only
   format_trace_read (turns ∷ cs) only = absurd only
 
   -- the operands stand in front, whatever the options are

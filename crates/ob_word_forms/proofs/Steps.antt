@@ -57,6 +57,14 @@ pub run_lanes : IsValueOption run_built (codes "lanes") (codes "--lanes")
 unfolding clap_on_literals
 run_lanes = record { found = refl; same = refl; walk = λ h i. refl; turn = λ h i. refl }
 
+pub run_reads_option : IsValueOption run_built (codes "reads") (codes "--reads")
+unfolding clap_on_literals
+run_reads_option = record { found = refl; same = refl; walk = λ h i. refl; turn = λ h i. refl }
+
+pub run_writes_option : IsValueOption run_built (codes "writes") (codes "--writes")
+unfolding clap_on_literals
+run_writes_option = record { found = refl; same = refl; walk = λ h i. refl; turn = λ h i. refl }
+
 pub run_trace : IsValueOption run_built (codes "trace") (codes "--trace")
 unfolding clap_on_literals
 run_trace = record { found = refl; same = refl; walk = λ h i. refl; turn = λ h i. refl }

@@ -1,8 +1,8 @@
 //! Which words are read, and which are refused.
 
 ghost use Rattle.std.specs.Prelude.{ℕ, List, [], ◌∷◌, ◌≡◌, ◌<◌, length, Some, None, codes};
-ghost use Rattle.ob_word_forms.specs.Forms.{Choice, AreChoices, AreOfFormat, ArePlain, IsPlain, IsNoName, lanes_in, trace_in, turns_in, words_of};
-ghost use Rattle.ob_words.specs.Reading.{asked_by, format_asked, run_asked, audit_asked, drill_asked};
+ghost use Rattle.ob_word_forms.specs.Forms.{Choice, AreChoices, AreOfFormat, ArePlain, IsPlain, IsNoName, lanes_in, reads_in, writes_in, trace_in, turns_in, words_of};
+ghost use Rattle.ob_words.specs.Reading.{asked_by, shares_asked, format_asked, run_asked, audit_asked, drill_asked};
 
 /// Each form is read, as what it says: a command's name, its operands, and behind them any of its
 /// options, in any order, each once. (At the call it may be refused for want of memory alone.)
@@ -17,7 +17,8 @@ pub fn forms_are_read()
     ensures run { (store keys : List ℕ) (options : List Choice) → IsPlain store → IsPlain keys
         → AreChoices options
         → asked_by (codes "run" ∷ store ∷ keys ∷ words_of options)
-        ≡ Some (run_asked store keys (lanes_in options) (turns_in options) (trace_in options)) }
+        ≡ Some (run_asked store keys (lanes_in options) (turns_in options) (trace_in options)
+        (shares_asked (reads_in options) (writes_in options))) }
     ensures audit { asked_by (codes "audit" ∷ []) ≡ Some audit_asked }
     ensures drill { (count : List ℕ) → IsPlain count
         → asked_by (codes "drill" ∷ count ∷ []) ≡ Some (drill_asked count) }

@@ -7,11 +7,13 @@ use Rattle.ob_base.specs.declared.params.Params.{Params}
 use Rattle.ob_base.specs.declared.fault.Field.{Field}
 use Rattle.ob_base.specs.declared.fault.Fault.{Fault}
 use Rattle.ob_seal.specs.declared.keys.Keys.{Keys}
+use Rattle.ob_shares.specs.declared.shares.Shares.{Shares}
+use Rattle.ob_words.specs.Reading.{AskedShares}
 use Rattle.ob_seal.specs.KeyText.{digits_of}
 use Rattle.ob_seal.proofs.KeyLemmas.{is_key_text}
 use Rattle.ob_base.proofs.Spelled.{split_same}
 use Rattle.ob_start.specs.Heads.{numbers_of}
-use Rattle.ob_words.specs.Work.{Denotes, AllDenote, AreParams, IsBadNumber, AreLanes, AreBadLanes, AreKeys, HasKeys, IsKeysRefused, first_out}
+use Rattle.ob_words.specs.Work.{Denotes, AllDenote, AreParams, IsBadNumber, AreLanes, AreBadLanes, IsShare, AreShares, AreKeys, HasKeys, IsKeysRefused, first_out}
 
 none_some : {A : Type 0} (o : Option A) (x : A) → o ≡ None → o ≡ Some x → ⊥
 none_some o x none some = let both : None ≡ Some x = sym none ∙ some in cc both
@@ -82,6 +84,24 @@ no_bad_number words p field good bad =
 pub no_bad_lanes : (lanes : Option (List ℕ)) (k : ℕ) → AreLanes lanes k → AreBadLanes lanes → ⊥
 no_bad_lanes None k are bad = absurd bad
 no_bad_lanes (Some word) k (is, some, few) bad = bad k some few is
+
+-- a word denotes one number, be it 0
+same_number : (word : List ℕ) (m n : ℕ) → Denotes word m → Denotes word n → m ≡ n
+same_number word m n (inl (a, low)) (inl (b, less)) = decimal_injective m n (omega (arith, low)) (omega (arith, less)) (sym a ∙ b)
+same_number word m n (inl (a, low)) (inr (zero, none)) = absurd (none m low a)
+same_number word m n (inr (zero, none)) (inl (b, less)) = absurd (none n less b)
+same_number word m n (inr (zero, none)) (inr (other, nor)) = zero ∙ sym other
+
+one_share : (word : Option (List ℕ)) (a b : Option ℕ) → IsShare word a → IsShare word b → a ≡ b
+one_share None a b x y = x ∙ sym y
+one_share (Some word) a b x y = x.1 ∙ ap (λ (n : ℕ). Some n) (same_number word x.0 y.0 x.2 y.2) ∙ sym y.1
+
+-- the words give one pair of shares
+pub one_shares : (asked : AskedShares) (a b : Shares) → AreShares asked a → AreShares asked b → a ≡ b
+one_shares asked a b x y =
+    let reads = one_share asked.reads a.reads b.reads x.reads y.reads in
+    let writes = one_share asked.writes a.writes b.writes x.writes y.writes in
+    λ i. record { reads = reads i; writes = writes i }
 
 keys_made : (a : Keys) (s t u : List ℕ) → a.seal ≡ s → a.tag ≡ t → a.tape ≡ u → a ≡ record { seal = s; tag = t; tape = u }
 keys_made a s t u p q r = rw (← p, ← q, ← r) refl

@@ -13,11 +13,19 @@ use Rattle.ob_words.specs.declared.request.Request.TheVariants.{Format, Run, Aud
 use Rattle.ob_words.specs.declared.request.WordsErr.{WordsErr}
 use Rattle.ob_words.specs.declared.request.WordsErr.TheVariants.{Memory, Usage}
 
+-- each client's shares of reads and of writes, where they are given
+pub record AskedShares : Type 0 where
+  pub reads : Option Text
+  pub writes : Option Text
+
+abbrev pub shares_asked : Option Text → Option Text → AskedShares
+shares_asked reads writes = record { reads = reads; writes = writes }
+
 -- the store's path, the keys' path, and the nine numbers; or the lanes, where they are given, and whether `--turns` is; and the trace's path,
--- where it is given; or an audit; or a self-test, with its count
+-- where it is given; and of a run its clients' shares; or an audit; or a self-test, with its count
 pub data Asked : Type 0 where
   format_asked : Text → Text → List Text → Option Text → Asked
-  run_asked : Text → Text → Option Text → Bool → Option Text → Asked
+  run_asked : Text → Text → Option Text → Bool → Option Text → AskedShares → Asked
   audit_asked : Asked
   drill_asked : Text → Asked
 
@@ -25,7 +33,8 @@ pub data Asked : Type 0 where
 abbrev pub asked_of : Request → Asked
 asked_of (Format store keys n l z s r br bw e t trace) =
     format_asked store.now keys.now (n.now ∷ l.now ∷ z.now ∷ s.now ∷ r.now ∷ br.now ∷ bw.now ∷ e.now ∷ t.now ∷ []) (option_map (λ s. s.now) trace)
-asked_of (Run store keys lanes turns trace) = run_asked store.now keys.now (option_map (λ s. s.now) lanes) turns (option_map (λ s. s.now) trace)
+asked_of (Run store keys lanes turns trace reads writes) = run_asked store.now keys.now (option_map (λ s. s.now) lanes) turns (option_map (λ s. s.now) trace)
+    (shares_asked (option_map (λ s. s.now) reads) (option_map (λ s. s.now) writes))
 asked_of Audit = audit_asked
 asked_of (Drill count) = drill_asked count.now
 
@@ -41,7 +50,8 @@ asked_command name rows =
     ∷ text_at (codes "R") rows ∷ text_at (codes "BR") rows ∷ text_at (codes "BW") rows ∷ text_at (codes "E") rows
     ∷ text_at (codes "T") rows ∷ []) (first_of (codes "trace") rows))
     else if bytes_eq name (codes "run") then Some (run_asked (text_at (codes "STORE") rows) (text_at (codes "KEYS") rows)
-    (first_of (codes "lanes") rows) (bytes_eq (text_at (codes "turns") rows) (codes "true")) (first_of (codes "trace") rows))
+    (first_of (codes "lanes") rows) (bytes_eq (text_at (codes "turns") rows) (codes "true")) (first_of (codes "trace") rows)
+    (shares_asked (first_of (codes "reads") rows) (first_of (codes "writes") rows)))
     else if bytes_eq name (codes "audit") then Some audit_asked
     else if bytes_eq name (codes "drill") then Some (drill_asked (text_at (codes "COUNT") rows))
     else None

@@ -12,7 +12,8 @@ use Rattle.ob_seal.specs.declared.keys.Keys.{Keys}
 use Rattle.ob_seal.specs.KeyText.{IsKeyText, digits_of}
 use Rattle.hex.specs.Hex.{decode_of}
 use Rattle.ob_start.specs.Heads.{numbers_of}
-use Rattle.ob_words.specs.Reading.{Asked, asked_by, format_asked, run_asked, audit_asked, drill_asked}
+use Rattle.ob_shares.specs.declared.shares.Shares.{Shares}
+use Rattle.ob_words.specs.Reading.{Asked, AskedShares, asked_by, format_asked, run_asked, audit_asked, drill_asked}
 use Rattle.ob_words.specs.declared.work.Command.{Command}
 use Rattle.ob_words.specs.declared.work.Command.TheVariants.{Format, Run}
 use Rattle.ob_words.specs.declared.work.Work.{Work}
@@ -53,6 +54,16 @@ abbrev pub AreBadLanes : Option (List ℕ) → Type 0
 AreBadLanes None = ⊥
 AreBadLanes (Some word) = (k : ℕ) → 1 ≤ k → k ≤ 16 → word ≢ decimal k
 
+-- The share that `--reads` or `--writes` gives: none, where it isn't there; 0, which fits no run, for a word that is no number.
+abbrev pub IsShare : Option (List ℕ) → Option ℕ → Type 0
+IsShare None share = share ≡ None
+IsShare (Some word) share = (keys : ℕ) × (share ≡ Some keys) × Denotes word keys
+
+-- and both
+pub record AreShares (asked : AskedShares) (shares : Shares) : Type 0 where
+  pub reads : IsShare asked.reads shares.reads
+  pub writes : IsShare asked.writes shares.writes
+
 -- How many transactions a self-test has, at most 10,000, as a canonical decimal.
 abbrev pub IsCount : List ℕ → ℕ → Type 0
 IsCount word n = (word ≡ decimal n) × (n ≤ 10000)
@@ -64,7 +75,7 @@ IsBadCount word = (n : ℕ) → n ≤ 10000 → word ≢ decimal n
 -- the command over a store of a request, whose numbers are in range
 abbrev pub IsCommandOf : Asked → Command → Type 0
 IsCommandOf (format_asked store keys numbers trace) (Format p traced) = AreParams numbers p × (traced ≡ is_some trace)
-IsCommandOf (run_asked store keys lanes turns trace) (Run k by_hand traced) = AreLanes lanes k × (by_hand ≡ turns) × (traced ≡ is_some trace)
+IsCommandOf (run_asked store keys lanes turns trace limits) (Run k by_hand traced shares) = AreLanes lanes k × (by_hand ≡ turns) × (traced ≡ is_some trace) × AreShares limits shares
 IsCommandOf _ _ = ⊥
 
 -- what a request asks for
@@ -76,7 +87,7 @@ IsWorkOf asked (OnStore command) = IsCommandOf asked command
 -- the first number of a request that is out of its range
 abbrev pub IsOutOfRange : Asked → Field → Type 0
 IsOutOfRange (format_asked store keys numbers trace) field = IsBadNumber numbers field
-IsOutOfRange (run_asked store keys lanes turns trace) field = (field ≡ LANES) × AreBadLanes lanes
+IsOutOfRange (run_asked store keys lanes turns trace limits) field = (field ≡ LANES) × AreBadLanes lanes
 IsOutOfRange audit_asked field = ⊥
 IsOutOfRange (drill_asked count) field = (field ≡ COUNT) × IsBadCount count
 
@@ -99,21 +110,21 @@ IsRefusedFor words _ = ⊥
 -- a request's store: its path, and whether it may be made
 abbrev pub store_file : Asked → Option (List ℕ × Bool)
 store_file (format_asked store keys numbers trace) = Some (store, true)
-store_file (run_asked store keys lanes turns trace) = Some (store, false)
+store_file (run_asked store keys lanes turns trace limits) = Some (store, false)
 store_file audit_asked = None
 store_file (drill_asked count) = None
 
 -- the path of its keys
 abbrev pub keys_file : Asked → Option (List ℕ)
 keys_file (format_asked store keys numbers trace) = Some keys
-keys_file (run_asked store keys lanes turns trace) = Some keys
+keys_file (run_asked store keys lanes turns trace limits) = Some keys
 keys_file audit_asked = None
 keys_file (drill_asked count) = None
 
 -- the path of its trace, where it is given
 abbrev pub trace_file : Asked → Option (List ℕ)
 trace_file (format_asked store keys numbers trace) = trace
-trace_file (run_asked store keys lanes turns trace) = trace
+trace_file (run_asked store keys lanes turns trace limits) = trace
 trace_file audit_asked = None
 trace_file (drill_asked count) = None
 

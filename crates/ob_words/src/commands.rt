@@ -35,10 +35,12 @@ const FORMAT: [Word; 12] = [
 ];
 
 // The words of `run`.
-const RUN: [Word; 5] = [
+const RUN: [Word; 7] = [
     Word::Operand("STORE"),
     Word::Operand("KEYS"),
     Word::Valued("lanes"),
+    Word::Valued("reads"),
+    Word::Valued("writes"),
     Word::Valued("trace"),
     Word::Flag("turns"),
 ];

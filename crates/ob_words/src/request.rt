@@ -31,13 +31,16 @@ pub enum Request<'a> {
         trace: Option<&'a str>,
     },
     /// A run of the script that comes in over the store in the file `store`, under the keys in the
-    /// file `keys`; by so many lanes, and in turns; and the file of its trace.
+    /// file `keys`; by so many lanes, and in turns; the file of its trace; and each client's shares
+    /// of reads and of writes.
     Run {
         store: &'a str,
         keys: &'a str,
         lanes: Option<&'a str>,
         turns: bool,
         trace: Option<&'a str>,
+        reads: Option<&'a str>,
+        writes: Option<&'a str>,
     },
     /// An audit of the trace that comes in.
     Audit,
@@ -110,6 +113,8 @@ fn run_request<'a>(found: &ArgMatches<'a>) -> Request<'a>
         lanes: value_of(found, "lanes"),
         turns: text_of(found, "turns") == "true",
         trace: value_of(found, "trace"),
+        reads: value_of(found, "reads"),
+        writes: value_of(found, "writes"),
     }
 }
 

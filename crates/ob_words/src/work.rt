@@ -2,12 +2,13 @@
 
 ghost use Rattle.std.specs.Prelude.{◌≡◌, ◌∷◌, [], map, option_map, is_some, MatchResult, IfOk, IfErr};
 ghost use Rattle.ob_words.specs.Reading.{asked_of};
-ghost use Rattle.ob_words.specs.Work.{Denotes, AreParams, IsBadNumber, AreLanes, AreBadLanes, IsCount, IsBadCount, IsWorkOf, IsOutOfRange, AskFor, IsRefusedFor, AreFilesOf, AreWanted, HasKeys, IsKeysRefused, IsTapeKey};
+ghost use Rattle.ob_words.specs.Work.{Denotes, AreParams, IsBadNumber, AreLanes, AreBadLanes, IsShare, IsCount, IsBadCount, IsWorkOf, IsOutOfRange, AskFor, IsRefusedFor, AreFilesOf, AreWanted, HasKeys, IsKeysRefused, IsTapeKey};
 
 use crate::request::{Request, WordsErr, read_words};
 use ob_base::{Fault, Field, Memory, Params};
 use ob_script::number_of;
 use ob_seal::Keys;
+use ob_shares::Shares;
 use std::alloc::Global;
 
 /// What the words ask for.
@@ -30,11 +31,13 @@ pub enum Command {
         traced: bool,
     },
     /// The script that comes in is run. The vault's batches may have so many lanes, from 1 to 16;
-    /// with `turns` all clients' calls are made by hand; and there is a trace of it where `traced`.
+    /// with `turns` all clients' calls are made by hand; there is a trace of it where `traced`; and
+    /// each client has these shares, of which 0 fits no run.
     Run {
         lanes: u32,
         turns: bool,
         traced: bool,
+        shares: Shares,
     },
 }
 
@@ -113,6 +116,17 @@ fn lanes_in(word: Option<&str>) -> Result<u32, Field>
     }
 }
 
+// The share that the word of `--reads` or `--writes` gives, if it is there; 0, which fits no run,
+// where it is no number.
+fn share_in(word: Option<&str>) -> Option<u32>
+    ensures { IsShare (option_map (λ w. w.now) word.entry) result }
+{
+    match word {
+        Some(word) => Some(number_in(word)),
+        None => None,
+    }
+}
+
 // How many transactions the word of `drill` gives.
 fn count_in(word: &str) -> Result<u32, Field>
     ensures { MatchResult result (λ n. IsCount word.now n)
@@ -163,12 +177,18 @@ fn work_in(request: &Request<'_>) -> Result<Work, Field>
             lanes,
             turns,
             trace,
+            reads,
+            writes,
             ..
         } => match lanes_in(*lanes) {
             Ok(lanes) => Ok(Work::OnStore(Command::Run {
                 lanes,
                 turns: *turns,
                 traced: is_given(*trace),
+                shares: Shares {
+                    reads: share_in(*reads),
+                    writes: share_in(*writes),
+                },
             })),
             Err(field) => Err(field),
         },

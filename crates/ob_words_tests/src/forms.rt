@@ -5,7 +5,7 @@ use ob_words::{Request, WordsErr, read_words};
 use std::process::Abort;
 
 // Words with a blank between two, and what they ask for: each operand in brackets.
-static WORDS: [(&str, &str); 58] = [
+static WORDS: [(&str, &str); 66] = [
     ("audit", "audit"),
     ("drill 1", "drill [1]"),
     ("drill x", "drill [x]"),
@@ -16,6 +16,12 @@ static WORDS: [(&str, &str); 58] = [
     ("run S K --lanes 16 --turns", "run [S] [K] lanes [16] turns"),
     ("run S K --lanes x", "run [S] [K] lanes [x]"),
     ("run S K --trace F", "run [S] [K] trace [F]"),
+    ("run S K --reads 1", "run [S] [K] reads [1]"),
+    ("run S K --writes x", "run [S] [K] writes [x]"),
+    (
+        "run S K --writes 0 --turns --reads 01",
+        "run [S] [K] turns reads [01] writes [0]",
+    ),
     (
         "run S K --trace F --turns --lanes 2",
         "run [S] [K] lanes [2] turns trace [F]",
@@ -73,6 +79,11 @@ static WORDS: [(&str, &str); 58] = [
     ("run S K --lanes", "refused"),
     ("run S K --lanes 2 --lanes 3", "refused"),
     ("run S K --lanes -2", "refused"),
+    ("run S K --reads", "refused"),
+    ("run S K --reads 1 --reads 1", "refused"),
+    ("run S K --reads -1", "refused"),
+    ("run S K --writes 1 --writes 2", "refused"),
+    ("format S K 8 2 2 3 2 2 2 2 8 --reads 1", "refused"),
     ("run S -k", "refused"),
     ("run S K --turn", "refused"),
     ("run S K --nothing", "refused"),
@@ -131,9 +142,13 @@ fn push_request<R: Abort>(rt: &R, text: &mut String, request: &Request<'_>) {
             lanes,
             turns,
             trace,
+            reads,
+            writes,
         } => {
             push_run(rt, text, &[store, keys], lanes, turns);
             push_option(rt, text, " trace", trace);
+            push_option(rt, text, " reads", reads);
+            push_option(rt, text, " writes", writes);
         }
         Request::Audit => push(rt, text, "audit"),
         Request::Drill { count } => push_words(rt, text, "drill", &[count]),

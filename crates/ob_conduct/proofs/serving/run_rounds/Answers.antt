@@ -9,7 +9,7 @@ loop-init g c = record {
   params = c.requires.params;
   beat = refl;
   room = c.requires.room;
-  going = going_none _ _ _ _ _ _ (ready_new c.args.params.now c.args.desk.now (g.V.Vault.counts c.args.vault.now) _ c.requires.fresh c.requires.serves) c.requires.none_made c.requires.whole;
+  going = going_none _ _ _ _ _ _ (ready_new c.args.params.now _ c.args.desk.now (g.V.Vault.counts c.args.vault.now) _ c.requires.fresh c.requires.serves) c.requires.none_made c.requires.whole;
 }
 
 pub step_all-requires-clause-below : goal.step_all-requires-clause-below

@@ -22,18 +22,18 @@ seat_all-requires-clause-many g c =
 
 pub serve-result-requires-clause-first : goal.serve-result-requires-clause-first
 serve-result-requires-clause-first g c κs within =
-    first_pass c.args.opened.hall (map g.U.Runner.client c.args.runners.now.items) c.args.opened.driver c.args.opened.passes.items c.requires.passes c.args.params.now (g.V.Vault.counts c.args.vault.now) c.requires.fresh c.requires.serves
+    first_pass c.args.opened.hall (map g.U.Runner.client c.args.runners.now.items) c.args.opened.driver c.args.opened.passes.items c.requires.passes c.args.params.now _ (g.V.Vault.counts c.args.vault.now) c.requires.fresh c.requires.serves
 
 pub serve-result-requires-clause-clients : goal.serve-result-requires-clause-clients
 serve-result-requires-clause-clients g c κs within =
-    clients (kind_of g.V.Vault) (beat_kind g.B.Beat.passes g.B.Beat.exact) g.U.Runner.client g.U.Runner.bound g.U.Runner.plan g.U.Runner.fits g.U.Runner.turn c.args.params.now c.args.opened.hall (g.V.Vault.counts c.args.vault.now) c.args.runners.now.items
+    clients (kind_of g.V.Vault) (beat_kind g.B.Beat.passes g.B.Beat.exact) g.U.Runner.client g.U.Runner.bound g.U.Runner.plan g.U.Runner.fits g.U.Runner.turn c.args.params.now c.args.opened.hall _ (g.V.Vault.counts c.args.vault.now) c.args.runners.now.items
     c.args.opened.passes.items c.seat_all.new.clients.items
     (side c.args.opened.driver c.args.vault.now (g.W.Watch.trace c.args.watch.now) (outflow g.O.Sink c.args.output.now)) c.requires.fresh c.requires.serves c.requires.passes c.seat_all.ensures.runners
     c.seat_all.ensures.passes c.requires.below c.requires.none_made c.args.starts
 
 pub close_hall-requires : goal.close_hall-requires
 close_hall-requires g c =
-    let back = handed_back (kind_of g.V.Vault) (beat_kind g.B.Beat.passes g.B.Beat.exact) g.U.Runner.client g.U.Runner.bound g.U.Runner.plan g.U.Runner.fits g.U.Runner.turn c.args.params.now c.args.opened.hall (g.V.Vault.counts c.args.vault.now)
+    let back = handed_back (kind_of g.V.Vault) (beat_kind g.B.Beat.passes g.B.Beat.exact) g.U.Runner.client g.U.Runner.bound g.U.Runner.plan g.U.Runner.fits g.U.Runner.turn c.args.params.now c.args.opened.hall _ (g.V.Vault.counts c.args.vault.now)
     c.args.runners.now.items c.args.opened.passes.items c.seat_all.new.clients.items
     (side c.args.opened.driver c.args.vault.now (g.W.Watch.trace c.args.watch.now) (outflow g.O.Sink c.args.output.now)) c.requires.fresh c.requires.serves c.requires.passes c.seat_all.ensures.runners
     c.seat_all.ensures.passes c.requires.below c.requires.none_made c.args.starts
@@ -51,7 +51,7 @@ pub returns-clause-done : goal.returns-clause-done
 returns-clause-done g c =
     let whole = c.close_hall.ensures.whole in (
       whole.0,
-      in_threads (kind_of g.V.Vault) (beat_kind g.B.Beat.passes g.B.Beat.exact) g.U.Runner.client g.U.Runner.bound g.U.Runner.plan g.U.Runner.fits g.U.Runner.turn c.args.params.now c.args.opened.hall (g.V.Vault.counts c.args.vault.now) c.args.runners.now.items
+      in_threads (kind_of g.V.Vault) (beat_kind g.B.Beat.passes g.B.Beat.exact) g.U.Runner.client g.U.Runner.bound g.U.Runner.plan g.U.Runner.fits g.U.Runner.turn c.args.params.now c.args.opened.hall _ (g.V.Vault.counts c.args.vault.now) c.args.runners.now.items
           c.args.opened.passes.items c.seat_all.new.clients.items
           (side c.args.opened.driver c.args.vault.now (g.W.Watch.trace c.args.watch.now) (outflow g.O.Sink c.args.output.now)) c.requires.fresh c.requires.serves c.requires.passes c.seat_all.ensures.runners
           c.seat_all.ensures.passes c.requires.below c.requires.none_made c.args.starts

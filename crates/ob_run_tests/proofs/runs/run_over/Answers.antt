@@ -1,4 +1,7 @@
 use Rattle.std.proofs.Common.{◌∙◌, sym, suc, arith}
+use Rattle.ob_shares.specs.Shares.{no_shares}
+use Rattle.ob_shares.proofs.Fitting.{none_fit}
+use Rattle.ob_conduct.proofs.Conducting.{own_shares, own_opens}
 use Rattle.ob_run.proofs.Scripts.{may_open, opens_all, below_all, none_made, scripts_are_quiet}
 use Rattle.ob_run_tests.proofs.Opening.{new_same}
 use Rattle.ob_run_tests.proofs.runs.run_over.Goals as goal
@@ -16,12 +19,14 @@ pub run_in_threads-requires-clause-clients : goal.run_in_threads-requires-clause
 run_in_threads-requires-clause-clients g c κs within = c.clients-clients.ensures.clients ∙ sym c.in-Ok.ensures.clients_are
 
 pub run_in_threads-requires-clause-fresh : goal.run_in_threads-requires-clause-fresh
-run_in_threads-requires-clause-fresh g c κs within = c.in-Ok-new.ensures ∙ new_same c.args.params.now _ _ _ _ _ _ (let e = c.epoch.ensures.epoch in omega (arith, e)) c.left.ensures (c.clients-clients.ensures.clients ∙ sym c.in-Ok.ensures.clients_are)
+run_in_threads-requires-clause-fresh g c κs within = own_shares c.args.params.now no_shares _ _ _ _
+    (c.in-Ok-new.ensures ∙ new_same c.args.params.now _ _ _ _ _ _ (let e = c.epoch.ensures.epoch in omega (arith, e)) c.left.ensures (c.clients-clients.ensures.clients ∙ sym c.in-Ok.ensures.clients_are))
 
 pub run_in_threads-requires-clause-opens : goal.run_in_threads-requires-clause-opens
-run_in_threads-requires-clause-opens g c κs within =
-    opens_all c.args.scripts.now c.in-Ok.runners.items c.in-Ok.ensures c.args.params.now (suc (g.V.Vault.counts c.args.vault.now).epoch) (g.V.Vault.counts c.args.vault.now).left
-    (may_open c.args.params.now (suc (g.V.Vault.counts c.args.vault.now).epoch) (g.V.Vault.counts c.args.vault.now).left c.args.scripts.now (let e = c.epoch.ensures.epoch in let few = c.epoch.ensures.few in omega (arith, e, few)) c.requires.few c.requires.sound)
+run_in_threads-requires-clause-opens g c κs within = own_opens c.args.params.now no_shares _ _ _ _
+    (c.in-Ok-new.ensures ∙ new_same c.args.params.now _ _ _ _ _ _ (let e = c.epoch.ensures.epoch in omega (arith, e)) c.left.ensures (c.clients-clients.ensures.clients ∙ sym c.in-Ok.ensures.clients_are))
+    (opens_all c.args.scripts.now c.in-Ok.runners.items c.in-Ok.ensures c.args.params.now no_shares (suc (g.V.Vault.counts c.args.vault.now).epoch) (g.V.Vault.counts c.args.vault.now).left
+    (may_open c.args.params.now no_shares (suc (g.V.Vault.counts c.args.vault.now).epoch) (g.V.Vault.counts c.args.vault.now).left c.args.scripts.now (let e = c.epoch.ensures.epoch in let few = c.epoch.ensures.few in omega (arith, e, few)) c.requires.few c.requires.sound (none_fit _ _ _)))
 
 pub run_in_threads-requires-clause-below : goal.run_in_threads-requires-clause-below
 run_in_threads-requires-clause-below g c κs within = below_all c.args.scripts.now c.in-Ok.runners.items c.in-Ok.ensures c.args.params.now.keys c.requires.keys
@@ -45,12 +50,14 @@ pub run-requires-clause-clients : goal.run-requires-clause-clients
 run-requires-clause-clients g c κs within = c.clients-clients.ensures.clients ∙ sym c.in-Ok.ensures.clients_are
 
 pub run-requires-clause-fresh : goal.run-requires-clause-fresh
-run-requires-clause-fresh g c κs within = c.in-Ok-new.ensures ∙ new_same c.args.params.now _ _ _ _ _ _ (let e = c.epoch.ensures.epoch in omega (arith, e)) c.left.ensures (c.clients-clients.ensures.clients ∙ sym c.in-Ok.ensures.clients_are)
+run-requires-clause-fresh g c κs within = own_shares c.args.params.now no_shares _ _ _ _
+    (c.in-Ok-new.ensures ∙ new_same c.args.params.now _ _ _ _ _ _ (let e = c.epoch.ensures.epoch in omega (arith, e)) c.left.ensures (c.clients-clients.ensures.clients ∙ sym c.in-Ok.ensures.clients_are))
 
 pub run-requires-clause-opens : goal.run-requires-clause-opens
-run-requires-clause-opens g c κs within =
-    opens_all c.args.scripts.now c.in-Ok.runners.items c.in-Ok.ensures c.args.params.now (suc (g.V.Vault.counts c.args.vault.now).epoch) (g.V.Vault.counts c.args.vault.now).left
-    (may_open c.args.params.now (suc (g.V.Vault.counts c.args.vault.now).epoch) (g.V.Vault.counts c.args.vault.now).left c.args.scripts.now (let e = c.epoch.ensures.epoch in let few = c.epoch.ensures.few in omega (arith, e, few)) c.requires.few c.requires.sound)
+run-requires-clause-opens g c κs within = own_opens c.args.params.now no_shares _ _ _ _
+    (c.in-Ok-new.ensures ∙ new_same c.args.params.now _ _ _ _ _ _ (let e = c.epoch.ensures.epoch in omega (arith, e)) c.left.ensures (c.clients-clients.ensures.clients ∙ sym c.in-Ok.ensures.clients_are))
+    (opens_all c.args.scripts.now c.in-Ok.runners.items c.in-Ok.ensures c.args.params.now no_shares (suc (g.V.Vault.counts c.args.vault.now).epoch) (g.V.Vault.counts c.args.vault.now).left
+    (may_open c.args.params.now no_shares (suc (g.V.Vault.counts c.args.vault.now).epoch) (g.V.Vault.counts c.args.vault.now).left c.args.scripts.now (let e = c.epoch.ensures.epoch in let few = c.epoch.ensures.few in omega (arith, e, few)) c.requires.few c.requires.sound (none_fit _ _ _)))
 
 pub run-requires-clause-below : goal.run-requires-clause-below
 run-requires-clause-below g c κs within = below_all c.args.scripts.now c.in-Ok.runners.items c.in-Ok.ensures c.args.params.now.keys c.requires.keys

@@ -1,6 +1,7 @@
 use Rattle.std.proofs.Common.{◌∙◌, arith, ap, inl, inr, refl, sym, subst}
 use Rattle.ob_serial.specs.Vaults.{VaultCounts}
 use Rattle.ob_serial.specs.VaultKinds.{kind_of}
+use Rattle.ob_shares.proofs.Fitting.{none_fit}
 use Rattle.ob_store.proofs.Serving.{goes_then, rose_later}
 use Rattle.ob_script.specs.Script.{AreSound, Scripts}
 use Rattle.ob_script.proofs.Drills.{drill_sound}
@@ -30,6 +31,9 @@ pub conduct-requires-clause-keys : goal.conduct-requires-clause-keys
 conduct-requires-clause-keys g c κs within =
     let (n, few, is) = c.requires.script in
     ap (λ (s : Scripts). s.keys) is ∙ sym (keys_are c.args.params.now c.requires.numbers)
+
+pub conduct-requires-clause-fit : goal.conduct-requires-clause-fit
+conduct-requires-clause-fit g c κs within = none_fit _ _ _
 
 pub conduct-requires-clause-runners : goal.conduct-requires-clause-runners
 conduct-requires-clause-runners g c κs within = c.requires.runners

@@ -29,7 +29,7 @@ returns-in-Err-clause-refused g c =
     })
 
 pub returns-in-Err-still_watched-clause-refused : goal.returns-in-Err-still_watched-clause-refused
-returns-in-Err-still_watched-clause-refused g c = broke_early (λ s. g.S.Store.disk s) _ _ _ _ _ _ _ _ c.in-Err-still_watched.err c.in-Err-still_watched.ensures (λ broken. inl (record {
+returns-in-Err-still_watched-clause-refused g c = broke_early (λ s. g.S.Store.disk s) _ _ _ _ _ _ _ _ _ c.in-Err-still_watched.err c.in-Err-still_watched.ensures (λ broken. inl (record {
   untouched = refl;
   p = c.in-Ok.params;
   head = c.in-Ok.ensures.value;
@@ -44,7 +44,19 @@ pub returns-in-Err-read_script-clause-refused : goal.returns-in-Err-read_script-
 returns-in-Err-read_script-clause-refused g c = inr (inl (record {
   p = c.in-Ok.params;
   head = c.in-Ok.ensures.value;
-  refused = c.in-Err-read_script.ensures.refused;
+  refused = inl c.in-Err-read_script.ensures.refused;
+  keeps = c.in-Ok.ensures.keeps;
+  passes = c.in-Ok.ensures.passes;
+  seen = c.in-Ok.ensures.does.seen;
+  shown = c.in-Ok.ensures.does.shows;
+  whole = c.in-Ok-still_watched.ensures;
+}))
+
+pub returns-in-Err-check_shares-clause-refused : goal.returns-in-Err-check_shares-clause-refused
+returns-in-Err-check_shares-clause-refused g c = inr (inl (record {
+  p = c.in-Ok.params;
+  head = c.in-Ok.ensures.value;
+  refused = inr (c.in-Err-check_shares.field, refl, c.in-Ok-read_script.scripts, c.in-Ok-read_script.ensures.came, c.in-Err-check_shares.ensures);
   keeps = c.in-Ok.ensures.keeps;
   passes = c.in-Ok.ensures.passes;
   seen = c.in-Ok.ensures.does.seen;
@@ -56,7 +68,7 @@ pub returns-in-Err-runners-clause-refused : goal.returns-in-Err-runners-clause-r
 returns-in-Err-runners-clause-refused g c = inr (inl (record {
   p = c.in-Ok.params;
   head = c.in-Ok.ensures.value;
-  refused = tt;
+  refused = inl tt;
   keeps = c.in-Ok.ensures.keeps;
   passes = c.in-Ok.ensures.passes;
   seen = c.in-Ok.ensures.does.seen;
@@ -70,14 +82,14 @@ returns-in-Ok-prepare-clause-begun g c =
     let e = c.in-Ok-prepare.ensures in (
       found_ring e.opened.found c.in-Ok-prepare.opening,
       refl,
-      begun (λ s. g.S.Store.disk s) c.args.keys.now c.args.lanes c.requires.lanes.0 c.in-Ok.params c.in-Ok-read_script.scripts _ c.args.store.now c.head.new.store c.prepare.new.store head.value (record { keeps = head.keeps; passes = head.passes; seen = head.does.seen })
+      begun (λ s. g.S.Store.disk s) c.args.keys.now c.args.means.now.lanes c.requires.lanes.0 c.in-Ok.params c.in-Ok-read_script.scripts _ c.args.store.now c.head.new.store c.prepare.new.store head.value (record { keeps = head.keeps; passes = head.passes; seen = head.does.seen })
           c.in-Ok-read_script.ensures.came _ _ _ c.in-Ok-prepare.opening e.opened e.serves.tells e.stands head.does.shows c.in-Ok-still_watched.ensures,
     )
 
 pub returns-in-Ok-prepare-clause-serves : goal.returns-in-Ok-prepare-clause-serves
 returns-in-Ok-prepare-clause-serves g c =
     let e = c.in-Ok-prepare.ensures in
-    may_serve (λ s. g.S.Store.disk s) c.args.keys.now c.args.lanes c.in-Ok.params c.head.new.store c.prepare.new.store _ _ _ _ c.in-Ok-prepare.opening e.opened e.serves.goes.told e.tape
+    may_serve (λ s. g.S.Store.disk s) c.args.keys.now c.args.means.now.lanes c.in-Ok.params c.head.new.store c.prepare.new.store _ _ _ _ c.in-Ok-prepare.opening e.opened e.serves.goes.told e.tape
 
 pub returns-in-Ok-prepare-clause-sealer : goal.returns-in-Ok-prepare-clause-sealer
 returns-in-Ok-prepare-clause-sealer g c = ap (λ (x : Sealing). x.next) c.in-Ok-prepare.ensures.opened.is.sealer
@@ -91,7 +103,7 @@ pub returns-in-Ok-prepare-clause-since : goal.returns-in-Ok-prepare-clause-since
 returns-in-Ok-prepare-clause-since g c =
     let head = c.in-Ok.ensures in
     let e = c.in-Ok-prepare.ensures in
-    opens_in_stages (λ s. g.S.Store.disk s) (λ x t image at left. g.met.S.Store.counts_now x t image at left) (λ x image left. g.met.S.Store.only_now x image left) c.args.keys.now c.args.lanes c.in-Ok.params c.args.store.now c.head.new.store c.prepare.new.store
+    opens_in_stages (λ s. g.S.Store.disk s) (λ x t image at left. g.met.S.Store.counts_now x t image at left) (λ x image left. g.met.S.Store.only_now x image left) c.args.keys.now c.args.means.now.lanes c.in-Ok.params c.args.store.now c.head.new.store c.prepare.new.store
     (record { keeps = head.keeps; passes = head.passes; seen = head.does.seen }) _ _ c.in-Ok-prepare.opening e.opened e.leaves
 
 pub returns-in-Ok-prepare-clause-left : goal.returns-in-Ok-prepare-clause-left
@@ -104,8 +116,8 @@ pub returns-in-Err-prepare-clause-refused : goal.returns-in-Err-prepare-clause-r
 returns-in-Err-prepare-clause-refused g c =
     let head = c.in-Ok.ensures in
     let e = c.in-Err-prepare.ensures in
-    unopened (λ s. g.S.Store.disk s) c.args.keys.now c.args.lanes c.requires.lanes.0 c.in-Ok.params c.in-Ok-read_script.scripts _ c.args.store.now c.head.new.store c.prepare.new.store head.value (record { keeps = head.keeps; passes = head.passes; seen = head.does.seen })
-    c.in-Ok-read_script.ensures.came c.prepare.result _ _ _ _ _ _ _ c.in-Err-prepare.fault _ head.does.shows c.in-Ok-still_watched.ensures (g.met.S.Store.only_now c.args.store.now) head.serves.goes.faults e.faults e.serves.cause e.does_err e.refused e.stands e.unwritten e.leaves
+    unopened (λ s. g.S.Store.disk s) c.args.keys.now c.args.means.now.lanes c.requires.lanes.0 c.in-Ok.params c.in-Ok-read_script.scripts _ c.args.store.now c.head.new.store c.prepare.new.store head.value (record { keeps = head.keeps; passes = head.passes; seen = head.does.seen })
+    c.in-Ok-read_script.ensures.came c.args.means.now.shares c.in-Ok-check_shares.ensures c.prepare.result _ _ _ _ _ _ _ c.in-Err-prepare.fault _ head.does.shows c.in-Ok-still_watched.ensures (g.met.S.Store.only_now c.args.store.now) head.serves.goes.faults e.faults e.serves.cause e.does_err e.refused e.stands e.unwritten e.leaves
     (λ word_of s pending told at. e.acts word_of s pending told at)
 
 -- ---- the life of the store
@@ -124,6 +136,9 @@ returns-in-Err-still_watched-clause-none_out g c = omega (arith, c.in-Ok.ensures
 
 pub returns-in-Err-read_script-clause-lives : goal.returns-in-Err-read_script-clause-lives
 returns-in-Err-read_script-clause-lives g c = read_lives (λ s. g.S.Store.disk s) g.met.S.Store.only_now c.args.keys.now c.args.store.now c.head.new.store c.in-Ok.ensures.serves.goes c.in-Ok.ensures.keeps c.in-Ok.ensures.passes
+
+pub returns-in-Err-check_shares-clause-lives : goal.returns-in-Err-check_shares-clause-lives
+returns-in-Err-check_shares-clause-lives g c = read_lives (λ s. g.S.Store.disk s) g.met.S.Store.only_now c.args.keys.now c.args.store.now c.head.new.store c.in-Ok.ensures.serves.goes c.in-Ok.ensures.keeps c.in-Ok.ensures.passes
 
 pub returns-in-Err-runners-clause-lives : goal.returns-in-Err-runners-clause-lives
 returns-in-Err-runners-clause-lives g c = read_lives (λ s. g.S.Store.disk s) g.met.S.Store.only_now c.args.keys.now c.args.store.now c.head.new.store c.in-Ok.ensures.serves.goes c.in-Ok.ensures.keeps c.in-Ok.ensures.passes
@@ -180,3 +195,6 @@ prepare-requires-clause-unstarted g c κs within = c.requires.unstarted
 
 pub prepare-requires-clause-lanes : goal.prepare-requires-clause-lanes
 prepare-requires-clause-lanes g c κs within = c.requires.lanes
+
+pub returns-in-Ok-prepare-clause-fits : goal.returns-in-Ok-prepare-clause-fits
+returns-in-Ok-prepare-clause-fits g c = c.in-Ok-check_shares.ensures

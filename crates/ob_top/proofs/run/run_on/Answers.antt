@@ -16,12 +16,13 @@ pub returns-in-Err-still_watched-clause-done : goal.returns-in-Err-still_watched
 returns-in-Err-still_watched-clause-done g c =
     let (f, same, b) = c.in-Ok.ensures.begun in
     ended_early ring_kind ring_quiet ring_lives ring_keeps (λ s. g.S.Store.disk s) (λ x t image at left. g.met.S.Store.counts_now x t image at left) _ _ c.args.keys.now _ _ _ _ _ _ _ c.in-Err-still_watched.err
-    (broke_early (λ s. g.S.Store.disk s) _ _ _ _ _ _ _ _ c.in-Err-still_watched.err c.in-Err-still_watched.ensures (λ broken. inr (record {
+    (broke_early (λ s. g.S.Store.disk s) _ _ _ _ _ _ _ _ _ c.in-Err-still_watched.err c.in-Err-still_watched.ensures (λ broken. inr (record {
       p = c.in-Ok.begun.params;
       script = c.in-Ok.begun.scripts;
       found = f;
       start = b.start;
       opened = b.opened;
+      fits = c.in-Ok.ensures.fits;
       seen = b.seen;
       shown = b.shown;
       broken = broken;
@@ -37,7 +38,7 @@ returns-clause-done g c =
     let (f, same, b) = c.in-Ok.ensures.begun in
     ran ring_kind ring_quiet ring_lives ring_keeps (λ s. g.S.Store.disk s) (λ x t image at left. g.met.S.Store.counts_now x t image at left) _ _ c.args.keys.now _ c.begin.new.store _ _ _ _ _
     c.in-Ok.begun.params c.in-Ok.begun.scripts f b.start c.in-Ok.begun.opening.sealer _ _ _ _ b.shown c.in-Ok-still_watched.ensures
-    c.in-Ok.ensures.goes.faults b.opened b.seen c.in-Ok.ensures.durable b.stood c.in-Ok.ensures.left c.in-Ok.ensures.since c.in-Ok.ensures.opens
+    c.in-Ok.ensures.goes.faults b.opened c.in-Ok.ensures.fits b.seen c.in-Ok.ensures.durable b.stood c.in-Ok.ensures.left c.in-Ok.ensures.since c.in-Ok.ensures.opens
     (λ tells word_of s here small. opened_lives c.args.keys.now c.in-Ok.begun.params word_of s (g.S.Store.disk c.args.store.now).cells f (b.opened.finds tells) here small) (c.serve_on.ensures.serves f b.found same b.goes_on b.planned)
 
 pub returns-in-Err-still_watched-clause-goes : goal.returns-in-Err-still_watched-clause-goes
@@ -92,3 +93,6 @@ begin-requires-clause-lanes g c κs within = c.requires.lanes
 
 pub serve_on-requires-clause-lanes : goal.serve_on-requires-clause-lanes
 serve_on-requires-clause-lanes g c κs within = c.requires.lanes
+
+pub serve_on-requires-clause-fits : goal.serve_on-requires-clause-fits
+serve_on-requires-clause-fits g c κs within = c.in-Ok.ensures.fits

@@ -8,6 +8,7 @@ use Rattle.ob_vault.specs.RingLives.{ring_lives}
 use Rattle.ob_vault.specs.RingVaults.{run_over, running}
 use Rattle.ob_top.specs.Outside.{words_given}
 use Rattle.ob_top.proofs.Lent.{serves_lent}
+use Rattle.ob_top.proofs.Opens.{shares_fit}
 use Rattle.ob_top.proofs.Serving.{renamed}
 use Rattle.ob_top.proofs.run.serve_on.Goals as goal
 
@@ -24,7 +25,7 @@ none_in (x ∷ l) is = absurd (cc)
 pub returns-clause-serves : goal.returns-clause-serves
 returns-clause-serves g c = λ f found same goes planned.
     let first = c.over-vault.result in
-    let (s, its) = serves_lent first _ _ c.args.means.threads c.args.begun.params c.args.begun.scripts _ c.args.begun.runners.items _ _ _ _ _ c.conduct-ended.result _ _ c.conduct-ended.ensures.done c.requires.whole c.requires.sound c.requires.runners
+    let (s, its) = serves_lent first _ _ c.args.means.threads c.args.begun.params c.args.means.shares c.args.begun.scripts _ c.args.begun.runners.items _ _ _ _ _ c.conduct-ended.result _ _ c.conduct-ended.ensures.done c.requires.whole c.requires.sound (shares_fit _ _ _ c.requires.fits) c.requires.runners
     g.S.Store.disk (λ x t image at left. g.met.S.Store.counts_now x t image at left) (λ x image left. g.met.S.Store.only_now x image left) (λ v. running v.lent.store.now (g.T.Tape.present v.lent.tape.now) (g.T.Tape.drawn v.lent.tape.now) v.crew.lanes v.run)
     (record { called = λ v call answer notes w one. one; holds = λ v u is. is })
     (record { disk_is = λ v. (v.lent.store.ghost_name, v.lent.tape.ghost_name, refl); holds = λ v u is. is; sound = λ v u is. is; stands = λ v i at is. is; rests = λ w v i sound left. sound.images i left })
@@ -84,3 +85,6 @@ conduct-ended-requires-clause-runners g c κs within = c.requires.runners
 
 pub conduct-ended-requires-clause-whole : goal.conduct-ended-requires-clause-whole
 conduct-ended-requires-clause-whole g c κs within = c.requires.whole
+
+pub conduct-ended-requires-clause-fit : goal.conduct-ended-requires-clause-fit
+conduct-ended-requires-clause-fit g c κs within = shares_fit _ _ _ c.requires.fits
