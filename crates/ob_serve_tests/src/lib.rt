@@ -10,6 +10,8 @@ mod gate;
 #[cfg(test)]
 mod overlap;
 #[cfg(test)]
+mod ring;
+#[cfg(test)]
 mod runs;
 #[cfg(test)]
 mod sessions;

@@ -1,4 +1,4 @@
-//! A client that goes on in the next epoch while a store holds the end of the one before.
+//! A client that goes on in the next epoch while a ring store holds the end of the one before.
 
 ghost use Rattle.std.specs.Prelude.{◌≡◌, ◌++◌, ◌∷◌, [], ℕ, All, IfSome};
 ghost use Rattle.ob_session.specs.Steps.{step_of, steps_of, IsOwn};
@@ -10,17 +10,18 @@ ghost use Rattle.ob_serve_tests.specs.Overlaps.{HasComeTo};
 ghost use Rattle.ob_serve_tests.specs.declared.first.First.TheVariants as firsts;
 
 use crate::first::First;
-use crate::runs::{NEVER, both, formatted, open, run_over};
+use crate::ring::{new_store, new_tape, open_ring};
+use crate::runs::{NEVER, both, run_over};
 use crate::sessions::TURNS;
 use ob_base::{Fault, Key};
 use ob_conduct::RunErr;
 use ob_desk::{Begun, Desk, Done, Txn};
+use ob_lanes::Lanes;
 use ob_mem::{Fail, HoldStore, MemSink};
 use ob_runner::ScriptRunner;
 use ob_script::parse;
 use ob_serial::{Outcome, Why};
 use ob_session::{Made, Runner, Said, Step};
-use ob_store::Store;
 use std::alloc::Global;
 use std::process::Abort;
 use std::sync::Wait;
@@ -274,26 +275,29 @@ struct Row {
     next: &'static [&'static [u8]],
 }
 
-// The first cell that the first epoch's end writes.
-const CELL: u64 = 17;
+// The first cell of the checkpoint that the first epoch's end writes. Counted from 0 that is write
+// 93; the register's body is 106, and its gate, the end's last write, 107.
+const CELL: u64 = 28;
 
 const SCRIPT: &[u8] =
     b"client 1\nbegin\nput 5 a\ncommit\nclient 2\nbegin\nabort\nbegin\nput 6 b\ncommit\n";
 
-const READS: &[u8] = b"client 1\nbegin\nget 5\ncommit\nclient 2\nbegin\nget 6\ncommit\n";
+// In an epoch that was cut off no batch is left, so the keys are read in the one behind it.
+const READS: &[u8] = b"client 1\nbegin\ncommit\nbegin\nget 5\ncommit\n\
+    client 2\nbegin\ncommit\nbegin\nget 6\ncommit\n";
 
 const FIRST_LINES: &str = "client 1 committed\nput 5 a\n";
 
 const SECOND_LINES: &str = "client 2 committed\nput 6 b\n";
 
-const NONE_READ: &[u8] =
-    b"epoch 1\ntxn 1 client 1 committed\nget 5 absent\ntxn 2 client 2 committed\nget 6 absent\n";
+const NONE_READ: &[u8] = b"epoch 1\ntxn 1 client 1 committed\ntxn 2 client 2 committed\n\
+    epoch 2\ntxn 1 client 1 committed\nget 5 absent\ntxn 2 client 2 committed\nget 6 absent\n";
 
-const ONE_READ: &[u8] =
-    b"epoch 2\ntxn 1 client 1 committed\nget 5 = a\ntxn 2 client 2 committed\nget 6 absent\n";
+const ONE_READ: &[u8] = b"epoch 2\ntxn 1 client 1 committed\ntxn 2 client 2 committed\n\
+    epoch 3\ntxn 1 client 1 committed\nget 5 = a\ntxn 2 client 2 committed\nget 6 absent\n";
 
-const BOTH_READ: &[u8] =
-    b"epoch 3\ntxn 1 client 1 committed\nget 5 = a\ntxn 2 client 2 committed\nget 6 = b\n";
+const BOTH_READ: &[u8] = b"epoch 3\ntxn 1 client 1 committed\ntxn 2 client 2 committed\n\
+    epoch 4\ntxn 1 client 1 committed\nget 5 = a\ntxn 2 client 2 committed\nget 6 = b\n";
 
 const FAILED: Fault = Fault::StoreFault { unsure: None };
 
@@ -320,9 +324,9 @@ const ROWS: &[Row] = &[
         lines: [FIRST_LINES, SECOND_LINES],
         next: &[BOTH_READ],
     },
-    // The end is refused behind the held write, and both epochs are stopped.
+    // The body of the register fails, behind the held write: both epochs are stopped.
     Row {
-        fail: Fail::Write(30),
+        fail: Fail::Write(106),
         room: 1000,
         stops: false,
         fault: Some(RunErr::Fault(FAILED)),
@@ -332,9 +336,9 @@ const ROWS: &[Row] = &[
         lines: ["", ""],
         next: &[NONE_READ],
     },
-    // The register's last write fails: the end is in doubt, and the next epoch is stopped.
+    // The register's gate fails: the end is in doubt, and the next epoch is stopped.
     Row {
-        fail: Fail::Write(31),
+        fail: Fail::Write(107),
         room: 1000,
         stops: false,
         fault: Some(RunErr::Fault(DOUBT)),
@@ -394,7 +398,7 @@ fn tells(written: &[u8], row: &Row) -> bool {
 }
 
 // What the next run over a store writes: each client reads one key.
-fn read_again<R: Threads + Wait + Sync + Abort, S: Store>(
+fn read_again<R: Threads + Wait + Sync + Abort, S: Lanes>(
     rt: &R,
     alloc: Global,
     store: &mut S,
@@ -403,7 +407,8 @@ fn read_again<R: Threads + Wait + Sync + Abort, S: Store>(
     requires { (S.disk store.old).out ≡ 0 }
 {
     let hold = Hold::new();
-    let mut vault = open(rt, alloc, store);
+    let mut tape = new_tape(rt, alloc);
+    let mut vault = open_ring(rt, alloc, store, &mut tape);
     let params = vault.params();
     let mut readers = clients(rt, alloc, READS, &hold, false);
     run_over(rt, alloc, &params, &mut vault, &mut readers, output, false)
@@ -429,9 +434,10 @@ fn is_one_of(written: &[u8], all: &[&[u8]]) -> bool {
 fn play<R: Threads + Wait + Sync + Abort>(rt: &R, alloc: Global, i: usize, row: &Row) {
     let mut output = new_output(rt, alloc, row.room);
     let hold = Hold::new();
-    let store = formatted(rt, alloc, row.fail);
+    let store = new_store(rt, alloc, row.fail);
     let mut held = HoldStore::new(store, CELL, TURNS, &hold.reached, &hold.release);
-    let mut vault = open(rt, alloc, &mut held);
+    let mut tape = new_tape(rt, alloc);
+    let mut vault = open_ring(rt, alloc, &mut held, &mut tape);
     let params = vault.params();
     let mut pair = clients(rt, alloc, SCRIPT, &hold, row.stops);
     let ended = run_over(rt, alloc, &params, &mut vault, &mut pair, &mut output, true);
@@ -444,7 +450,8 @@ fn play<R: Threads + Wait + Sync + Abort>(rt: &R, alloc: Global, i: usize, row: 
     assert!(rt; second.refused == row.refused, "row {i}");
     assert!(rt; tells(output.written(), row), "row {i}");
     let mut next = new_output(rt, alloc, 1000);
-    let again = read_again(rt, alloc, vault.into_store(), &mut next);
+    let (store, _) = vault.into_lent();
+    let again = read_again(rt, alloc, store, &mut next);
     assert!(rt; again.is_ok(), "row {i}");
     assert!(rt; is_one_of(next.written(), row.next), "row {i}");
 }

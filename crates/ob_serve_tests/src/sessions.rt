@@ -47,11 +47,8 @@ enum Ask {
     Commit { outcome: Outcome<Key> },
 }
 
-// A call, and the moment from which it may be made.
-struct Line {
-    at: u64,
-    ask: Ask,
-}
+// The moment from which a call may be made, and the call.
+type Line = (u64, Ask);
 
 /// How many calls were answered, and how many of them as wanted. Where it holds the first epoch's
 /// end, that is reached, and let go behind the fourth answer.
@@ -199,8 +196,9 @@ fn follow_all<R: Wait>(rt: &R, hall: &Hall, pass: &mut Pass, script: &[Line], cl
 {
     let mut inside = false;
     for line in script {
-        clock.wait_until(rt, line.at);
-        let (next, right) = call(rt, hall, pass, inside, &line.ask);
+        let (at, ask) = line;
+        clock.wait_until(rt, *at);
+        let (next, right) = call(rt, hall, pass, inside, ask);
         inside = next;
         clock.count(right);
     }
@@ -209,81 +207,43 @@ fn follow_all<R: Wait>(rt: &R, hall: &Hall, pass: &mut Pass, script: &[Line], cl
     }
 }
 
+const COMMIT: Ask = Ask::Commit {
+    outcome: Outcome::Committed,
+};
+
 // The first client writes what the second one has read by then.
 const WRITER: &[Line] = &[
-    Line {
-        at: 0,
-        ask: Ask::Begin,
-    },
-    Line {
-        at: 2,
-        ask: Ask::Get { key: 7 },
-    },
-    Line {
-        at: 4,
-        ask: Ask::Put {
+    (0, Ask::Begin),
+    (2, Ask::Get { key: 7 }),
+    (
+        4,
+        Ask::Put {
             key: 5,
             why: Some(Why::Conflict { key: 5, reader: 2 }),
         },
-    },
+    ),
 ];
 
 // The second one reads, and deletes another key.
 const READER: &[Line] = &[
-    Line {
-        at: 1,
-        ask: Ask::Begin,
-    },
-    Line {
-        at: 2,
-        ask: Ask::Get { key: 5 },
-    },
-    Line {
-        at: 5,
-        ask: Ask::Del { key: 6 },
-    },
-    Line {
-        at: 6,
-        ask: Ask::Commit {
-            outcome: Outcome::Committed,
-        },
-    },
+    (1, Ask::Begin),
+    (2, Ask::Get { key: 5 }),
+    (5, Ask::Del { key: 6 }),
+    (6, COMMIT),
 ];
 
 // The first client asks to commit, and its epoch is closed.
 const ENDED: &[Line] = &[
-    Line {
-        at: 0,
-        ask: Ask::Begin,
-    },
-    Line {
-        at: 1,
-        ask: Ask::Put { key: 5, why: None },
-    },
-    Line {
-        at: 2,
-        ask: Ask::Commit {
-            outcome: Outcome::Committed,
-        },
-    },
+    (0, Ask::Begin),
+    (1, Ask::Put { key: 5, why: None }),
+    (2, COMMIT),
 ];
 
 // The second one begins and writes while that epoch is ended.
 const BESIDE: &[Line] = &[
-    Line {
-        at: 2,
-        ask: Ask::Begin,
-    },
-    Line {
-        at: 3,
-        ask: Ask::Put { key: 6, why: None },
-    },
-    Line {
-        at: 4,
-        ask: Ask::Commit {
-            outcome: Outcome::Committed,
-        },
-    },
+    (2, Ask::Begin),
+    (3, Ask::Put { key: 6, why: None }),
+    (4, COMMIT),
 ];
 
 // The calls of a client.
