@@ -16,6 +16,7 @@ use Rattle.ob_twin.specs.Register.{StandsAt, OldOrNew}
 use Rattle.ob_store.proofs.Lanes.{first_none}
 use Rattle.ob_serial.specs.Vaults.{Standing}
 use Rattle.ob_start.specs.Orders.{registers_notes}
+use Rattle.ob_start.proofs.Early.{AreRead, reads_called}
 use Rattle.ob_start.specs.Beginning.{BeginsFrom, BeginLeaves, IsBeginFault, IsWornFault}
 use Rattle.ob_flat.specs.Orders.{found_notes}
 use Rattle.ob_flat.specs.declared.opening.Opening.{Opening}
@@ -102,7 +103,7 @@ pub keeps_both : (a b c : Disk) → Keeps a b → Keeps b c → Keeps a c
 keeps_both a b c first second = record { tells = λ t. second.tells (first.tells t); cells = λ t k. second.cells (first.tells t) k ∙ first.cells t k }
 
 -- a generation that is begun behind reads, by its register alone
-module _ {S : Type 0} (disk : S → Disk) (keys : Keys) (g : ℕ) (old mid new : S) (passes : Passes Same (disk old) (disk mid)) (keeps : Keeps (disk old) (disk mid))
+module _ {S : Type 0} (disk : S → Disk) (keys : Keys) (g : ℕ) (old mid new : S) (read : AreRead (disk old).seen (disk mid).seen) (passes : Passes Same (disk old) (disk mid)) (keeps : Keeps (disk old) (disk mid))
     (number : (h : ℕ) → (disk old).tells → StandsAt (tagging keys) 1 (disk old).cells h → g ≡ h) where
   register_kept : (h : ℕ) → (disk old).tells → StandsAt (tagging keys) 1 (disk old).cells h → StandsAt (tagging keys) 1 (disk mid).cells h
   register_kept h tells stands = subst (λ (i : Image). StandsAt (tagging keys) 1 i h) (sym (fun_ext (λ k. keeps.cells tells k))) stands
@@ -110,6 +111,7 @@ module _ {S : Type 0} (disk : S → Disk) (keys : Keys) (g : ℕ) (old mid new :
   pub begins_behind : BeginsFrom disk keys g mid new → BeginsFrom disk keys g old new
   begins_behind b = record {
     synced = b.synced;
+    called = reads_called (disk old) (disk mid) (disk b.synced) read b.called;
     until = reads_both (disk old) (disk mid) (disk b.synced) passes b.until;
     keeps = keeps_both (disk old) (disk mid) (disk b.synced) keeps b.keeps;
     settled = λ tells. b.settled (keeps.tells tells);
@@ -131,11 +133,12 @@ module _ {S : Type 0} (disk : S → Disk) (keys : Keys) (g : ℕ) (old mid new :
       subst (λ n. BeginsNext disk keys n old new opening) same (record { next = next; stands = stands (keeps.tells tells) (register_kept g tells here); leaves = begins_behind begun })
 
 -- from the first sync of an opening on, where a generation is begun behind reads
-module _ {S : Type 0} (disk : S → Disk) (keys : Keys) (p : Params) (g : ℕ) (old mid new : S) (passes : Passes Same (disk old) (disk mid)) (keeps : Keeps (disk old) (disk mid))
+module _ {S : Type 0} (disk : S → Disk) (keys : Keys) (p : Params) (g : ℕ) (old mid new : S) (read : AreRead (disk old).seen (disk mid).seen) (passes : Passes Same (disk old) (disk mid)) (keeps : Keeps (disk old) (disk mid))
     (number : (h : ℕ) (at : Standing) → (disk old).tells → StandsFlat keys p h (disk old).cells at → g ≡ h) where
   pub opens_from : BeginsFrom disk keys g mid new → OpensFrom disk keys p old new
   opens_from b = record {
     synced = b.synced;
+    called = reads_called (disk old) (disk mid) (disk b.synced) read b.called;
     until = reads_both (disk old) (disk mid) (disk b.synced) passes b.until;
     keeps = keeps_both (disk old) (disk mid) (disk b.synced) keeps b.keeps;
     settled = λ tells. b.settled (keeps.tells tells);

@@ -23,7 +23,7 @@ use Rattle.ob_serial.specs.Vaults.{Standing}
 use Rattle.ob_flat.specs.declared.opening.Opening.{Opening}
 use Rattle.ob_flat.specs.Places.{area_of}
 use Rattle.ob_start.specs.Registers.{Found, IsRegisterDamage}
-use Rattle.ob_start.specs.Beginning.{BeginsFrom}
+use Rattle.ob_start.specs.Beginning.{BeginsFrom, ReadsThenSync}
 use Rattle.ob_start.specs.Orders.{registers_notes}
 use Rattle.ob_flat.specs.Standing.{IsMapOf, StandsFlat, Stands, AllStand, StandsAsBefore}
 use Rattle.ob_flat.specs.Orders.{found_notes, open_notes}
@@ -94,10 +94,11 @@ pub record Begins (keys : Keys) (p : Params) (old new : Disk) (opening : Opening
   pub gates : old.tells → GatesAre opening.gates.epoch 5 old.cells
   pub tell : old.tells → GatesAre opening.gates.epoch 5 new.cells
 
--- Its first sync succeeded, and the store was this one then: no write waited. Until then a crash leaves what it might have left
--- before; from then on an image that stands for what the store stood for, at its generation or the next one.
+-- Its first sync succeeded, and the store was this one then: no write waited, and up to it only reads were called for. Until then a crash
+-- leaves what it might have left before; from then on an image that stands for what the store stood for, at its generation or the next one.
 pub record OpensFrom {S : Type 0} (disk : S → Disk) (keys : Keys) (p : Params) (old new : S) : Type 0 where
   pub synced : S
+  pub called : ReadsThenSync (disk old) (disk synced)
   pub until : Passes Same (disk old) (disk synced)
   pub keeps : Keeps (disk old) (disk synced)
   pub settled : (disk old).tells → IsSynced (disk synced)

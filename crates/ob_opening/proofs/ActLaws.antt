@@ -46,7 +46,7 @@ use Rattle.ob_opening.specs.OpeningRuns.{OpeningLeaves, OpensFrom, begun_notes, 
 use Rattle.ob_opening.specs.OpeningParts.{FoundDoes, FoundRefused}
 use Rattle.ob_opening.specs.Openings.{OpensWhatStood}
 use Rattle.ob_opening.specs.declared.opening.Opening.{Opening}
-use Rattle.ob_opening.proofs.OpenedLaws.{begins_behind, opens_behind, repeats_behind}
+use Rattle.ob_opening.proofs.OpenedLaws.{begins_behind, finding_read, opens_behind, repeats_behind}
 
 -- ---- lives
 
@@ -386,8 +386,9 @@ module _ {S : Type 0} (disk : S → Disk) (counts : (store : S) (t : Clock) (c :
         (λ opens. opens_partly keys most p word_of s pending (disk old) (disk new) before after left.allowed f (one_of_both opens) told)
         leaves
     all_acts tape new_tape present drawn (Err fault) stood leaves does (inr begun) =
-        let behind = begins_behind disk keys p (finding_notes p found.epoch) (next_notes found) found.generation old mid new keeps passes reads.seen begun.begins in
-        let opens = opens_behind disk keys p old mid new passes keeps begun.opens in
+        let read = finding_read p found.epoch (disk old).seen (disk mid).seen reads.seen in
+        let behind = begins_behind disk keys p (finding_notes p found.epoch) (next_notes found) found.generation old mid new keeps passes reads.seen read begun.begins in
+        let opens = opens_behind disk keys p old mid new read passes keeps begun.opens in
         let whole = repeats_behind most p found (finding_notes p found.epoch) (next_notes found) (disk old).seen (disk mid).seen (disk new).seen before between after reads {T = Unit {0}} (Err fault) begun.repeats in
         let first = whole.repeats in
         let many : length found.records ≡ length here.records = ap length same.records in

@@ -1,14 +1,18 @@
 -- What stands behind what was found: the planner, the register, the images.
-use Rattle.std.proofs.Common.{◌≡◌, inl, inr, ⊎_elim, ℕ, suc, List, ◌++◌, Option, Result, Err, sym, ◌∙◌, subst, arith}
+use Rattle.std.proofs.Common.{◌≡◌, inl, inr, ⊎_elim, ℕ, suc, ◌*◌, ◌%◌, ◌+◌, List, ◌∷◌, ◌++◌, Option, Result, Err, sym, ◌∙◌, ap, subst, arith}
+use Rattle.std.proofs.lemmas.List.{map-append}
 use mathlib.Core.Path.{fun_ext}
 use Rattle.ob_base.specs.declared.params.Params.{Params}
 use Rattle.ob_base.specs.declared.fault.Fault.{Fault}
+use Rattle.ob_base.specs.Layout.{checkpoint_cells, log_cell, record_cells}
 use Rattle.ob_store.specs.declared.event.Event.{Event}
 use Rattle.ob_store.specs.declared.watch.Note.{Note}
+use Rattle.ob_store.specs.declared.watch.Note.TheVariants as note
 use Rattle.ob_store.specs.Calls.{GoesOn, Keeps, Notes}
 use Rattle.ob_store.specs.Disk.{Disk, Image}
 use Rattle.ob_store.specs.Images.{IsSynced, LeavesOnly, Passes, Same}
 use Rattle.ob_store.specs.Lines.{Trace}
+use Rattle.ob_store.specs.Runs.{from_on}
 use Rattle.ob_store.specs.Told.{Tells, events_of}
 use Rattle.ob_store.proofs.Doing.{events_join, first_behind, tells_then}
 use Rattle.ob_store.proofs.Events.{joined}
@@ -16,14 +20,17 @@ use Rattle.ob_store.proofs.Moments.{then_on, weakened}
 use Rattle.ob_seal.specs.declared.keys.Keys.{Keys}
 use Rattle.ob_twin.specs.Keyed.{tagging}
 use Rattle.ob_twin.specs.Register.{KeepsAt, OldOrNew, StandsAt}
-use Rattle.ob_start.specs.Beginning.{BeginsFrom}
+use Rattle.ob_check.specs.Written.{area_of}
+use Rattle.ob_start.specs.Beginning.{BeginsFrom, ReadsThenSync}
+use Rattle.ob_start.specs.Orders.{registers_notes}
+use Rattle.ob_start.proofs.Early.{AreRead, noted_reads, reads_called}
 use Rattle.ob_tables.specs.Content.{content_of}
 use Rattle.ob_ring.specs.Ring.{Kept}
 use Rattle.ob_stand.specs.Stands.{OneOf, RingStanding, Stands, with_generation}
 use Rattle.ob_stand.proofs.Frames.{stands_all}
 use Rattle.ob_stand.proofs.OpenLaws.{open_begins}
 use Rattle.ob_recover.specs.declared.found.Found.{Found}
-use Rattle.ob_recover.specs.Finds.{IsFoundInRing, ObeysFound}
+use Rattle.ob_recover.specs.Finds.{IsFoundInRing, ObeysFound, finding_notes}
 use Rattle.ob_recover.specs.Repeats.{IsPlannerOf, IsReplayed}
 use Rattle.ob_recover.proofs.FindLaws.{keeps_both, number_found, reads_both}
 use Rattle.ob_opening.specs.OpeningRuns.{BeginsAt, BeginsFirst, OpensFrom, RepeatsBehind}
@@ -65,14 +72,25 @@ one_of keys p s d stands c either = ⊎_elim
 pub next_stands : (keys : Keys) (p : Params) (s : RingStanding) (d c : Image) → Stands keys p s d → KeepsAt (tagging keys) 1 d (suc s.generation) c → Stands keys p (with_generation s (suc s.generation)) c
 next_stands keys p s d c stands kept = (open_begins keys p s (suc s.generation) c d stands).new (omega arith) kept
 
+-- ---- what is called for
+
+-- all that is done to find a store is reads
+pub finding_read : (p : Params) (epoch : ℕ) (a b : Option (List Event)) → Notes (events_of (finding_notes p epoch)) a b → AreRead a b
+finding_read p epoch a b seen =
+    let checkpoint : List ℕ = from_on (area_of p epoch) (checkpoint_cells p) in
+    let log : List ℕ = from_on (log_cell p (suc epoch % 2) 0 0) (p.batches * (record_cells p + 1)) in
+    noted_reads (1 ∷ 2 ∷ 3 ∷ 4 ∷ 5 ∷ 6 ∷ 7 ∷ 8 ∷ checkpoint ++ log) a b
+    (subst (λ (ns : List Note). Notes (events_of ns) a b) (ap (λ (ns : List Note). registers_notes ++ ns) (sym (map-append (λ cell. note.Read cell) checkpoint log))) seen)
+
 -- ---- what a crash leaves
 
 module _ {S : Type 0} (disk : S → Disk) (keys : Keys) (p : Params) where
   -- the register says it all
-  opens_by : (old synced new : S) → Passes Same (disk old) (disk synced) → Keeps (disk old) (disk synced) → ((disk old).tells → IsSynced (disk synced))
+  opens_by : (old synced new : S) → ReadsThenSync (disk old) (disk synced) → Passes Same (disk old) (disk synced) → Keeps (disk old) (disk synced) → ((disk old).tells → IsSynced (disk synced))
       → ((g : ℕ) → (disk old).tells → StandsAt (tagging keys) 1 (disk old).cells g → LeavesOnly (disk synced) (disk new) (OldOrNew (tagging keys) 1 (disk synced).cells g (suc g))) → OpensFrom disk keys p old new
-  opens_by old synced new until keeps settled register = record {
+  opens_by old synced new called until keeps settled register = record {
     synced = synced;
+    called = called;
     until = until;
     keeps = keeps;
     settled = settled;
@@ -85,14 +103,14 @@ module _ {S : Type 0} (disk : S → Disk) (keys : Keys) (p : Params) where
 
   -- a begin
   pub begun_opens : (g : ℕ) (old new : S) → ((h : ℕ) → (disk old).tells → StandsAt (tagging keys) 1 (disk old).cells h → g ≡ h) → BeginsFrom disk keys g old new → OpensFrom disk keys p old new
-  begun_opens g old new number b = opens_by old b.synced new b.until b.keeps b.settled (λ h tells stands.
+  begun_opens g old new number b = opens_by old b.synced new b.called b.until b.keeps b.settled (λ h tells stands.
       subst (λ n. LeavesOnly (disk b.synced) (disk new) (OldOrNew (tagging keys) 1 (disk b.synced).cells n (suc n))) (number h tells stands)
       (b.since tells (subst (λ n. StandsAt (tagging keys) 1 (disk old).cells n) (sym (number h tells stands)) stands)))
 
   -- and then reads, of a store that was settled with the next generation
   pub opens_then : (old mid new : S) → OpensFrom disk keys p old mid → ((c : Image) → (disk mid).left_since (disk mid).moment c → (disk mid).may_leave c) → Passes Same (disk mid) (disk new) → ((disk old).tells → IsSynced (disk mid))
       → ((g : ℕ) → (disk old).tells → StandsAt (tagging keys) 1 (disk old).cells g → KeepsAt (tagging keys) 1 (disk old).cells (suc g) (disk mid).cells) → OpensFrom disk keys p old new
-  opens_then old mid new o only reads durable kept = opens_by old o.synced new o.until o.keeps o.settled (λ g tells stands.
+  opens_then old mid new o only reads durable kept = opens_by old o.synced new o.called o.until o.keeps o.settled (λ g tells stands.
       let P : Image → Type 0 = OldOrNew (tagging keys) 1 (disk o.synced).cells g (suc g) in
       let now = kept g tells stands in
       let here : KeepsAt (tagging keys) 1 (disk o.synced).cells (suc g) (disk mid).cells = record { stands = now.stands; rest = λ k off. now.rest k off ∙ sym (o.keeps.cells tells k) } in
@@ -100,8 +118,8 @@ module _ {S : Type 0} (disk : S → Disk) (keys : Keys) (p : Params) where
       (leaves_on (disk mid) (disk new) P only reads (λ c left. inr (kept_in keys (disk mid) (disk o.synced).cells (suc g) (durable tells) here c left)) (λ told. inr here)))
 
   -- reads before it
-  pub opens_behind : (old mid new : S) → Passes Same (disk old) (disk mid) → Keeps (disk old) (disk mid) → OpensFrom disk keys p mid new → OpensFrom disk keys p old new
-  opens_behind old mid new passes keeps o = opens_by old o.synced new (reads_both (disk old) (disk mid) (disk o.synced) passes o.until) (keeps_both (disk old) (disk mid) (disk o.synced) keeps o.keeps) (λ tells. o.settled (keeps.tells tells))
+  pub opens_behind : (old mid new : S) → AreRead (disk old).seen (disk mid).seen → Passes Same (disk old) (disk mid) → Keeps (disk old) (disk mid) → OpensFrom disk keys p mid new → OpensFrom disk keys p old new
+  opens_behind old mid new read passes keeps o = opens_by old o.synced new (reads_called (disk old) (disk mid) (disk o.synced) read o.called) (reads_both (disk old) (disk mid) (disk o.synced) passes o.until) (keeps_both (disk old) (disk mid) (disk o.synced) keeps o.keeps) (λ tells. o.settled (keeps.tells tells))
       (λ g tells stands. o.register g (keeps.tells tells) (register_same keys g (disk old).cells (disk mid).cells (keeps.cells tells) stands))
 
   -- ---- the generation, made sure of
@@ -120,13 +138,14 @@ module _ {S : Type 0} (disk : S → Disk) (keys : Keys) (p : Params) where
     reads = passes;
   }
 
-  pub begins_behind : (xs ys : List Note) (g : ℕ) (old mid new : S) → Keeps (disk old) (disk mid) → Passes Same (disk old) (disk mid) → Notes (events_of xs) (disk old).seen (disk mid).seen → BeginsAt disk keys ys g mid new → BeginsAt disk keys (xs ++ ys) g old new
-  begins_behind xs ys g old mid new keeps passes reads b = record {
+  pub begins_behind : (xs ys : List Note) (g : ℕ) (old mid new : S) → Keeps (disk old) (disk mid) → Passes Same (disk old) (disk mid) → Notes (events_of xs) (disk old).seen (disk mid).seen → AreRead (disk old).seen (disk mid).seen → BeginsAt disk keys ys g mid new → BeginsAt disk keys (xs ++ ys) g old new
+  begins_behind xs ys g old mid new keeps passes reads read b = record {
     between = b.between;
     sure = λ tells stands. b.sure (keeps.tells tells) (register_same keys g (disk old).cells (disk mid).cells (keeps.cells tells) stands);
     begun = subst (λ (es : List Event). Notes es (disk old).seen (disk b.between).seen) (sym (events_join xs ys)) (joined (events_of xs) (events_of ys) (disk old).seen (disk mid).seen (disk b.between).seen reads b.begun);
     from = record {
       synced = b.from.synced;
+      called = reads_called (disk old) (disk mid) (disk b.from.synced) read b.from.called;
       until = reads_both (disk old) (disk mid) (disk b.from.synced) passes b.from.until;
       keeps = keeps_both (disk old) (disk mid) (disk b.from.synced) keeps b.from.keeps;
       settled = λ tells. b.from.settled (keeps.tells tells);

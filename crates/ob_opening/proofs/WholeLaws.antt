@@ -18,20 +18,21 @@ use Rattle.ob_recover.specs.Finds.{IsFoundInRing, finding_notes}
 use Rattle.ob_recover.specs.Known.{public_of_kept}
 use Rattle.ob_recover.proofs.Telling.{openings_are_told}
 use Rattle.ob_start.specs.Registers.{HaveOpen}
+use Rattle.ob_start.proofs.Early.{AreRead}
 use Rattle.ob_recover.proofs.ShownOpening.{openings_are_scheduled}
 use Rattle.ob_twin.specs.declared.gates.Gates.{Gates}
 use Rattle.ob_opening.specs.declared.opening.Opening.{Opening}
 use Rattle.ob_opening.specs.OpeningParts.{FoundDoes, FoundRefused}
 use Rattle.ob_opening.specs.OpeningRuns.{BeginsAt, FollowsSchedule, IsAtStart, IsRingOpened, OpeningLeaves, RepeatsBehind, StartsTape, begun_notes, next_notes}
 use Rattle.ob_opening.specs.Openings.{IsOpeningOf, IsToldOpening}
-use Rattle.ob_opening.proofs.OpenedLaws.{begins_behind, opens_behind, register_same, repeats_behind}
+use Rattle.ob_opening.proofs.OpenedLaws.{begins_behind, finding_read, opens_behind, register_same, repeats_behind}
 use Rattle.ob_recover.proofs.FindLaws.{reads_both}
 
 -- the reads came before
 module _ {S : Type 0} (disk : S → Disk) (keys : Keys) (p : Params) (old mid new : S) (keeps : Keeps (disk old) (disk mid)) (passes : Passes Same (disk old) (disk mid)) where
-  pub all_leaves : {L : Type 0} (r : Result (Opening L) Fault) → OpeningLeaves disk keys p mid new r → OpeningLeaves disk keys p old new r
-  all_leaves (Ok o) leaves = opens_behind disk keys p old mid new passes keeps leaves
-  all_leaves (Err f) leaves = ⊎_elim (λ still. inl (reads_both (disk old) (disk mid) (disk new) passes still)) (λ opens. inr (opens_behind disk keys p old mid new passes keeps opens)) leaves
+  pub all_leaves : {L : Type 0} (r : Result (Opening L) Fault) → AreRead (disk old).seen (disk mid).seen → OpeningLeaves disk keys p mid new r → OpeningLeaves disk keys p old new r
+  all_leaves (Ok o) read leaves = opens_behind disk keys p old mid new read passes keeps leaves
+  all_leaves (Err f) read leaves = ⊎_elim (λ still. inl (reads_both (disk old) (disk mid) (disk new) passes still)) (λ opens. inr (opens_behind disk keys p old mid new read passes keeps opens)) leaves
 
   module _ (most : ℕ) (found : Found) (before between after : Trace) (reads : Tells (finding_notes p found.epoch) (finding_notes p found.epoch) (disk old).seen (disk mid).seen before between)
       (is : (disk old).tells → IsFoundInRing keys p (disk old).cells found) where
@@ -39,7 +40,7 @@ module _ {S : Type 0} (disk : S → Disk) (keys : Keys) (p : Params) (old mid ne
     told_before o tells told = subst (λ (image : Image). IsToldOpening keys p image (disk new) found o) (fun_ext (λ k. keeps.cells tells k)) told
 
     behind : BeginsAt disk keys (next_notes found) found.generation mid new → BeginsAt disk keys (begun_notes p found) found.generation old new
-    behind begins = begins_behind disk keys p (finding_notes p found.epoch) (next_notes found) found.generation old mid new keeps passes reads.seen begins
+    behind begins = begins_behind disk keys p (finding_notes p found.epoch) (next_notes found) found.generation old mid new keeps passes reads.seen (finding_read p found.epoch (disk old).seen (disk mid).seen reads.seen) begins
 
     whole : RepeatsBehind {T = Unit {0}} (next_notes found) most p found (disk mid).seen (disk new).seen between after (Ok tt) → RepeatsBehind {T = Unit {0}} (begun_notes p found) most p found (disk old).seen (disk new).seen before after (Ok tt)
     whole does = repeats_behind most p found (finding_notes p found.epoch) (next_notes found) (disk old).seen (disk mid).seen (disk new).seen before between after reads {T = Unit {0}} (Ok tt) does

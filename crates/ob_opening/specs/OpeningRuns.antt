@@ -14,7 +14,7 @@ use Rattle.ob_seal.specs.declared.keys.Keys.{Keys}
 use Rattle.ob_twin.specs.declared.gates.Gates.{Gates}
 use Rattle.ob_twin.specs.Keyed.{tagging}
 use Rattle.ob_twin.specs.Register.{KeepsAt, OldOrNew, StandsAt}
-use Rattle.ob_start.specs.Beginning.{BeginsFrom}
+use Rattle.ob_start.specs.Beginning.{BeginsFrom, ReadsThenSync}
 use Rattle.ob_start.specs.Orders.{begin_notes, registers_notes}
 use Rattle.ob_tables.specs.Content.{content_of}
 use Rattle.ob_stand.specs.Stands.{OneOf, RingStanding, Stands, with_generation}
@@ -122,10 +122,12 @@ RefusedWrites disk keys p old new tape_old tape_new present drawn _ = IsReadAlon
 
 -- ---- what a crash leaves
 
--- The first sync succeeded, and the store was this one then: no write waited. Until then a crash leaves what it might have left before;
--- from then on the register stands at the old generation or the next one, and an image stands for what was read, at one of the two.
+-- The first sync succeeded, and the store was this one then: no write waited, and up to it only reads were called for. Until then a crash
+-- leaves what it might have left before; from then on the register stands at the old generation or the next one, and an image stands for
+-- what was read, at one of the two.
 pub record OpensFrom {S : Type 0} (disk : S → Disk) (keys : Keys) (p : Params) (old new : S) : Type 0 where
   pub synced : S
+  pub called : ReadsThenSync (disk old) (disk synced)
   pub until : Passes Same (disk old) (disk synced)
   pub keeps : Keeps (disk old) (disk synced)
   pub settled : (disk old).tells → IsSynced (disk synced)

@@ -75,6 +75,7 @@ module _ (keys : Keys) (p : Params) (word_of : WordId → ℕ) (s : LifeState) (
       here,
       record {
         synced = true;
+        called = record { cells = []; called = tt };
         until = same_again ⊥ good (λ c. c ≡ good);
         keeps = record { tells = λ told. told; cells = λ none. absurd none };
         settled = λ none. absurd none;

@@ -1,10 +1,11 @@
 -- How a generation is begun.
 use Rattle.std.proofs.Common.{◌≡◌, ℕ, suc, ◌+◌, ◌^◌, ◌<◌, List, [], ◌∷◌, Option, Result, refl, ◌∙◌, subst, add-one}
 use Rattle.ob_store.specs.declared.event.Event.{Event}
+use Rattle.ob_store.specs.declared.event.Event.TheVariants as event
 use Rattle.ob_store.specs.declared.watch.Note.TheVariants.{Sync}
 use Rattle.ob_store.specs.Disk.{Disk, Image}
 use Rattle.ob_store.specs.Images.{Same, Shrinks, Elapses, Passes, IsSynced, LeavesOnly}
-use Rattle.ob_store.specs.Calls.{GoesOn, Keeps}
+use Rattle.ob_store.specs.Calls.{GoesOn, Keeps, Notes}
 use Rattle.ob_store.specs.Lines.{Trace}
 use Rattle.ob_store.specs.Told.{Tells, Does}
 use Rattle.ob_store.proofs.Moments.{passed_none, passed_still}
@@ -23,6 +24,7 @@ use Rattle.ob_twin.proofs.Frames.{register_moved}
 use Rattle.ob_twin.proofs.Sets.{set_does, put_stands, leaves_either}
 use Rattle.ob_start.specs.Orders.{begin_notes}
 use Rattle.ob_start.specs.Beginning.{BeginsFrom}
+use Rattle.ob_start.proofs.Early.{sync_first}
 
 -- a sync that leaves no new image
 pub still : (old new : Disk) → GoesOn old new → Elapses old new → Shrinks old new → Keeps old new → Passes Same old new
@@ -46,11 +48,12 @@ next_stands tag g old mid new small same stands put =
     subst (λ n. KeepsAt tag 1 old n new) (add-one g) (record { stands = kept.stands; rest = λ k out. kept.rest k out ∙ same k })
 
 -- from the sync on
-pub begins : {S : Type 0} (disk : S → Disk) (keys : Keys) (g : ℕ) (old mid new : S) (r : Result (Unit {0}) SetErr) → Passes Same (disk old) (disk mid) → Keeps (disk old) (disk mid) → ((disk old).tells → IsSynced (disk mid))
+pub begins : {S : Type 0} (disk : S → Disk) (keys : Keys) (g : ℕ) (old mid new : S) (r : Result (Unit {0}) SetErr) → Notes (event.Sync ∷ []) (disk old).seen (disk mid).seen → Passes Same (disk old) (disk mid) → Keeps (disk old) (disk mid) → ((disk old).tells → IsSynced (disk mid))
     → ((m : ℕ) → g + 1 ≡ m + 1 → (disk mid).tells → IsSynced (disk mid) → StandsAt (tagging keys) 1 (disk mid).cells m → LeavesOnly (disk mid) (disk new) (SetLeaves (tagging keys) 1 (disk mid).cells m (g + 1) r))
     → BeginsFrom disk keys g old new
-begins disk keys g old mid new r until keeps settled set = record {
+begins disk keys g old mid new r seen until keeps settled set = record {
   synced = mid;
+  called = sync_first (disk old) (disk mid) seen;
   until = until;
   keeps = keeps;
   settled = settled;

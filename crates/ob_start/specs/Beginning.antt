@@ -1,10 +1,11 @@
 -- What the begin of a generation tells and leaves.
-use Rattle.std.specs.Prelude.{◌≡◌, ◌<◌, ◌⊎◌, ◌^◌, ℕ, suc, None, Result, Ok, Err}
+use Rattle.std.specs.Prelude.{◌≡◌, ◌<◌, ◌⊎◌, ◌^◌, ℕ, suc, List, [], ◌∷◌, ◌++◌, map, None, Result, Ok, Err}
 use Rattle.ob_base.specs.declared.fault.Fault.{Fault}
 use Rattle.ob_base.specs.declared.fault.Fault.TheVariants as fault
 use Rattle.ob_store.specs.Disk.{Disk}
 use Rattle.ob_store.specs.Images.{Same, IsSynced, Passes, LeavesOnly}
-use Rattle.ob_store.specs.Calls.{Keeps}
+use Rattle.ob_store.specs.Calls.{Keeps, Notes}
+use Rattle.ob_store.specs.declared.event.Event.TheVariants as event
 use Rattle.ob_seal.specs.declared.keys.Keys.{Keys}
 use Rattle.ob_twin.specs.Keyed.{tagging}
 use Rattle.ob_twin.specs.Register.{StandsAt, OldOrNew}
@@ -27,10 +28,16 @@ abbrev pub gates_begun : ℕ → Gates → Result ℕ Fault → Gates
 gates_begun generation gates (Ok next) = gates_set GENERATION (suc generation) gates (Ok tt)
 gates_begun generation gates (Err refused) = gates
 
--- Its sync succeeded, and the store was this one then: no write waited. Until then a crash leaves what it might have left before; from
--- then on, where the register stood, the old generation or the new one.
+-- Cells were read and nothing else was called for, and then all was made sure of.
+pub record ReadsThenSync (old new : Disk) : Type 0 where
+  pub cells : List ℕ
+  pub called : Notes (map (λ cell. event.Read cell) cells ++ event.Sync ∷ []) old.seen new.seen
+
+-- Its sync succeeded, and the store was this one then: no write waited, and up to it only reads were called for. Until then a crash leaves
+-- what it might have left before; from then on, where the register stood, the old generation or the new one.
 pub record BeginsFrom {S : Type 0} (disk : S → Disk) (keys : Keys) (generation : ℕ) (old new : S) : Type 0 where
   pub synced : S
+  pub called : ReadsThenSync (disk old) (disk synced)
   pub until : Passes Same (disk old) (disk synced)
   pub keeps : Keeps (disk old) (disk synced)
   pub settled : (disk old).tells → IsSynced (disk synced)

@@ -117,7 +117,7 @@ module _ {S : Type 0} (disk : S → Disk) (keys : Keys) (most : ℕ) (some : 1 �
       (disk new) first later disk before after (failed.Fault refused)
   unopened {T} {L} shares fits o tape_old tape_new present drawn first shown later refused after head_shown whole only further kind cause does refusal stood writes leaves acts =
       let so = ring_refuses T disk keys most p old mid new tape_old tape_new present drawn shown later refused some read kind does refusal stood writes in
-      let either = opens_or_not disk keys p old mid new read.passes read.keeps leaves in
+      let either = opens_or_not disk keys p old mid new read leaves in
       inr (inr (record {
         p = p;
         head = head;

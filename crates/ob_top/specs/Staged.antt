@@ -9,7 +9,7 @@ use Rattle.ob_vault.specs.Kinds.{StoreKind}
 use Rattle.ob_vault.specs.Openings.{OpensStanding}
 use Rattle.ob_vault.specs.Shapes.{Shape}
 
--- A store was opened: it stands on, and it was done in stages.
+-- A store was opened: up to the first sync it was called for reads alone, it stands on, and it was done in stages.
 pub record OpensInStages (store : StoreKind) (life : LifeWords store) {S : Type 0} (disk : S → Disk) (keys : Keys) (p : Params) (old new : S) : Type 0 where
   pub standing : OpensStanding store disk keys p (disk old) (disk new)
   pub stages : life.opens_staged disk keys p old new

@@ -12,8 +12,9 @@ use Rattle.ob_recover.specs.Known.{fills_of, gates_open, public_of_kept}
 use Rattle.ob_recover.proofs.Dealing.{made_as, made_join, made_steps}
 use Rattle.ob_recover.specs.Telling.{ArePhasesMade}
 use Rattle.ob_vault.proofs.Opened.{opened_at as run_is_at}
-use Rattle.ob_vault.specs.RingLaws.{RingLeavesStanding, RingOpens, RingOpensAt, RingOpensStanding, found_ring}
+use Rattle.ob_vault.specs.RingLaws.{ReadsHead, RingLeavesStanding, RingOpens, RingOpensAt, RingOpensStanding, found_ring}
 use Rattle.ob_seal.specs.Sealing.{Sealing}
+use Rattle.ob_start.proofs.Early.{reads_called}
 use Rattle.ob_seal.specs.declared.keys.Keys.{Keys}
 use Rattle.ob_serial.specs.Vaults.{Standing}
 use Rattle.ob_stand.specs.Stands as stand
@@ -73,22 +74,23 @@ module _ (keys : Keys) (p : Params) (old : Disk) (only : (c : Image) → old.lef
   left_opening disk new tells (inr from) at stands = left_since disk new tells from at stands
 
 -- the head's read and the opening's first sync
-pub opens_standing : {S : Type 0} (disk : S → Disk) (keys : Keys) (p : Params) (old mid new : S) → Passes Same (disk old) (disk mid) → Keeps (disk old) (disk mid) → OpensFrom disk keys p mid new → OpensStanding ring_kind disk keys p (disk old) (disk new)
-opens_standing disk keys p old mid new passes keeps f = record {
+opens_standing : {S : Type 0} (disk : S → Disk) (keys : Keys) (p : Params) (old mid new : S) → ReadsHead (disk old) (disk mid) → OpensFrom disk keys p mid new → OpensStanding ring_kind disk keys p (disk old) (disk new)
+opens_standing disk keys p old mid new head f = record {
   synced = f.synced;
-  until = passed_then Same (disk old) (disk mid) (disk f.synced) (λ c d e one run. one ∙ run) passes f.until;
-  settled = λ tells. f.settled (keeps.tells tells);
+  called = reads_called (disk old) (disk mid) (disk f.synced) (0 ∷ [], head.seen) f.called;
+  until = passed_then Same (disk old) (disk mid) (disk f.synced) (λ c d e one run. one ∙ run) head.passes f.until;
+  settled = λ tells. f.settled ((head.keeps).tells tells);
   since = λ g at tells (is : StandsRing keys p g (disk old).cells at).
       let s = ring_standing at g is.content is.records in
       weakened (disk f.synced) (disk new) (OneOf keys p s (with_generation s (suc g))) (λ c. (later : ℕ) × (g ≤ later) × StandsRing keys p later c at) (one_stands keys p s at g is.content is.records)
-      (f.since s (keeps.tells tells) (subst (λ (i : Image). stand.Stands keys p s i) (sym (same_cells (disk old) (disk mid) keeps tells)) is.stands));
+      (f.since s ((head.keeps).tells tells) (subst (λ (i : Image). stand.Stands keys p s i) (sym (same_cells (disk old) (disk mid) head.keeps tells)) is.stands));
 }
 
 -- of one that was refused
-pub opens_or_not : {S : Type 0} (disk : S → Disk) (keys : Keys) (p : Params) (old mid new : S) → Passes Same (disk old) (disk mid) → Keeps (disk old) (disk mid) → Passes Same (disk mid) (disk new) ⊎ OpensFrom disk keys p mid new
+pub opens_or_not : {S : Type 0} (disk : S → Disk) (keys : Keys) (p : Params) (old mid new : S) → ReadsHead (disk old) (disk mid) → Passes Same (disk mid) (disk new) ⊎ OpensFrom disk keys p mid new
     → Passes Same (disk old) (disk new) ⊎ OpensStanding ring_kind disk keys p (disk old) (disk new)
-opens_or_not disk keys p old mid new passes keeps (inl same) = inl (passed_then Same (disk old) (disk mid) (disk new) (λ c d e one run. one ∙ run) passes same)
-opens_or_not disk keys p old mid new passes keeps (inr from) = inr (opens_standing disk keys p old mid new passes keeps from)
+opens_or_not disk keys p old mid new head (inl same) = inl (passed_then Same (disk old) (disk mid) (disk new) (λ c d e one run. one ∙ run) head.passes same)
+opens_or_not disk keys p old mid new head (inr from) = inr (opens_standing disk keys p old mid new head from)
 
 -- ---- an opening that went well
 
@@ -181,7 +183,7 @@ pub ring_opens_at : {S : Type 0} (L : Type 0) (disk : S → Disk) → RingOpensA
 ring_opens_at L disk keys p old mid new found o head tells told in_cells stands at is = opened_at keys p (disk old) (disk mid) (disk new) found o head.keeps tells told in_cells stands at is
 
 pub ring_opens_standing : {S : Type 0} (disk : S → Disk) → RingOpensStanding disk
-ring_opens_standing disk keys p old mid new head from = opens_standing disk keys p old mid new head.passes head.keeps from
+ring_opens_standing disk keys p old mid new head from = opens_standing disk keys p old mid new head from
 
 pub ring_leaves_standing : {S : Type 0} (disk : S → Disk) → RingLeavesStanding disk
 ring_leaves_standing disk keys p old new only tells all either at stands = left_opening keys p (disk old) only all disk (disk new) tells either at stands

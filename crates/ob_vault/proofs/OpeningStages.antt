@@ -141,7 +141,7 @@ module _ {S : Type 0} (disk : S → Disk) (only_now : (x : S) (c : Image) → (d
       here = f.here;
       ends = o.synced ∷ new ∷ [];
       many = refl;
-      stages = (finding o.synced o.until, inr tt, (beginning o.synced new (synced new o), inl refl, refl));
+      stages = (finding o.synced o.until, inr o.called, (beginning o.synced new (synced new o), inl refl, refl));
     }
     staged (inr (inr h)) =
         let b = h.begins in
@@ -152,7 +152,7 @@ module _ {S : Type 0} (disk : S → Disk) (only_now : (x : S) (c : Image) → (d
           here = f.here;
           ends = o.synced ∷ b.between ∷ new ∷ [];
           many = refl;
-          stages = (finding o.synced o.until, inr tt, (beginning o.synced b.between (synced b.between o), inr (h.found, h.found_in tells, b.begun), (last_stage h, inl refl, refl)));
+          stages = (finding o.synced o.until, inr o.called, (beginning o.synced b.between (synced b.between o), inr (h.found, h.found_in tells, b.begun), (last_stage h, inl refl, refl)));
         }
 
 pub openings_come_in_stages : {S : Type 0} (disk : S → Disk) → ((x : S) (c : Image) → (disk x).left_since (disk x).moment c → (disk x).may_leave c) → OpeningsComeInStages disk

@@ -27,7 +27,7 @@ use Rattle.ob_vault.specs.RingLaws.{ReadsHead}
 use Rattle.ob_vault.specs.Seen.{RingPublic}
 use Rattle.ob_vault.specs.Shapes.{Shape}
 use Rattle.ob_vault.specs.Spans.{AreSpans, IsSeenIn, span}
-use Rattle.ob_vault.specs.Staged.{CutRunsAreTold, IsCutIn, IsOpeningCut, RingOpensStaged}
+use Rattle.ob_vault.specs.Staged.{CutRunsAreTold, IsCalledToSync, IsCutIn, IsOpeningCut, RingOpensStaged}
 use Rattle.ob_vault.specs.Stages.{BeginsBehind, HowFar, IsOpeningStage, stages_done}
 
 module _ {S : Type 0} (disk : S → Disk) (counts_now : (x : S) (t : Clock) (c : Image) → NotAfter t (disk x).moment → (disk x).may_leave c → (disk x).left_since t c) (only_now : (x : S) (c : Image) → (disk x).left_since (disk x).moment c → (disk x).may_leave c) where
@@ -124,6 +124,11 @@ module _ {S : Type 0} (disk : S → Disk) (counts_now : (x : S) (t : Clock) (c :
     many_ends (inr (inl o)) = refl
     many_ends (inr (inr begins)) = refl
 
+    called_first : (how : HowFar disk keys p read new) → IsCalledToSync disk read (ends_of how)
+    called_first (inl still) = tt
+    called_first (inr (inl o)) = o.called
+    called_first (inr (inr begins)) = (opening.opens_of disk keys p read new begins).called
+
     cut_off : (disk old).tells → (how : HowFar disk keys p read new) → AreSpans (λ stage x. Stops x) 0 read (ends_of how) new
     cut_off tells (inl still) = (find_stops tells new still, refl)
     cut_off tells (inr (inl o)) = (find_stops tells o.synced o.until, (begin_stops tells new o, refl))
@@ -132,7 +137,7 @@ module _ {S : Type 0} (disk : S → Disk) (counts_now : (x : S) (t : Clock) (c :
         (find_stops tells o.synced o.until, (begin_stops tells (begins.begins).between o, (repeat_stops tells begins, refl)))
 
     pub opens_cut : (disk old).tells → (how : HowFar disk keys p read new) → IsOpeningCut disk keys p old read new (stages_done disk keys p read new how)
-    opens_cut tells how = record { ends = ends_of how; many = many_ends how; cut = cut_off tells how }
+    opens_cut tells how = record { ends = ends_of how; many = many_ends how; called = called_first how; cut = cut_off tells how }
 
     pub ring_opens_staged : (begins : BeginsBehind disk keys p read new) → RingOpensStaged disk keys p old new
     ring_opens_staged begins = record {

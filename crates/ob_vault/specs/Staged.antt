@@ -1,5 +1,5 @@
 -- The stages of a run: of its opening, and of each call of its vault; and a run that is cut off in one of them.
-use Rattle.std.specs.Prelude.{◌≡◌, ℕ, ◌+◌, ◌%◌, Bool, true, List, [], length, Option, None, Some}
+use Rattle.std.specs.Prelude.{◌≡◌, ℕ, ◌+◌, ◌%◌, Bool, true, List, [], ◌∷◌, length, Option, None, Some}
 use Rattle.std.proofs.Common.{inr}
 use Rattle.std.specs.Ordering.{nat_cmp}
 use Rattle.ob_base.specs.declared.params.Params.{Params}
@@ -16,6 +16,7 @@ use Rattle.ob_serial.specs.Vaults.{End, Fetch, VaultAnswer, VaultCall}
 use Rattle.ob_store.specs.Calls.{Notes}
 use Rattle.ob_store.specs.Disk.{Disk, Image}
 use Rattle.ob_store.specs.Images.{LeavesOnly}
+use Rattle.ob_start.specs.Beginning.{ReadsThenSync}
 use Rattle.ob_store.specs.Told.{events_of}
 use Rattle.ob_store.specs.declared.event.Event.{Event}
 use Rattle.ob_twin.specs.Orders.{set_notes}
@@ -69,11 +70,17 @@ RingCallStaged disk keys most p f opened calls steps q h call words answered old
 
 -- ---- an opening
 
+-- up to the end of the first stage, where another follows, only reads were called for, and a sync
+abbrev pub IsCalledToSync : {S : Type 0} → (S → Disk) → (read : S) → (ends : List S) → Type 0
+IsCalledToSync disk read (first ∷ next ∷ ends) = ReadsThenSync (disk read) (disk first)
+IsCalledToSync disk read ends = Unit {0}
+
 -- A run that is cut off in one of so many stages of its opening, behind the head's read, made some of the opening's acts, and was left so at any
 -- moment of the stage: it is a part of a row of runs.
 pub record IsOpeningCut {S : Type 0} (disk : S → Disk) (keys : Keys) (p : Params) (old read new : S) (stages : ℕ) : Type 0 where
   pub ends : List S
   pub many : length ends ≡ stages
+  pub called : IsCalledToSync disk read ends
   pub cut : AreSpans (λ stage x. IsRunTold (span disk) keys p (Stopped (old, old) x)) 0 read ends new
 
 -- The head was read, which changes no image; and from there on the store was opened in three stages, in each life that was left there, perhaps

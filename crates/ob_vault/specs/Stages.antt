@@ -14,6 +14,7 @@ use Rattle.ob_seal.specs.declared.keys.Keys.{Keys}
 use Rattle.ob_store.specs.Calls.{Notes}
 use Rattle.ob_store.specs.Disk.{Disk, Image}
 use Rattle.ob_store.specs.Images.{LeavesOnly, Passes, Same}
+use Rattle.ob_start.specs.Beginning.{ReadsThenSync}
 use Rattle.ob_store.specs.Told.{events_of}
 
 -- the places of a batch's words are below 2^64
@@ -78,9 +79,10 @@ module _ {S : Type 0} (disk : S → Disk) (keys : Keys) (p : Params) (old new : 
   stages_done (inr (inl opens)) = 2
   stages_done (inr (inr begun)) = 3
 
-  -- By the end of the second one, where batches are shown again behind it, all was read that is found, and the generation begun: no batch was read.
+  -- By the end of the first one, where its sync succeeded, nothing was called for but reads and that sync; by the end of the second one, where
+  -- batches are shown again behind it, all was read that is found, and the generation begun: no batch was read.
   abbrev pub IsCalledToOpen : ℕ → S → Type 0
-  IsCalledToOpen zero end = Unit {0}
+  IsCalledToOpen zero end = ReadsThenSync (disk old) (disk end)
   IsCalledToOpen (suc number) end = (found : Found) × IsFoundInRing keys p (disk old).cells found × Notes (events_of (begun_notes p found)) (disk old).seen (disk end).seen
 
   -- So many stages of an opening, which found this of the act in flight.

@@ -1,6 +1,7 @@
-use Rattle.std.proofs.Common.{◌≡◌, ◌<◌, ◌^◌, ℕ, suc, Err, ◌++◌, inl, inr, refl, sym, ap, subst, ◌∙◌, rules}
+use Rattle.std.proofs.Common.{◌≡◌, ◌<◌, ◌^◌, ℕ, suc, Err, [], ◌∷◌, ◌++◌, length, inl, inr, refl, sym, ap, subst, ◌∙◌, rules}
 use mathlib.Core.Path.{fun_ext}
 use Rattle.ob_store.specs.Disk.{Image}
+use Rattle.ob_store.specs.Runs.{from_on}
 use Rattle.ob_store.specs.Told.{Tells, TellsFirst}
 use Rattle.ob_store.proofs.Doing.{tells_then, first_more, first_behind, first_all}
 use Rattle.ob_seal.specs.Sealing.{Sealing}
@@ -11,6 +12,7 @@ use Rattle.ob_flat.proofs.RowReads.{read_alike}
 use Rattle.ob_start.specs.declared.registers.Numbers.{Numbers}
 use Rattle.ob_start.specs.Orders.{registers_notes, begin_notes}
 use Rattle.ob_start.proofs.Noted.{reads_front}
+use Rattle.ob_start.proofs.Early.{noted_reads, read_both}
 use Rattle.ob_flat.specs.Places.{area_of}
 use Rattle.ob_flat.specs.Orders.{found_notes}
 use Rattle.ob_flat.specs.Openings.{ReadsAlone}
@@ -110,6 +112,8 @@ returns-in-Err-begin-clause-opening g c =
     let second = c.read_values.ensures.keeps in
     let passes = reads_both old one mid c.read_registers.ensures.passes c.read_values.ensures.passes in
     let keeps = keeps_both old one mid first second in
+    let read = read_both old.seen one.seen mid.seen (noted_reads (1 ∷ 2 ∷ 3 ∷ 4 ∷ 5 ∷ 6 ∷ 7 ∷ 8 ∷ []) old.seen one.seen c.in-Ok.ensures.does.seen)
+    (noted_reads (from_on c.area_of-base.result (length c.args.values.items)) one.seen mid.seen c.in-Ok-read_values.ensures.does.all.seen) in
     let shown_one = g.W.Watch.trace c.read_registers.new.watch in
     let shown_mid = g.W.Watch.trace c.read_values.new.watch in
     let area = read_notes (area_of p.keys numbers.epoch) p.keys in
@@ -131,10 +135,10 @@ returns-in-Err-begin-clause-opening g c =
           begun_before sealed_by p old mid new at stands all (g.met.S.Store.only_now c.args.store.now) passes same
           (begin_before g.S.Store.disk sealed_by p at numbers.generation c.read_values.new.store c.begin.new.store at_number (second.tells told) (all_after sealed_by p old mid all passes)
           (g.met.S.Store.only_now c.read_values.new.store) c.begin.result c.begin.ensures.leaves);
-      since = opens_or_not g.S.Store.disk sealed_by p numbers.generation c.args.store.now c.read_values.new.store c.begin.new.store passes keeps
+      since = opens_or_not g.S.Store.disk sealed_by p numbers.generation c.args.store.now c.read_values.new.store c.begin.new.store read passes keeps
           (λ h at tells stands. number_found sealed_by 1 old.cells h numbers.generation stands.begun (c.in-Ok.ensures.value tells).generation_whole (c.in-Ok.ensures.value tells).generation_counts)
           c.in-Err-begin.ensures.leaves;
-      register = begins_or_not g.S.Store.disk sealed_by numbers.generation c.args.store.now c.read_values.new.store c.begin.new.store passes keeps
+      register = begins_or_not g.S.Store.disk sealed_by numbers.generation c.args.store.now c.read_values.new.store c.begin.new.store read passes keeps
           (λ h tells at. number_found sealed_by 1 old.cells h numbers.generation at (c.in-Ok.ensures.value tells).generation_whole (c.in-Ok.ensures.value tells).generation_counts)
           c.in-Err-begin.ensures.leaves;
       order = inr (record {
@@ -176,6 +180,8 @@ returns-clause-opening g c =
     let begun = c.in-Ok-begin.ensures in
     let passes = reads_both old one mid c.read_registers.ensures.passes c.read_values.ensures.passes in
     let keeps = keeps_both old one mid first second in
+    let read = read_both old.seen one.seen mid.seen (noted_reads (1 ∷ 2 ∷ 3 ∷ 4 ∷ 5 ∷ 6 ∷ 7 ∷ 8 ∷ []) old.seen one.seen c.in-Ok.ensures.does.seen)
+    (noted_reads (from_on c.area_of-base.result (length c.args.values.items)) one.seen mid.seen c.in-Ok-read_values.ensures.does.all.seen) in
     let generation_is : c.new.result.generation ≡ c.in-Ok-begin.generation = ap (λ (s : Sealing). s.generation) c.new.ensures in
     record {
       value = λ tells.
@@ -228,10 +234,10 @@ returns-clause-opening g c =
           begun_before sealed_by p old mid new at stands all (g.met.S.Store.only_now c.args.store.now) passes same
           (begin_before g.S.Store.disk sealed_by p at numbers.generation c.read_values.new.store c.begin.new.store at_number (second.tells told) (all_after sealed_by p old mid all passes)
           (g.met.S.Store.only_now c.read_values.new.store) c.begin.result c.begin.ensures.leaves);
-      since = opens_from g.S.Store.disk sealed_by p numbers.generation c.args.store.now c.read_values.new.store c.begin.new.store passes keeps
+      since = opens_from g.S.Store.disk sealed_by p numbers.generation c.args.store.now c.read_values.new.store c.begin.new.store read passes keeps
           (λ h at tells stands. number_found sealed_by 1 old.cells h numbers.generation stands.begun (c.in-Ok.ensures.value tells).generation_whole (c.in-Ok.ensures.value tells).generation_counts)
           begun.leaves;
-      register = begins_next g.S.Store.disk sealed_by numbers.generation c.args.store.now c.read_values.new.store c.begin.new.store passes keeps
+      register = begins_next g.S.Store.disk sealed_by numbers.generation c.args.store.now c.read_values.new.store c.begin.new.store read passes keeps
           (λ h tells at. number_found sealed_by 1 old.cells h numbers.generation at (c.in-Ok.ensures.value tells).generation_whole (c.in-Ok.ensures.value tells).generation_counts)
           _ (generation_is ∙ begun.next.0)
           (λ tells at. (begun.stands tells at).stands)

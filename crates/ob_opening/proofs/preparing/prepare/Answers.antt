@@ -21,7 +21,7 @@ use Rattle.ob_opening.specs.OpeningRuns.{IsRingOpened, RefusedDoes}
 use Rattle.ob_opening.specs.OpeningActs.{OpensInLife}
 use Rattle.ob_opening.proofs.ActLaws.{all_acts, found_acts, opens_nothing, reads_told}
 use Rattle.ob_opening.proofs.FaultLaws.{all_does, all_faults, all_refusals, all_writes, find_does, find_fault, find_refusal, find_standing, find_writes}
-use Rattle.ob_opening.proofs.OpenedLaws.{found_same}
+use Rattle.ob_opening.proofs.OpenedLaws.{finding_read, found_same}
 use Rattle.ob_opening.proofs.PadLaws.{act_of, unopened_by}
 use Rattle.ob_opening.proofs.StoodLaws.{all_standing}
 use Rattle.ob_opening.proofs.WholeLaws.{all_leaves, all_opened, all_tapes, tape_of}
@@ -133,7 +133,9 @@ returns-clause-stands g c = λ s tells stands.
     (e.stood told (subst (λ n. StandsAt (tagging keys) 1 mid n) (sym is.generation) here.generation)) e.faults (e.refused told)
 
 pub returns-clause-leaves : goal.returns-clause-leaves
-returns-clause-leaves g c = all_leaves g.S.Store.disk c.args.keys.now c.args.p.now c.args.store.now c.find.new.store c.open_found.new.store c.in-Ok-find.ensures.keeps c.in-Ok-find.ensures.passes c.open_found.result c.open_found.ensures.leaves
+returns-clause-leaves g c =
+    let read = finding_read c.args.p.now c.in-Ok-find.found.epoch (g.S.Store.disk c.args.store.now).seen (g.S.Store.disk c.find.new.store).seen c.in-Ok-find.ensures.does.seen in
+    all_leaves g.S.Store.disk c.args.keys.now c.args.p.now c.args.store.now c.find.new.store c.open_found.new.store c.in-Ok-find.ensures.keeps c.in-Ok-find.ensures.passes c.open_found.result read c.open_found.ensures.leaves
 
 pub returns-clause-tape : goal.returns-clause-tape
 returns-clause-tape g c =
@@ -182,7 +184,7 @@ returns-clause-acts g c = λ word_of s pending tells left.
     let same = is st.standing st.stands in
     let stood = all_standing keys p st.standing (disk mid).cells (disk new) found here same c.open_found.result e.is (e.told told)
     (e.stood told (subst (λ n. StandsAt (tagging keys) 1 (disk mid).cells n) (sym same.generation) here.generation)) e.faults (e.refused told) in
-    let leaves = all_leaves disk keys p old mid new found_in.keeps found_in.passes c.open_found.result e.leaves in
+    let leaves = all_leaves disk keys p old mid new found_in.keeps found_in.passes c.open_found.result (finding_read p found.epoch (disk old).seen (disk mid).seen found_in.does.seen) e.leaves in
     subst (λ n. OpensInLife keys n p word_of s pending (disk old) (disk new) before after (is_ok c.open_found.result)) (ap (λ (m : Manned). m.lanes) c.in-Ok.ensures.crew)
     (all_acts disk g.met.S.Store.counts_now keys c.in-Ok.rooms.crew.lanes p found old mid new before between after found_in.keeps found_in.passes found_in.does found_in.obeys found_in.some tells (found_in.value tells)
     (subst (λ n. 1 ≤ n) (sym (ap (λ (m : Manned). m.lanes) c.in-Ok.ensures.crew)) c.requires.lanes.0)

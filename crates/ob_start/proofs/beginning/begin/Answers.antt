@@ -54,7 +54,7 @@ returns-in-Ok-set-clause-stands g c = λ tells stands.
 pub returns-in-Ok-set-clause-leaves : goal.returns-in-Ok-set-clause-leaves
 returns-in-Ok-set-clause-leaves g c =
     let e = c.sync_noted.ensures in
-    begins g.S.Store.disk c.args.sealer.now.keys c.args.generation c.args.store.now c.sync_noted.new.store c.set.new.store c.set.result
+    begins g.S.Store.disk c.args.sealer.now.keys c.args.generation c.args.store.now c.sync_noted.new.store c.set.new.store c.set.result c.in-Ok.ensures.told.seen
     (still (g.S.Store.disk c.args.store.now) (g.S.Store.disk c.sync_noted.new.store) e.serves.goes e.time e.crash e.keeps) e.keeps c.in-Ok.ensures.durable c.set.ensures.old_or_new
 
 pub returns-in-Err-set-clause-does : goal.returns-in-Err-set-clause-does
@@ -67,7 +67,7 @@ returns-in-Err-set-clause-does g c =
 pub returns-in-Err-set-clause-leaves : goal.returns-in-Err-set-clause-leaves
 returns-in-Err-set-clause-leaves g c =
     let e = c.sync_noted.ensures in
-    inr (begins g.S.Store.disk c.args.sealer.now.keys c.args.generation c.args.store.now c.sync_noted.new.store c.set.new.store c.set.result
+    inr (begins g.S.Store.disk c.args.sealer.now.keys c.args.generation c.args.store.now c.sync_noted.new.store c.set.new.store c.set.result c.in-Ok.ensures.told.seen
     (still (g.S.Store.disk c.args.store.now) (g.S.Store.disk c.sync_noted.new.store) e.serves.goes e.time e.crash e.keeps) e.keeps c.in-Ok.ensures.durable c.set.ensures.old_or_new)
 
 -- ---- what each of them says of the store
