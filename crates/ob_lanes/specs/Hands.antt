@@ -73,3 +73,12 @@ IsPlaceRead disk lane_seen lane_faults claims round asked (Some old) (Some new) 
 IsPlaceRead disk lane_seen lane_faults claims round asked (Some old) None = ⊥
 IsPlaceRead disk lane_seen lane_faults claims round asked None (Some new) = ⊥
 IsPlaceRead disk lane_seen lane_faults claims round asked None None = Unit {0}
+
+-- each hand that is there is ready, and the round is of these jobs
+abbrev pub ArePlacesReady : {L : Type 0} → Claims → Round → SealedJobs → List (Option (Hand L)) → Type 0
+ArePlacesReady claims round asked hands = (round.count ≡ length asked.jobs.now) × ((i : ℕ) → i < length hands → IsPlaceReady claims round (hand_at hands i))
+
+-- hands are where some were, and each has read so
+abbrev pub ArePlacesRead : {L : Type 0} → Disk → (L → Option (List Event)) → (L → ℕ) → Claims → Round → SealedJobs → List (Option (Hand L)) → List (Option (Hand L)) → Type 0
+ArePlacesRead disk lane_seen lane_faults claims round asked old new =
+    (length new ≡ length old) × ((i : ℕ) → i < length old → IsPlaceRead disk lane_seen lane_faults claims round asked (hand_at old i) (hand_at new i))

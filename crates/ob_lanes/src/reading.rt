@@ -1,12 +1,13 @@
 //! Reading what hands claim.
 
 ghost use Rattle.std.specs.Prelude.{◌≡◌, ◌<◌, ◌≤◌, ℕ, length, [], ◌∷◌, IfErr};
+ghost use denote.Param.Send.{IsSend, IsSync};
 ghost use Rattle.ob_base.specs.Planned.{job_at};
 ghost use Rattle.ob_store.specs.declared.event.Event.TheVariants as event;
 ghost use Rattle.ob_store.specs.Disk.{Image};
 ghost use Rattle.ob_store.specs.Calls.{Notes};
 ghost use Rattle.ob_lanes.specs.JobReads.{IsJobRead, IsDamagedFault, IsSlotRead};
-ghost use Rattle.ob_lanes.specs.Hands.{IsHandDone, IsHandRead, IsHandReady, IsPlaceRead, IsPlaceReady, hand_at};
+ghost use Rattle.ob_lanes.specs.Hands.{ArePlacesRead, ArePlacesReady, IsHandDone, IsHandRead, IsHandReady, IsPlaceRead, IsPlaceReady, hand_at};
 
 use crate::window::{UNREAD, WINDOW, claim_some, open_cells, places_at_once, read_cells};
 use crate::{Hand, Outcome, SealedJobs, Slot};
@@ -14,8 +15,7 @@ use ob_base::{Failed, Fault, Job};
 use ob_claims::{Claims, Round};
 use ob_seal::Sealer;
 use ob_store::Store;
-use std::thread;
-use std::thread::Threads;
+use std::thread::{Threads, join_mut};
 
 /// Opens a job's cell, which is sealed with the job's identity: its plain bytes, or how the cell is
 /// damaged.
@@ -97,6 +97,7 @@ fn read_place<S: Store>(
 /// Each hand claims places of the round, one after another, reads the job at each, and opens its
 /// cell, whatever became of the others, until none is left or its part is full; in a thread of its
 /// own where one can be started.
+#[cycle(hands)]
 pub fn read_hands<S: Store + Sync, R: Threads + Sync>(
     rt: &R,
     store: &S,
@@ -115,18 +116,47 @@ where
         → IsPlaceRead (S.disk store.now) S.lane_seen S.lane_faults claims.now round.now asked.now
         (hand_at hands.old i) (hand_at hands.new i) }
 {
-    let threads = hands.len().max(1);
-    thread::for_each_mut(
-        rt,
-        hands,
-        threads,
-        &|_, place: &mut Option<Hand<S::Lane>>|
-            requires { IsPlaceReady claims.now round.now place.old
-                × (round.now.count ≡ length asked.now.jobs.now) }
-            ensures { IsPlaceRead (S.disk store.entry.now) S.lane_seen S.lane_faults
-                claims.entry.now round.entry.now asked.entry.now place.old place.new }
-        { read_place(store, place, claims, round, asked) },
-    );
+    if hands.len() < 2 {
+        read_hands_in_turn(store, hands, claims, round, asked);
+        return;
+    }
+    let (first, rest) = hands.split_at_mut(1);
+    read_apart(rt, store, first, rest, claims, round, asked);
+}
+
+// Some hands in a thread of their own, and the others from the calling thread on: that starts all
+// threads, one behind the other, so that none waits until another one runs.
+#[cycle(hands)]
+fn read_apart<S: Store + Sync, R: Threads + Sync>(
+    rt: &R,
+    store: &S,
+    first: &mut [Option<Hand<S::Lane>>],
+    rest: &mut [Option<Hand<S::Lane>>],
+    claims: &Claims,
+    round: &Round,
+    asked: &SealedJobs,
+)
+where
+    S::Lane: Send,
+    requires first { ArePlacesReady claims.now round.now asked.now first.old }
+    requires rest { ArePlacesReady claims.now round.now asked.now rest.old }
+    ensures first { ArePlacesRead (S.disk store.now) S.lane_seen S.lane_faults claims.now round.now
+        asked.now first.old first.new }
+    ensures rest { ArePlacesRead (S.disk store.now) S.lane_seen S.lane_faults claims.now round.now
+        asked.now rest.old rest.new }
+{
+    let mut apart = ||
+        requires { ArePlacesReady claims.now round.now asked.now first.now }
+        ensures { ArePlacesRead (S.disk store.entry.now) S.lane_seen S.lane_faults claims.entry.now
+            round.entry.now asked.entry.now first.entry.now first.exit.now }
+    { read_hands_in_turn(store, first, claims, round, asked) };
+    let mut here = ||
+        requires { IsSync R.row × IsSync S.row × IsSend S.Lane.row
+            × ArePlacesReady claims.now round.now asked.now rest.now }
+        ensures { ArePlacesRead (S.disk store.entry.now) S.lane_seen S.lane_faults claims.entry.now
+            round.entry.now asked.entry.now rest.entry.now rest.exit.now }
+    { read_hands(rt, store, rest, claims, round, asked) };
+    join_mut(rt, &mut apart, &mut here);
 }
 
 /// The same by the calling thread alone, hand by hand: for a store whose reads wait for nothing, so
