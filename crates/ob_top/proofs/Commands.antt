@@ -42,29 +42,29 @@ nothing_asked words a none some = let same : None ≡ Some a = sym none ∙ some
 
 params_at : (store keys : List ℕ) (numbers : List (List ℕ)) (trace : Option (List ℕ)) (command : Command) → IsCommandOf (format_asked store keys numbers trace) command → (p : Params) × AreParams numbers p
 params_at store keys numbers trace (Format p traced) fits = (p, fits.0)
-params_at store keys numbers trace (Run k by_hand traced shares) fits = absurd fits
+params_at store keys numbers trace (Run k by_hand traced mirrored shares) fits = absurd fits
 
-lanes_at : (store keys : List ℕ) (lanes : Option (List ℕ)) (turns : Bool) (trace : Option (List ℕ)) (limits : AskedShares) (command : Command) → IsCommandOf (run_asked store keys lanes turns trace limits) command → (k : ℕ) × AreLanes lanes k × (shares : Shares) × AreShares limits shares
-lanes_at store keys lanes turns trace limits (Format p traced) fits = absurd fits
-lanes_at store keys lanes turns trace limits (Run k by_hand traced shares) fits = (k, fits.0, shares, fits.3)
+lanes_at : (store keys : List ℕ) (lanes : Option (List ℕ)) (turns : Bool) (trace mirror : Option (List ℕ)) (limits : AskedShares) (command : Command) → IsCommandOf (run_asked store keys lanes turns trace mirror limits) command → (k : ℕ) × AreLanes lanes k × (shares : Shares) × AreShares limits shares
+lanes_at store keys lanes turns trace mirror limits (Format p traced) fits = absurd fits
+lanes_at store keys lanes turns trace mirror limits (Run k by_hand traced mirrored shares) fits = (k, fits.0, shares, fits.4)
 
 -- a run that is asked for has from 1 to 16 lanes
 in_range : (lanes : Option (List ℕ)) (k : ℕ) → AreLanes lanes k → AreFewLanes k
 in_range None k are = (omega (arith, are), omega (arith, are))
 in_range (Some word) k are = (are.1, are.2)
 
-run_of : (asked : Asked) (k : ℕ) (turns traced : Bool) (shares : Shares) → IsCommandOf asked (Run k turns traced shares) → AreFewLanes k
-run_of (format_asked store keys numbers trace) k turns traced shares fits = absurd fits
-run_of (run_asked store keys lanes by_hand trace limits) k turns traced shares fits = in_range lanes k fits.0
-run_of audit_asked k turns traced shares fits = absurd fits
-run_of (drill_asked word) k turns traced shares fits = absurd fits
+run_of : (asked : Asked) (k : ℕ) (turns traced mirrored : Bool) (shares : Shares) → IsCommandOf asked (Run k turns traced mirrored shares) → AreFewLanes k
+run_of (format_asked store keys numbers trace) k turns traced mirrored shares fits = absurd fits
+run_of (run_asked store keys lanes by_hand trace mirror limits) k turns traced mirrored shares fits = in_range lanes k fits.0
+run_of audit_asked k turns traced mirrored shares fits = absurd fits
+run_of (drill_asked word) k turns traced mirrored shares fits = absurd fits
 
-pub few_lanes : (words : List (List ℕ)) (k : ℕ) (turns traced : Bool) (shares : Shares) → Asks words (Run k turns traced shares) → AreFewLanes k
-few_lanes words k turns traced shares (asked, by, fits) = run_of asked k turns traced shares fits
+pub few_lanes : (words : List (List ℕ)) (k : ℕ) (turns traced mirrored : Bool) (shares : Shares) → Asks words (Run k turns traced mirrored shares) → AreFewLanes k
+few_lanes words k turns traced mirrored shares (asked, by, fits) = run_of asked k turns traced mirrored shares fits
 
 none_over : (command : Command) → IsCommandOf audit_asked command → ⊥
 none_over (Format p traced) fits = fits
-none_over (Run k by_hand traced shares) fits = fits
+none_over (Run k by_hand traced mirrored shares) fits = fits
 
 -- an audit is nothing over a store
 audit_alone : (words : List (List ℕ)) → AskForSomething words → asked_by words ≡ Some audit_asked → ⊥
@@ -73,7 +73,7 @@ audit_alone words (command, (asked, by, fits)) asks = none_over command (subst (
 -- nor is a self-test
 none_counted : (word : List ℕ) (command : Command) → IsCommandOf (drill_asked word) command → ⊥
 none_counted word (Format p traced) fits = fits
-none_counted word (Run k by_hand traced shares) fits = fits
+none_counted word (Run k by_hand traced mirrored shares) fits = fits
 
 drill_alone : (words : List (List ℕ)) → AskForSomething words → (count : List ℕ) → asked_by words ≡ Some (drill_asked count) → ⊥
 drill_alone words (command, (asked, by, fits)) count asks = none_counted count command (subst (λ (a : Asked). IsCommandOf a command) (one_asked words asked (drill_asked count) by asks) fits)
@@ -180,15 +180,15 @@ module _ (before mid after : Outside) (status : ℕ) (input : after.input ≡ mi
         by_refusal (inr (inr (field, bad, (asked, by, out)))) =
             inr (field, subst (λ (a : Asked). IsOutOfRange a field) (one_asked words asked (format_asked store keys numbers trace) by asks) out, number_told field bad)
 
-    run_tells : (store keys : List ℕ) (lanes : Option (List ℕ)) (turns : Bool) (trace : Option (List ℕ)) (limits : AskedShares) → IsRefusedFor words f → asked_by words ≡ Some (run_asked store keys lanes turns trace limits)
+    run_tells : (store keys : List ℕ) (lanes : Option (List ℕ)) (turns : Bool) (trace mirror : Option (List ℕ)) (limits : AskedShares) → IsRefusedFor words f → asked_by words ≡ Some (run_asked store keys lanes turns trace mirror limits)
         → Tells Memory ⊎ (AreBadLanes lanes × Tells (BadParams LANES))
-    run_tells store keys lanes turns trace limits refused asks = by_refusal (refusals words f refused)
+    run_tells store keys lanes turns trace mirror limits refused asks = by_refusal (refusals words f refused)
       where
         by_refusal : WordsRefused words f → Tells Memory ⊎ (AreBadLanes lanes × Tells (BadParams LANES))
         by_refusal (inl memory) = inl (memory_told memory)
-        by_refusal (inr (inl (usage, none))) = absurd (nothing_asked words (run_asked store keys lanes turns trace limits) none asks)
+        by_refusal (inr (inl (usage, none))) = absurd (nothing_asked words (run_asked store keys lanes turns trace mirror limits) none asks)
         by_refusal (inr (inr (field, bad, (asked, by, out)))) =
-            let bad_lanes = subst (λ (a : Asked). IsOutOfRange a field) (one_asked words asked (run_asked store keys lanes turns trace limits) by asks) out in
+            let bad_lanes = subst (λ (a : Asked). IsOutOfRange a field) (one_asked words asked (run_asked store keys lanes turns trace mirror limits) by asks) out in
             inr (bad_lanes.1, number_told LANES (bad ∙ ap BadParams bad_lanes.0))
 
     drill_tells : (word : List ℕ) → IsRefusedFor words f → asked_by words ≡ Some (drill_asked word) → Tells Memory ⊎ (IsBadCount word × Tells (BadParams COUNT))
@@ -206,9 +206,9 @@ module _ (before mid after : Outside) (status : ℕ) (input : after.input ≡ mi
       → asked_by words ≡ Some (format_asked store keys numbers trace) → IsCommandOf (format_asked store keys numbers trace) command
   params_asked words asked command store keys numbers trace by fits asks = subst (λ (a : Asked). IsCommandOf a command) (one_asked words asked (format_asked store keys numbers trace) by asks) fits
 
-  lanes_asked : (words : List (List ℕ)) (asked : Asked) (command : Command) (store keys : List ℕ) (lanes : Option (List ℕ)) (turns : Bool) (trace : Option (List ℕ)) (limits : AskedShares) → asked_by words ≡ Some asked → IsCommandOf asked command
-      → asked_by words ≡ Some (run_asked store keys lanes turns trace limits) → IsCommandOf (run_asked store keys lanes turns trace limits) command
-  lanes_asked words asked command store keys lanes turns trace limits by fits asks = subst (λ (a : Asked). IsCommandOf a command) (one_asked words asked (run_asked store keys lanes turns trace limits) by asks) fits
+  lanes_asked : (words : List (List ℕ)) (asked : Asked) (command : Command) (store keys : List ℕ) (lanes : Option (List ℕ)) (turns : Bool) (trace mirror : Option (List ℕ)) (limits : AskedShares) → asked_by words ≡ Some asked → IsCommandOf asked command
+      → asked_by words ≡ Some (run_asked store keys lanes turns trace mirror limits) → IsCommandOf (run_asked store keys lanes turns trace mirror limits) command
+  lanes_asked words asked command store keys lanes turns trace mirror limits by fits asks = subst (λ (a : Asked). IsCommandOf a command) (one_asked words asked (run_asked store keys lanes turns trace mirror limits) by asks) fits
 
   -- ---- with a store
 
@@ -286,20 +286,20 @@ module _ (before mid after : Outside) (status : ℕ) (input : after.input ≡ mi
         by_trace (Format p traced) found traced trace fits.1 does (λ t u. FormatDone ring_kind ring_lives disk tape found p old new before after t u status)
             (λ t u watched. format_done ring_kind ring_quiet ring_lives disk tape found p old new before mid after t u status err watched.0 watched.1 watched.2 input done),
       )
-      formats_by store keys numbers trace found (Run k by_hand traced shares) fits does = absurd fits
+      formats_by store keys numbers trace found (Run k by_hand traced mirrored shares) fits does = absurd fits
 
-      runs_by : (store keys : List ℕ) (lanes : Option (List ℕ)) (turns : Bool) (trace : Option (List ℕ)) (limits : AskedShares) (found : Keys) (command : Command) → IsCommandOf (run_asked store keys lanes turns trace limits) command → TracedDoes disk flow beat tape command found old new before mid was is err (traced_of command)
+      runs_by : (store keys : List ℕ) (lanes : Option (List ℕ)) (turns : Bool) (trace mirror : Option (List ℕ)) (limits : AskedShares) (found : Keys) (command : Command) → IsCommandOf (run_asked store keys lanes turns trace mirror limits) command → TracedDoes disk flow beat tape command found old new before mid was is err (traced_of command)
           → (k : ℕ) × AreLanes lanes k × (shares : Shares) × AreShares limits shares × RunsBy found k turns trace shares
-      runs_by store keys lanes turns trace limits found (Run k by_hand traced shares) (are, same, given, limited) does = (
+      runs_by store keys lanes turns trace mirror limits found (Run k by_hand traced mirrored shares) (are, same, given, also, limited) does = (
         k,
         are,
         shares,
         limited,
         subst (λ (b : Bool). RunsBy found k b trace shares) same
-            (by_trace (Run k by_hand traced shares) found traced trace given does (λ t u. RunDone ring_kind ring_lives disk (manner beat (not by_hand) k shares) tape found old new before after t u status)
+            (by_trace (Run k by_hand traced mirrored shares) found traced trace given does (λ t u. RunDone ring_kind ring_lives disk (manner beat (not by_hand) k shares) tape found old new before after t u status)
             (λ t u on. run_done ring_kind ring_quiet ring_lives disk (manner beat (not by_hand) k shares) tape found old new before mid after t u input status err on done)),
       )
-      runs_by store keys lanes turns trace limits found (Format p traced) fits does = absurd fits
+      runs_by store keys lanes turns trace mirror limits found (Format p traced) fits does = absurd fits
 
     pub format_does : (err : Option RunErr) → CommandDoes disk flow beat tape words text old new before mid was is err → Ended err
         → (store keys : List ℕ) (numbers : List (List ℕ)) (trace : Option (List ℕ)) → asked_by words ≡ Some (format_asked store keys numbers trace) → FormatTells numbers trace
@@ -312,13 +312,13 @@ module _ (before mid after : Outside) (status : ℕ) (input : after.input ≡ mi
         inr (inr (p, are, inr (found, has, its)))
 
     pub run_does : (err : Option RunErr) → CommandDoes disk flow beat tape words text old new before mid was is err → Ended err
-        → (store keys : List ℕ) (lanes : Option (List ℕ)) (turns : Bool) (trace : Option (List ℕ)) (limits : AskedShares) → asked_by words ≡ Some (run_asked store keys lanes turns trace limits) → RunTells lanes turns trace limits
-    run_does err (inl (f, told, inl refused, kept, same)) done store keys lanes turns trace limits asks = early (run_tells Kept kept same words text (Some f) f refl (as_finished mid.output after.output f status err told done) store keys lanes turns trace limits refused asks)
-    run_does err (inl (f, told, inr ((command, (asked, by, fits)), bad), kept, same)) done store keys lanes turns trace limits asks =
-        let (k, are, shares, limited) = lanes_at store keys lanes turns trace limits command (lanes_asked words asked command store keys lanes turns trace limits by fits asks) in
+        → (store keys : List ℕ) (lanes : Option (List ℕ)) (turns : Bool) (trace mirror : Option (List ℕ)) (limits : AskedShares) → asked_by words ≡ Some (run_asked store keys lanes turns trace mirror limits) → RunTells lanes turns trace limits
+    run_does err (inl (f, told, inl refused, kept, same)) done store keys lanes turns trace mirror limits asks = early (run_tells Kept kept same words text (Some f) f refl (as_finished mid.output after.output f status err told done) store keys lanes turns trace mirror limits refused asks)
+    run_does err (inl (f, told, inr ((command, (asked, by, fits)), bad), kept, same)) done store keys lanes turns trace mirror limits asks =
+        let (k, are, shares, limited) = lanes_at store keys lanes turns trace mirror limits command (lanes_asked words asked command store keys lanes turns trace mirror limits by fits asks) in
         inr (inr (k, are, shares, limited, inl (keys_tell Kept kept same words text (Some f) f refl (as_finished mid.output after.output f status err told done) bad)))
-    run_does err (inr (found, has, (command, (asked, by, fits), does))) done store keys lanes turns trace limits asks =
-        let (k, are, shares, limited, its) = runs_by err done store keys lanes turns trace limits found command (lanes_asked words asked command store keys lanes turns trace limits by fits asks) does in
+    run_does err (inr (found, has, (command, (asked, by, fits), does))) done store keys lanes turns trace mirror limits asks =
+        let (k, are, shares, limited, its) = runs_by err done store keys lanes turns trace mirror limits found command (lanes_asked words asked command store keys lanes turns trace mirror limits by fits asks) does in
         inr (inr (k, are, shares, limited, inr (found, has, its)))
 
   -- ---- without one
@@ -362,10 +362,10 @@ module _ (before mid after : Outside) (status : ℕ) (input : after.input ≡ mi
     no_store_format (inr ((command, (asked, by, fits)), (found, has), is)) store keys numbers trace asks =
         let (p, are) = params_at store keys numbers trace command (params_asked words asked command store keys numbers trace by fits asks) in inr (inr (p, are, inr (found, has, none_alone is)))
 
-    pub no_store_run : IsRefusedWithout words text fault → (store keys : List ℕ) (lanes : Option (List ℕ)) (turns : Bool) (trace : Option (List ℕ)) (limits : AskedShares) → asked_by words ≡ Some (run_asked store keys lanes turns trace limits)
+    pub no_store_run : IsRefusedWithout words text fault → (store keys : List ℕ) (lanes : Option (List ℕ)) (turns : Bool) (trace mirror : Option (List ℕ)) (limits : AskedShares) → asked_by words ≡ Some (run_asked store keys lanes turns trace mirror limits)
         → Alone Memory ⊎ ((AreBadLanes lanes × Alone (BadParams LANES)) ⊎ ((k : ℕ) × AreLanes lanes k × (shares : Shares) × AreShares limits shares × NoneAlone))
-    no_store_run (inl (inl refused)) store keys lanes turns trace limits asks = early (run_tells (Unit {0} × Kept) (tt, kept) same words text (Some fault) fault refl done store keys lanes turns trace limits refused asks)
-    no_store_run (inl (inr ((command, (asked, by, fits)), bad))) store keys lanes turns trace limits asks =
-        let (k, are, shares, limited) = lanes_at store keys lanes turns trace limits command (lanes_asked words asked command store keys lanes turns trace limits by fits asks) in inr (inr (k, are, shares, limited, inl (keys_alone bad)))
-    no_store_run (inr ((command, (asked, by, fits)), (found, has), is)) store keys lanes turns trace limits asks =
-        let (k, are, shares, limited) = lanes_at store keys lanes turns trace limits command (lanes_asked words asked command store keys lanes turns trace limits by fits asks) in inr (inr (k, are, shares, limited, inr (found, has, none_alone is)))
+    no_store_run (inl (inl refused)) store keys lanes turns trace mirror limits asks = early (run_tells (Unit {0} × Kept) (tt, kept) same words text (Some fault) fault refl done store keys lanes turns trace mirror limits refused asks)
+    no_store_run (inl (inr ((command, (asked, by, fits)), bad))) store keys lanes turns trace mirror limits asks =
+        let (k, are, shares, limited) = lanes_at store keys lanes turns trace mirror limits command (lanes_asked words asked command store keys lanes turns trace mirror limits by fits asks) in inr (inr (k, are, shares, limited, inl (keys_alone bad)))
+    no_store_run (inr ((command, (asked, by, fits)), (found, has), is)) store keys lanes turns trace mirror limits asks =
+        let (k, are, shares, limited) = lanes_at store keys lanes turns trace mirror limits command (lanes_asked words asked command store keys lanes turns trace mirror limits by fits asks) in inr (inr (k, are, shares, limited, inr (found, has, none_alone is)))

@@ -296,9 +296,9 @@ module _ {S W : Type 0} (disk : S → Disk) (flow : W → Flow) (beat : BeatKind
         (subst (λ (x : Shares). RunDone ring_kind ring_lives disk (manner beat (not can.turns) k x) tape keys old new before after t u status) (one_shares can.limits shares can.shares given can.given) d)))))
 
   pub completes : ((store keys : List ℕ) (numbers : List (List ℕ)) (trace : Option (List ℕ)) → asked_by words ≡ Some (format_asked store keys numbers trace) → FormatTells numbers trace)
-      → ((store keys : List ℕ) (lanes : Option (List ℕ)) (turns : Bool) (trace : Option (List ℕ)) (limits : AskedShares) → asked_by words ≡ Some (run_asked store keys lanes turns trace limits) → RunTells lanes turns trace limits)
+      → ((store keys : List ℕ) (lanes : Option (List ℕ)) (turns : Bool) (trace mirror : Option (List ℕ)) (limits : AskedShares) → asked_by words ≡ Some (run_asked store keys lanes turns trace mirror limits) → RunTells lanes turns trace limits)
       → DoesWhatItCan disk flow beat tape words text was is before after status old new
   completes format run = (
     λ can. format_whole can (format can.store_path can.keys_path can.numbers can.trace can.asked),
-    λ script can. run_whole script can (run can.store_path can.keys_path can.lanes can.turns can.trace can.limits can.asked),
+    λ script can. run_whole script can (run can.store_path can.keys_path can.lanes can.turns can.trace can.mirror can.limits can.asked),
   )

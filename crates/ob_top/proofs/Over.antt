@@ -30,8 +30,8 @@ use Rattle.ob_top.proofs.Completing.{Tell, FormatTells, RunTells}
 not_format : (words : List (List ℕ)) (store keys : List ℕ) (numbers : List (List ℕ)) (trace : Option (List ℕ)) → asked_by words ≡ Some audit_asked → asked_by words ≡ Some (format_asked store keys numbers trace) → ⊥
 not_format words store keys numbers trace first second = let same : audit_asked ≡ format_asked store keys numbers trace = one_asked words audit_asked (format_asked store keys numbers trace) first second in cc
 
-not_run : (words : List (List ℕ)) (store keys : List ℕ) (lanes : Option (List ℕ)) (turns : Bool) (trace : Option (List ℕ)) (limits : AskedShares) → asked_by words ≡ Some audit_asked → asked_by words ≡ Some (run_asked store keys lanes turns trace limits) → ⊥
-not_run words store keys lanes turns trace limits first second = let same : audit_asked ≡ run_asked store keys lanes turns trace limits = one_asked words audit_asked (run_asked store keys lanes turns trace limits) first second in cc
+not_run : (words : List (List ℕ)) (store keys : List ℕ) (lanes : Option (List ℕ)) (turns : Bool) (trace mirror : Option (List ℕ)) (limits : AskedShares) → asked_by words ≡ Some audit_asked → asked_by words ≡ Some (run_asked store keys lanes turns trace mirror limits) → ⊥
+not_run words store keys lanes turns trace mirror limits first second = let same : audit_asked ≡ run_asked store keys lanes turns trace mirror limits = one_asked words audit_asked (run_asked store keys lanes turns trace mirror limits) first second in cc
 
 -- an audit is no self-test, and neither is anything else
 not_audit : (words : List (List ℕ)) (word : List ℕ) → asked_by words ≡ Some (drill_asked word) → asked_by words ≡ Some audit_asked → ⊥
@@ -40,8 +40,8 @@ not_audit words word first second = let same : drill_asked word ≡ audit_asked 
 drill_not_format : (words : List (List ℕ)) (word store keys : List ℕ) (numbers : List (List ℕ)) (trace : Option (List ℕ)) → asked_by words ≡ Some (drill_asked word) → asked_by words ≡ Some (format_asked store keys numbers trace) → ⊥
 drill_not_format words word store keys numbers trace first second = let same : drill_asked word ≡ format_asked store keys numbers trace = one_asked words (drill_asked word) (format_asked store keys numbers trace) first second in cc
 
-drill_not_run : (words : List (List ℕ)) (word store keys : List ℕ) (lanes : Option (List ℕ)) (turns : Bool) (trace : Option (List ℕ)) (limits : AskedShares) → asked_by words ≡ Some (drill_asked word) → asked_by words ≡ Some (run_asked store keys lanes turns trace limits) → ⊥
-drill_not_run words word store keys lanes turns trace limits first second = let same : drill_asked word ≡ run_asked store keys lanes turns trace limits = one_asked words (drill_asked word) (run_asked store keys lanes turns trace limits) first second in cc
+drill_not_run : (words : List (List ℕ)) (word store keys : List ℕ) (lanes : Option (List ℕ)) (turns : Bool) (trace mirror : Option (List ℕ)) (limits : AskedShares) → asked_by words ≡ Some (drill_asked word) → asked_by words ≡ Some (run_asked store keys lanes turns trace mirror limits) → ⊥
+drill_not_run words word store keys lanes turns trace mirror limits first second = let same : drill_asked word ≡ run_asked store keys lanes turns trace mirror limits = one_asked words (drill_asked word) (run_asked store keys lanes turns trace mirror limits) first second in cc
 
 same_word : (words : List (List ℕ)) (a b : List ℕ) → asked_by words ≡ Some (drill_asked a) → asked_by words ≡ Some (drill_asked b) → a ≡ b
 same_word words a b first second = let same : drill_asked a ≡ drill_asked b = one_asked words (drill_asked a) (drill_asked b) first second in cc
@@ -137,11 +137,11 @@ module _ {S W : Type 0} (disk : S → Disk) (flow : W → Flow) (beat : BeatKind
   format_over (inl (kept, inr (word, n, asked, count, done))) store keys numbers trace asks = absurd (drill_not_format words word store keys numbers trace asked asks)
   format_over (inr (mid, err, does, input, done)) store keys numbers trace asks = format_does before mid after status input disk flow beat tape words text old new was is err does done store keys numbers trace asks
 
-  pub run_over : OverStore disk flow beat tape words text old new before after was is status → (store keys : List ℕ) (lanes : Option (List ℕ)) (turns : Bool) (trace : Option (List ℕ)) (limits : AskedShares) → asked_by words ≡ Some (run_asked store keys lanes turns trace limits)
+  pub run_over : OverStore disk flow beat tape words text old new before after was is status → (store keys : List ℕ) (lanes : Option (List ℕ)) (turns : Bool) (trace mirror : Option (List ℕ)) (limits : AskedShares) → asked_by words ≡ Some (run_asked store keys lanes turns trace mirror limits)
       → RunTells disk flow beat tape words text old new was is before after status lanes turns trace limits
-  run_over (inl (kept, inl (asked, done))) store keys lanes turns trace limits asks = absurd (not_run words store keys lanes turns trace limits asked asks)
-  run_over (inl (kept, inr (word, n, asked, count, done))) store keys lanes turns trace limits asks = absurd (drill_not_run words word store keys lanes turns trace limits asked asks)
-  run_over (inr (mid, err, does, input, done)) store keys lanes turns trace limits asks = run_does before mid after status input disk flow beat tape words text old new was is err does done store keys lanes turns trace limits asks
+  run_over (inl (kept, inl (asked, done))) store keys lanes turns trace mirror limits asks = absurd (not_run words store keys lanes turns trace mirror limits asked asks)
+  run_over (inl (kept, inr (word, n, asked, count, done))) store keys lanes turns trace mirror limits asks = absurd (drill_not_run words word store keys lanes turns trace mirror limits asked asks)
+  run_over (inr (mid, err, does, input, done)) store keys lanes turns trace mirror limits asks = run_does before mid after status input disk flow beat tape words text old new was is err does done store keys lanes turns trace mirror limits asks
 
 -- ---- without one
 
@@ -174,8 +174,8 @@ module _ (Kept : Type 0) (kept : Kept) (words : List (List ℕ)) (text : Option 
   format_alone (inl (inr (word, n, asked, count, done))) store keys numbers trace asks = absurd (drill_not_format words word store keys numbers trace asked asks)
   format_alone (inr (fault, refused, input, done)) store keys numbers trace asks = no_store_format before before after status input Kept kept words text fault refl done refused store keys numbers trace asks
 
-  pub run_alone : WithoutStore words text before after status → (store keys : List ℕ) (lanes : Option (List ℕ)) (turns : Bool) (trace : Option (List ℕ)) (limits : AskedShares) → asked_by words ≡ Some (run_asked store keys lanes turns trace limits)
+  pub run_alone : WithoutStore words text before after status → (store keys : List ℕ) (lanes : Option (List ℕ)) (turns : Bool) (trace mirror : Option (List ℕ)) (limits : AskedShares) → asked_by words ≡ Some (run_asked store keys lanes turns trace mirror limits)
       → Alone Memory ⊎ ((AreBadLanes lanes × Alone (BadParams LANES)) ⊎ ((k : ℕ) × AreLanes lanes k × (shares : Shares) × AreShares limits shares × NoneAlone))
-  run_alone (inl (inl (asked, done))) store keys lanes turns trace limits asks = absurd (not_run words store keys lanes turns trace limits asked asks)
-  run_alone (inl (inr (word, n, asked, count, done))) store keys lanes turns trace limits asks = absurd (drill_not_run words word store keys lanes turns trace limits asked asks)
-  run_alone (inr (fault, refused, input, done)) store keys lanes turns trace limits asks = no_store_run before before after status input Kept kept words text fault refl done refused store keys lanes turns trace limits asks
+  run_alone (inl (inl (asked, done))) store keys lanes turns trace mirror limits asks = absurd (not_run words store keys lanes turns trace mirror limits asked asks)
+  run_alone (inl (inr (word, n, asked, count, done))) store keys lanes turns trace mirror limits asks = absurd (drill_not_run words word store keys lanes turns trace mirror limits asked asks)
+  run_alone (inr (fault, refused, input, done)) store keys lanes turns trace mirror limits asks = no_store_run before before after status input Kept kept words text fault refl done refused store keys lanes turns trace mirror limits asks

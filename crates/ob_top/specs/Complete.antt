@@ -55,8 +55,9 @@ module _ {W : Type 0} (flow : W → Flow) (words : List (List ℕ)) (text : Opti
     pub lanes : Option (List ℕ)
     pub turns : Bool
     pub trace : Option (List ℕ)
+    pub mirror : Option (List ℕ)
     pub limits : AskedShares
-    pub asked : asked_by words ≡ Some (run_asked store_path keys_path lanes turns trace limits)
+    pub asked : asked_by words ≡ Some (run_asked store_path keys_path lanes turns trace mirror limits)
     pub k : ℕ
     pub in_range : AreLanes lanes k
     pub shares : Shares

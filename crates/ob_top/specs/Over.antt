@@ -39,17 +39,17 @@ IsRefusedWithout words text fault = IsRefusedBefore words text fault ⊎ (AskFor
 -- whether a command has a trace, and how that begins
 abbrev pub traced_of : Command → Bool
 traced_of (Format p traced) = traced
-traced_of (Run k turns traced shares) = traced
+traced_of (Run k turns traced mirrored shares) = traced
 
 abbrev pub start_for : Command → Start
 start_for (Format p traced) = start.Format p
-start_for (Run k turns traced shares) = start.Run
+start_for (Run k turns traced mirrored shares) = start.Run
 
 -- What a command did under a watch that told this before it and tells that behind it; the tape has then given this.
 abbrev pub WatchedDoes : {S : Type 0} → (S → Disk) → BeatKind → (tape : Given) → Command → Keys → S → S → Outside → Outside → Trace → Trace → Option RunErr → Type 0
 WatchedDoes disk beat tape (Format p traced) keys old new before after t u err = FormatEnds ring_kind ring_lives disk tape keys p old new before.output after.output t u err
     × ((disk old).tells → LeavesOnly (disk old) (disk new) (ring_kind.format_leaves keys p tape.words (disk old))) × (after.input ≡ before.input)
-WatchedDoes disk beat tape (Run k turns traced shares) keys old new before after t u err = RunOn ring_kind ring_lives disk (manner beat (not turns) k shares) tape keys old new before after t u err
+WatchedDoes disk beat tape (Run k turns traced mirrored shares) keys old new before after t u err = RunOn ring_kind ring_lives disk (manner beat (not turns) k shares) tape keys old new before after t u err
 
 module _ {S W : Type 0} (disk : S → Disk) (flow : W → Flow) (beat : BeatKind) (tape : Given) (command : Command) (keys : Keys) (old new : S) (before after : Outside) (was is : Option W) (err : Option RunErr) where
   -- nothing was done, for want of a trace

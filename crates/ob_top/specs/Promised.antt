@@ -75,8 +75,8 @@ is_lacking None was = false
 -- The words ask for `run`, with lanes in range and these shares, the keys are keys, and a store was handed in that stood.
 module _ {S W : Type 0} (disk : S → Disk) (flow : W → Flow) (beat : BeatKind) (words : List (List ℕ)) (text : Option (Bor (List ℕ))) (entry : Option (MutBor S)) (exit : Left S) (was is : Option W) (before after : Outside) (status : ℕ) (tape : Given) where
   abbrev pub KeepsHeadline : Type 0
-  KeepsHeadline = (store_path keys_path : List ℕ) (lanes : Option (List ℕ)) (turns : Bool) (trace : Option (List ℕ)) (limits : AskedShares) (k : ℕ) (shares : Shares) (keys : Keys)
-      → asked_by words ≡ Some (run_asked store_path keys_path lanes turns trace limits) → AreLanes lanes k → AreShares limits shares → HasKeys text keys
+  KeepsHeadline = (store_path keys_path : List ℕ) (lanes : Option (List ℕ)) (turns : Bool) (trace mirror : Option (List ℕ)) (limits : AskedShares) (k : ℕ) (shares : Shares) (keys : Keys)
+      → asked_by words ≡ Some (run_asked store_path keys_path lanes turns trace mirror limits) → AreLanes lanes k → AreShares limits shares → HasKeys text keys
       → OfStore entry exit (Unit {0}) (λ old new. (p : Params) (at : Standing) (past : PastLife) → Stood disk keys p at past tape old → Promised disk keys p at past (record {
         old = old;
         new = new;

@@ -81,7 +81,7 @@ module _ {S W : Type 0} (disk : S → Disk) (flow : W → Flow) (beat : BeatKind
   -- store, before anything is touched. With `--turns` all clients are made by hand; so many lanes share a phase's reads; and each
   -- client has these shares. Behind it the tape has given this.
   abbrev pub RunDoes : (tape : Given) → Type 0
-  RunDoes tape = (store_path keys_path : List ℕ) (lanes : Option (List ℕ)) (turns : Bool) (trace : Option (List ℕ)) (limits : AskedShares) → asked_by words ≡ Some (run_asked store_path keys_path lanes turns trace limits) →
+  RunDoes tape = (store_path keys_path : List ℕ) (lanes : Option (List ℕ)) (turns : Bool) (trace mirror : Option (List ℕ)) (limits : AskedShares) → asked_by words ≡ Some (run_asked store_path keys_path lanes turns trace mirror limits) →
       Refuses Memory
       ⊎ ((AreBadLanes lanes × Refuses (BadParams LANES))
       ⊎ ((k : ℕ) × AreLanes lanes k × (shares : Shares) × AreShares limits shares × (KeysDo

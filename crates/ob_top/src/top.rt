@@ -266,14 +266,15 @@ fn do_without<R: AllocGlobal + Threads + Wait + Sync, I: Source, O: Sink>(
 /// Does what the words ask for, and answers the status of the process.
 ///
 /// `format STORE KEYS N L Z S R BR BW E T [--trace FILE]` makes an empty store and prints how many
-/// cells it has. `run STORE KEYS [--lanes K] [--trace FILE] [--turns]` reads a script, runs its
-/// clients' transactions over the store, and reports them, each epoch once it is durable. A batch
-/// is read by so many lanes, 4 where no number is given, each in a thread of its own. Each client's
-/// calls are made in a thread of its own, or by hand where the system refuses it; with `--turns`
-/// all are made by hand, in rounds. `store` is the store that the words name, or none where it
-/// wasn't opened; `keys` is the text of the key file that they name, or none where it wasn't read;
-/// `tape` wasn't started, and gives the random words by which rows are spread; `beat` says at which
-/// looks the driver of epochs acts. `trace` is the file that `--trace` names, or none where it
+/// cells it has. `run STORE KEYS [--lanes K] [--mirror FILE] [--reads Q] [--writes W] [--trace FILE]
+/// [--turns]` reads a script, runs its clients' transactions over the store, and reports them, each
+/// epoch once it is durable. A batch is read by so many lanes, 4 where no number is given, each in a
+/// thread of its own. Each client's calls are made in a thread of its own, or by hand where the
+/// system refuses it; with `--turns` all are made by hand, in rounds. `store` is the store that the
+/// words name, or a mirror of it, or none where it wasn't opened: whether `--mirror` is given makes
+/// no difference here. `keys` is the text of the key file that they name, or none where it wasn't
+/// read; `tape` wasn't started, and gives the random words by which rows are spread; `beat` says at
+/// which looks the driver of epochs acts. `trace` is the file that `--trace` names, or none where it
 /// wasn't opened: all that the store sees is written there, as it sees it. Without the option it is
 /// left as it is; with it nothing is done where there is none, and nothing more is begun once it
 /// failed.

@@ -1,7 +1,7 @@
 -- The form of `drill` passes, and is read as it says.
 use Rattle.std.proofs.Common.{◌≡◌, false, List, [], ◌∷◌, refl, ap, ◌∙◌, codes}
 use Rattle.std.specs.List.{fold}
-use Rattle.clap.specs.Walk.{Held, Row, Text, Walk, idle, nothing_held, rows_after, walk_from, walked, with_default}
+use Rattle.clap.specs.Walk.{Held, Row, Text, idle, nothing_held, rows_after, walk_from, walked, with_default}
 use Rattle.clap.specs.Kinds.{or_else}
 use Rattle.clap.specs.Faults.{check_fault, defaults_fault, level_fault}
 use Rattle.clap.proofs.OnLiterals.{clap_on_literals}

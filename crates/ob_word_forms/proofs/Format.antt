@@ -5,7 +5,7 @@ use Rattle.clap.specs.Walk.{Held, Row, Text, Walk, first_of, idle, nothing_held,
 use Rattle.clap.specs.Kinds.{or_else}
 use Rattle.clap.specs.Faults.{check_fault, defaults_fault, level_fault}
 use Rattle.clap.proofs.OnLiterals.{clap_on_literals}
-use Rattle.ob_word_forms.specs.Forms.{Choice, AreChoices, AreOfFormat, ArePlain, lanes, reads, writes, trace, trace_in, turns, words_of}
+use Rattle.ob_word_forms.specs.Forms.{Choice, AreChoices, AreOfFormat, ArePlain, lanes, mirror, reads, writes, trace, trace_in, turns, words_of}
 use Rattle.ob_words.specs.Reading.{asked_command, format_asked}
 use Rattle.ob_words.proofs.Built.{built_option, format_built, format_rules, operand_at}
 use Rattle.ob_word_forms.proofs.Rows.{given_row}
@@ -189,10 +189,12 @@ module _ (store keys n l z s r br bw e t : Text) where
       twice : true ≡ false → ⊥
       twice is = cc is
   choices_go (trace file ∷ lanes k ∷ cs) plain fine only = absurd only
+  choices_go (trace file ∷ mirror copy ∷ cs) plain fine only = absurd only
   choices_go (trace file ∷ reads q ∷ cs) plain fine only = absurd only
   choices_go (trace file ∷ writes w ∷ cs) plain fine only = absurd only
   choices_go (trace file ∷ turns ∷ cs) plain fine only = absurd only
   choices_go (lanes k ∷ cs) plain fine only = absurd only
+  choices_go (mirror file ∷ cs) plain fine only = absurd only
   choices_go (reads q ∷ cs) plain fine only = absurd only
   choices_go (writes w ∷ cs) plain fine only = absurd only
   choices_go (turns ∷ cs) plain fine only = absurd only
@@ -202,6 +204,7 @@ module _ (store keys n l z s r br bw e t : Text) where
   format_defaults [] = refl
   format_defaults (trace file ∷ cs) = refl
   format_defaults (lanes k ∷ cs) = refl
+  format_defaults (mirror file ∷ cs) = refl
   format_defaults (reads q ∷ cs) = refl
   format_defaults (writes w ∷ cs) = refl
   format_defaults (turns ∷ cs) = refl
@@ -210,6 +213,7 @@ module _ (store keys n l z s r br bw e t : Text) where
   format_checked [] = refl
   format_checked (trace file ∷ cs) = refl
   format_checked (lanes k ∷ cs) = refl
+  format_checked (mirror file ∷ cs) = refl
   format_checked (reads q ∷ cs) = refl
   format_checked (writes w ∷ cs) = refl
   format_checked (turns ∷ cs) = refl
@@ -218,6 +222,7 @@ module _ (store keys n l z s r br bw e t : Text) where
   format_finished [] = refl
   format_finished (trace file ∷ cs) = refl
   format_finished (lanes k ∷ cs) = refl
+  format_finished (mirror file ∷ cs) = refl
   format_finished (reads q ∷ cs) = refl
   format_finished (writes w ∷ cs) = refl
   format_finished (turns ∷ cs) = refl
@@ -226,6 +231,7 @@ module _ (store keys n l z s r br bw e t : Text) where
   format_trace_read [] only = refl
   format_trace_read (trace file ∷ cs) only = refl
   format_trace_read (lanes k ∷ cs) only = absurd only
+  format_trace_read (mirror file ∷ cs) only = absurd only
   format_trace_read (reads q ∷ cs) only = absurd only
   format_trace_read (writes w ∷ cs) only = absurd only
   format_trace_read (turns ∷ cs) only = absurd only

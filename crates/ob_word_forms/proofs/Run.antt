@@ -7,12 +7,12 @@ use Rattle.clap.specs.Kinds.{or_else}
 use Rattle.clap.specs.Faults.{check_fault, default_fault, defaults_fault, level_fault, values_fault, settle_fault, turn_fault, use_fault}
 use Rattle.clap.specs.declared.parser.matches.ValueSource.TheVariants.{DefaultValue}
 use Rattle.clap.proofs.OnLiterals.{clap_on_literals}
-use Rattle.ob_word_forms.specs.Forms.{Choice, AreChoices, IsPlain, IsWithout, id_of, lanes, lanes_in, reads, reads_in, writes, writes_in, trace, trace_in, turns, turns_in, words_of}
+use Rattle.ob_word_forms.specs.Forms.{Choice, AreChoices, IsPlain, IsWithout, id_of, lanes, lanes_in, mirror, mirror_in, reads, reads_in, writes, writes_in, trace, trace_in, turns, turns_in, words_of}
 use Rattle.ob_words.proofs.Built.{built_flag, built_option, operand_at, run_built, run_rules}
 use Rattle.ob_word_forms.proofs.Rows.{at_row-absent, given_row, has_row-more, with_default-none}
 use Rattle.ob_word_forms.proofs.Levels.{defaults_done, defaults_next, defaults_skip, level_is, rows_are}
 use Rattle.ob_word_forms.proofs.PlainWords.{at, plain_turn-idle, plain_walked-idle}
-use Rattle.ob_word_forms.proofs.Steps.{Goes, Ready, goes_more, goes_none, option_goes, pending_held, pending_ready, plain_held, run_lanes, run_reads_option, run_writes_option, run_trace}
+use Rattle.ob_word_forms.proofs.Steps.{Goes, Ready, goes_more, goes_none, option_goes, pending_held, pending_ready, plain_held, run_lanes, run_mirror, run_reads_option, run_writes_option, run_trace}
 
 -- ---- the flag
 
@@ -70,6 +70,7 @@ operands_ready store keys = record { settles = refl; passes = refl }
 
 abbrev pub choice_row : Choice → Row
 choice_row (lanes k) = given_row (built_option (codes "lanes")) (k ∷ [])
+choice_row (mirror file) = given_row (built_option (codes "mirror")) (file ∷ [])
 choice_row (reads q) = given_row (built_option (codes "reads")) (q ∷ [])
 choice_row (writes w) = given_row (built_option (codes "writes")) (w ∷ [])
 choice_row (trace file) = given_row (built_option (codes "trace")) (file ∷ [])
@@ -104,6 +105,15 @@ choices_go (lanes k ∷ cs) h rows fine new ready =
     record {
       held = rest.held;
       goes = option_goes run_built (codes "lanes") (codes "--lanes") k h 3 rows (words_of cs) _ run_lanes ready fine.0 rest.goes;
+      ready = rw (append_assoc rows (row ∷ []) (map choice_row cs)) at rest.ready;
+    }
+choices_go (mirror file ∷ cs) h rows fine new ready =
+    let row = choice_row (mirror file) in
+    let rest = choices_go cs (pending_held rows (codes "mirror") file) (rows ++ row ∷ []) fine.2 (new_more cs rows row new.1 fine.1)
+    (pending_ready run_built (codes "mirror") (codes "--mirror") file rows run_mirror new.0) in
+    record {
+      held = rest.held;
+      goes = option_goes run_built (codes "mirror") (codes "--mirror") file h 3 rows (words_of cs) _ run_mirror ready fine.0 rest.goes;
       ready = rw (append_assoc rows (row ∷ []) (map choice_row cs)) at rest.ready;
     }
 choices_go (reads q ∷ cs) h rows fine new ready =
@@ -173,6 +183,7 @@ run_defaults store keys xs =
     defaults_skip rows (operand_at 1 (codes "STORE")) _ refl
     ∙ defaults_skip rows (operand_at 2 (codes "KEYS")) _ refl
     ∙ defaults_skip rows (built_option (codes "lanes")) _ refl
+    ∙ defaults_skip rows (built_option (codes "mirror")) _ refl
     ∙ defaults_skip rows (built_option (codes "reads")) _ refl
     ∙ defaults_skip rows (built_option (codes "writes")) _ refl
     ∙ defaults_skip rows (built_option (codes "trace")) _ refl
@@ -188,9 +199,10 @@ run_finished store keys xs =
     rw (with_default-none rows (operand_at 1 (codes "STORE")) refl) (
     rw (with_default-none rows (operand_at 2 (codes "KEYS")) refl) (
     rw (with_default-none rows (built_option (codes "lanes")) refl) (
+    rw (with_default-none rows (built_option (codes "mirror")) refl) (
     rw (with_default-none rows (built_option (codes "reads")) refl) (
     rw (with_default-none rows (built_option (codes "writes")) refl) (
-    rw (with_default-none rows (built_option (codes "trace")) refl) refl)))))
+    rw (with_default-none rows (built_option (codes "trace")) refl) refl))))))
 
 abbrev pub run_end : Text → Text → List Row → List Row
 run_end store keys xs = with_default (run_rows store keys xs) (built_flag (codes "turns"))
@@ -202,6 +214,7 @@ run_checked store keys xs false e = rw e refl
 no_rows : (store keys : Text) (cs : List Choice) → IsNew cs (run_operands store keys)
 no_rows store keys [] = tt
 no_rows store keys (lanes k ∷ cs) = (refl, no_rows store keys cs)
+no_rows store keys (mirror file ∷ cs) = (refl, no_rows store keys cs)
 no_rows store keys (reads q ∷ cs) = (refl, no_rows store keys cs)
 no_rows store keys (writes w ∷ cs) = (refl, no_rows store keys cs)
 no_rows store keys (trace file ∷ cs) = (refl, no_rows store keys cs)
@@ -249,15 +262,26 @@ defaulted rows absent = rw absent (at_row-absent (codes "turns") (more_values De
 first_lanes : (cs : List Choice) (ys : List Row) → first_of (codes "lanes") ys ≡ None → first_of (codes "lanes") (map choice_row cs ++ ys) ≡ lanes_in cs
 first_lanes [] ys none = none
 first_lanes (lanes k ∷ cs) ys none = refl
+first_lanes (mirror file ∷ cs) ys none = first_lanes cs ys none
 first_lanes (reads q ∷ cs) ys none = first_lanes cs ys none
 first_lanes (writes w ∷ cs) ys none = first_lanes cs ys none
 first_lanes (trace file ∷ cs) ys none = first_lanes cs ys none
 first_lanes (turns ∷ cs) ys none = first_lanes cs ys none
 
+first_mirror : (cs : List Choice) (ys : List Row) → first_of (codes "mirror") ys ≡ None → first_of (codes "mirror") (map choice_row cs ++ ys) ≡ mirror_in cs
+first_mirror [] ys none = none
+first_mirror (mirror file ∷ cs) ys none = refl
+first_mirror (lanes k ∷ cs) ys none = first_mirror cs ys none
+first_mirror (reads q ∷ cs) ys none = first_mirror cs ys none
+first_mirror (writes w ∷ cs) ys none = first_mirror cs ys none
+first_mirror (trace file ∷ cs) ys none = first_mirror cs ys none
+first_mirror (turns ∷ cs) ys none = first_mirror cs ys none
+
 first_reads : (cs : List Choice) (ys : List Row) → first_of (codes "reads") ys ≡ None → first_of (codes "reads") (map choice_row cs ++ ys) ≡ reads_in cs
 first_reads [] ys none = none
 first_reads (reads q ∷ cs) ys none = refl
 first_reads (lanes k ∷ cs) ys none = first_reads cs ys none
+first_reads (mirror file ∷ cs) ys none = first_reads cs ys none
 first_reads (writes w ∷ cs) ys none = first_reads cs ys none
 first_reads (trace file ∷ cs) ys none = first_reads cs ys none
 first_reads (turns ∷ cs) ys none = first_reads cs ys none
@@ -266,6 +290,7 @@ first_writes : (cs : List Choice) (ys : List Row) → first_of (codes "writes") 
 first_writes [] ys none = none
 first_writes (writes w ∷ cs) ys none = refl
 first_writes (lanes k ∷ cs) ys none = first_writes cs ys none
+first_writes (mirror file ∷ cs) ys none = first_writes cs ys none
 first_writes (reads q ∷ cs) ys none = first_writes cs ys none
 first_writes (trace file ∷ cs) ys none = first_writes cs ys none
 first_writes (turns ∷ cs) ys none = first_writes cs ys none
@@ -274,6 +299,7 @@ first_trace : (cs : List Choice) (ys : List Row) → first_of (codes "trace") ys
 first_trace [] ys none = none
 first_trace (trace file ∷ cs) ys none = refl
 first_trace (lanes k ∷ cs) ys none = first_trace cs ys none
+first_trace (mirror file ∷ cs) ys none = first_trace cs ys none
 first_trace (reads q ∷ cs) ys none = first_trace cs ys none
 first_trace (writes w ∷ cs) ys none = first_trace cs ys none
 first_trace (turns ∷ cs) ys none = first_trace cs ys none
@@ -284,6 +310,13 @@ run_lanes_read store keys cs true e = rw e (rw (append-nil (map choice_row cs)) 
 run_lanes_read store keys cs false e =
     let whole = defaulted (run_rows store keys (map choice_row cs)) e in
     ap (λ rows. first_of (codes "lanes") rows) whole ∙ first_lanes cs (default_row ∷ []) refl
+
+pub run_mirror_read : (store keys : Text) (cs : List Choice) (t : Bool) → has_row (codes "turns") (map choice_row cs) ≡ t
+    → first_of (codes "mirror") (run_end store keys (map choice_row cs)) ≡ mirror_in cs
+run_mirror_read store keys cs true e = rw e (rw (append-nil (map choice_row cs)) at (first_mirror cs [] refl))
+run_mirror_read store keys cs false e =
+    let whole = defaulted (run_rows store keys (map choice_row cs)) e in
+    ap (λ rows. first_of (codes "mirror") rows) whole ∙ first_mirror cs (default_row ∷ []) refl
 
 pub run_reads_read : (store keys : Text) (cs : List Choice) (t : Bool) → has_row (codes "turns") (map choice_row cs) ≡ t
     → first_of (codes "reads") (run_end store keys (map choice_row cs)) ≡ reads_in cs
@@ -314,6 +347,7 @@ turns_here : (cs : List Choice) → has_row (codes "turns") (map choice_row cs) 
 turns_here [] = refl
 turns_here (turns ∷ cs) = refl
 turns_here (lanes k ∷ cs) = turns_here cs
+turns_here (mirror file ∷ cs) = turns_here cs
 turns_here (reads q ∷ cs) = turns_here cs
 turns_here (writes w ∷ cs) = turns_here cs
 turns_here (trace file ∷ cs) = turns_here cs
@@ -322,6 +356,7 @@ turns_text_given : (cs : List Choice) → turns_in cs ≡ true → first_of (cod
 turns_text_given [] e = cc
 turns_text_given (turns ∷ cs) e = refl
 turns_text_given (lanes k ∷ cs) e = turns_text_given cs e
+turns_text_given (mirror file ∷ cs) e = turns_text_given cs e
 turns_text_given (reads q ∷ cs) e = turns_text_given cs e
 turns_text_given (writes w ∷ cs) e = turns_text_given cs e
 turns_text_given (trace file ∷ cs) e = turns_text_given cs e
@@ -330,6 +365,7 @@ turns_text_absent : (cs : List Choice) → turns_in cs ≡ false → first_of (c
 turns_text_absent [] e = refl
 turns_text_absent (turns ∷ cs) e = cc
 turns_text_absent (lanes k ∷ cs) e = turns_text_absent cs e
+turns_text_absent (mirror file ∷ cs) e = turns_text_absent cs e
 turns_text_absent (reads q ∷ cs) e = turns_text_absent cs e
 turns_text_absent (writes w ∷ cs) e = turns_text_absent cs e
 turns_text_absent (trace file ∷ cs) e = turns_text_absent cs e

@@ -57,6 +57,10 @@ pub run_lanes : IsValueOption run_built (codes "lanes") (codes "--lanes")
 unfolding clap_on_literals
 run_lanes = record { found = refl; same = refl; walk = λ h i. refl; turn = λ h i. refl }
 
+pub run_mirror : IsValueOption run_built (codes "mirror") (codes "--mirror")
+unfolding clap_on_literals
+run_mirror = record { found = refl; same = refl; walk = λ h i. refl; turn = λ h i. refl }
+
 pub run_reads_option : IsValueOption run_built (codes "reads") (codes "--reads")
 unfolding clap_on_literals
 run_reads_option = record { found = refl; same = refl; walk = λ h i. refl; turn = λ h i. refl }

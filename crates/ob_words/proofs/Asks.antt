@@ -1,21 +1,17 @@
 -- A parse that passes asks for something.
-use Rattle.std.proofs.Common.{◌≡◌, ◌≢◌, Bool, true, false, List, [], ◌∷◌, Option, None, refl, ap, sym, ◌∙◌, codes}
+use Rattle.std.proofs.Common.{◌≡◌, ◌≢◌, Bool, true, false, List, [], ◌∷◌, None, refl, ap, sym, ◌∙◌, codes}
 use Rattle.std.specs.Prelude.{option_and_then}
 use Rattle.std.specs.Str.{bytes_eq}
 use Rattle.std.proofs.lemmas.Slice.Eq.{bytes_eq-Decides}
 use Rattle.clap.specs.Walk.{Text}
-use Rattle.clap.specs.Simple.{is_simple, subcommand_of}
+use Rattle.clap.specs.Simple.{is_simple}
 use Rattle.clap.specs.Kinds.{IsAmong, Kinds}
 use Rattle.clap.specs.Faults.{fault_of}
 use Rattle.clap.specs.declared.error.ErrorKind.{ErrorKind}
 use Rattle.clap.proofs.OnLiterals.{clap_on_literals}
 use Rattle.ob_words.specs.Commands.{program}
-use Rattle.ob_words.specs.Reading.{Asked, asked_command}
+use Rattle.ob_words.specs.Reading.{asked_at_all, asked_command}
 use Rattle.ob_words.proofs.Top.{IsNoCommand, audit_subcommand, drill_subcommand, format_subcommand, no_command_fails, no_words_fail, run_subcommand}
-
--- what the words ask for, faults or none
-abbrev pub asked_at_all : List Text → Option Asked
-asked_at_all words = option_and_then (λ p. asked_command p.0 p.1) (subcommand_of program words)
 
 pub is_simple_alone : is_simple program ≡ true
 unfolding clap_on_literals

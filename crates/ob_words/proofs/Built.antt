@@ -36,7 +36,7 @@ built_sub s rules = record s {
 
 abbrev pub run_rules : List Rule
 run_rules = operand_at 1 (codes "STORE") ∷ operand_at 2 (codes "KEYS") ∷ built_option (codes "lanes")
-    ∷ built_option (codes "reads") ∷ built_option (codes "writes") ∷ built_option (codes "trace") ∷ built_flag (codes "turns") ∷ []
+    ∷ built_option (codes "mirror") ∷ built_option (codes "reads") ∷ built_option (codes "writes") ∷ built_option (codes "trace") ∷ built_flag (codes "turns") ∷ []
 
 abbrev pub format_rules : List Rule
 format_rules = operand_at 1 (codes "STORE") ∷ operand_at 2 (codes "KEYS") ∷ operand_at 3 (codes "N")

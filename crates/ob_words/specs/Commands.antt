@@ -34,11 +34,11 @@ format_shape = record (new_shape (codes "format")) {
       ∷ operand (codes "BW") ∷ operand (codes "E") ∷ operand (codes "T") ∷ option (codes "trace") ∷ [];
 }
 
--- `run STORE KEYS [--lanes K] [--reads Q] [--writes W] [--trace FILE] [--turns]`
+-- `run STORE KEYS [--lanes K] [--mirror FILE] [--reads Q] [--writes W] [--trace FILE] [--turns]`
 abbrev pub run_shape : Shape
 run_shape = record (new_shape (codes "run")) {
-  rules = operand (codes "STORE") ∷ operand (codes "KEYS") ∷ option (codes "lanes") ∷ option (codes "reads")
-      ∷ option (codes "writes") ∷ option (codes "trace") ∷ flag (codes "turns") ∷ [];
+  rules = operand (codes "STORE") ∷ operand (codes "KEYS") ∷ option (codes "lanes") ∷ option (codes "mirror")
+      ∷ option (codes "reads") ∷ option (codes "writes") ∷ option (codes "trace") ∷ flag (codes "turns") ∷ [];
 }
 
 -- `audit`

@@ -1,5 +1,5 @@
 -- What the words ask for, as texts.
-use Rattle.std.specs.Prelude.{Bool, List, [], ◌∷◌, Option, Some, None, unwrap_or, option_map, option_and_then, if◌then◌else◌, codes}
+use Rattle.std.specs.Prelude.{◌≡◌, Bool, true, false, ◌&&◌, List, [], ◌∷◌, Option, Some, None, is_some, unwrap_or, option_map, option_and_then, if◌then◌else◌, codes}
 use Rattle.std.specs.Str.{bytes_eq}
 use Rattle.clap.specs.Walk.{Row, Text, first_of}
 use Rattle.clap.specs.Simple.{subcommand_of}
@@ -22,10 +22,10 @@ abbrev pub shares_asked : Option Text → Option Text → AskedShares
 shares_asked reads writes = record { reads = reads; writes = writes }
 
 -- the store's path, the keys' path, and the nine numbers; or the lanes, where they are given, and whether `--turns` is; and the trace's path,
--- where it is given; and of a run its clients' shares; or an audit; or a self-test, with its count
+-- where it is given; and of a run the mirror's path, where it is given, and its clients' shares; or an audit; or a self-test, with its count
 pub data Asked : Type 0 where
   format_asked : Text → Text → List Text → Option Text → Asked
-  run_asked : Text → Text → Option Text → Bool → Option Text → AskedShares → Asked
+  run_asked : Text → Text → Option Text → Bool → Option Text → Option Text → AskedShares → Asked
   audit_asked : Asked
   drill_asked : Text → Asked
 
@@ -33,8 +33,8 @@ pub data Asked : Type 0 where
 abbrev pub asked_of : Request → Asked
 asked_of (Format store keys n l z s r br bw e t trace) =
     format_asked store.now keys.now (n.now ∷ l.now ∷ z.now ∷ s.now ∷ r.now ∷ br.now ∷ bw.now ∷ e.now ∷ t.now ∷ []) (option_map (λ s. s.now) trace)
-asked_of (Run store keys lanes turns trace reads writes) = run_asked store.now keys.now (option_map (λ s. s.now) lanes) turns (option_map (λ s. s.now) trace)
-    (shares_asked (option_map (λ s. s.now) reads) (option_map (λ s. s.now) writes))
+asked_of (Run store keys lanes turns trace mirror reads writes) = run_asked store.now keys.now (option_map (λ s. s.now) lanes) turns (option_map (λ s. s.now) trace)
+    (option_map (λ s. s.now) mirror) (shares_asked (option_map (λ s. s.now) reads) (option_map (λ s. s.now) writes))
 asked_of Audit = audit_asked
 asked_of (Drill count) = drill_asked count.now
 
@@ -51,7 +51,7 @@ asked_command name rows =
     ∷ text_at (codes "T") rows ∷ []) (first_of (codes "trace") rows))
     else if bytes_eq name (codes "run") then Some (run_asked (text_at (codes "STORE") rows) (text_at (codes "KEYS") rows)
     (first_of (codes "lanes") rows) (bytes_eq (text_at (codes "turns") rows) (codes "true")) (first_of (codes "trace") rows)
-    (shares_asked (first_of (codes "reads") rows) (first_of (codes "writes") rows)))
+    (first_of (codes "mirror") rows) (shares_asked (first_of (codes "reads") rows) (first_of (codes "writes") rows)))
     else if bytes_eq name (codes "audit") then Some audit_asked
     else if bytes_eq name (codes "drill") then Some (drill_asked (text_at (codes "COUNT") rows))
     else None
@@ -60,9 +60,25 @@ abbrev pub unless_refused : Kinds → Option Asked → Option Asked
 unless_refused [] asked = asked
 unless_refused (kind ∷ kinds) asked = None
 
--- what the words ask for, as a parse of the program's commands reads them: nothing where it has a fault
+-- what the words ask for, as a parse of the program's commands reads them, faults or none
+abbrev pub asked_at_all : List Text → Option Asked
+asked_at_all words = option_and_then (λ p. asked_command p.0 p.1) (subcommand_of program words)
+
+-- a run with both a mirror and a trace, which isn't made
+abbrev pub has_both : Asked → Bool
+has_both (run_asked store keys lanes turns trace mirror limits) = is_some mirror && is_some trace
+has_both _ = false
+
+abbrev pub unless_both : Asked → Option Asked
+unless_both asked = if has_both asked then None else Some asked
+
+-- the words ask for such a run
+abbrev pub HasBoth : List Text → Type 0
+HasBoth words = (asked : Asked) × (asked_at_all words ≡ Some asked) × (has_both asked ≡ true)
+
+-- what the words ask for: nothing where the parse has a fault, or where they ask for a run with both a mirror and a trace
 unfoldable pub asked_by : List Text → Option Asked
-asked_by words = unless_refused (fault_of program words) (option_and_then (λ p. asked_command p.0 p.1) (subcommand_of program words))
+asked_by words = unless_refused (fault_of program words) (option_and_then unless_both (asked_at_all words))
 
 -- what an error of the words is among the program's faults
 abbrev pub fault_for : WordsErr → Fault

@@ -75,7 +75,7 @@ IsBadCount word = (n : ℕ) → n ≤ 10000 → word ≢ decimal n
 -- the command over a store of a request, whose numbers are in range
 abbrev pub IsCommandOf : Asked → Command → Type 0
 IsCommandOf (format_asked store keys numbers trace) (Format p traced) = AreParams numbers p × (traced ≡ is_some trace)
-IsCommandOf (run_asked store keys lanes turns trace limits) (Run k by_hand traced shares) = AreLanes lanes k × (by_hand ≡ turns) × (traced ≡ is_some trace) × AreShares limits shares
+IsCommandOf (run_asked store keys lanes turns trace mirror limits) (Run k by_hand traced mirrored shares) = AreLanes lanes k × (by_hand ≡ turns) × (traced ≡ is_some trace) × (mirrored ≡ is_some mirror) × AreShares limits shares
 IsCommandOf _ _ = ⊥
 
 -- what a request asks for
@@ -87,7 +87,7 @@ IsWorkOf asked (OnStore command) = IsCommandOf asked command
 -- the first number of a request that is out of its range
 abbrev pub IsOutOfRange : Asked → Field → Type 0
 IsOutOfRange (format_asked store keys numbers trace) field = IsBadNumber numbers field
-IsOutOfRange (run_asked store keys lanes turns trace limits) field = (field ≡ LANES) × AreBadLanes lanes
+IsOutOfRange (run_asked store keys lanes turns trace mirror limits) field = (field ≡ LANES) × AreBadLanes lanes
 IsOutOfRange audit_asked field = ⊥
 IsOutOfRange (drill_asked count) field = (field ≡ COUNT) × IsBadCount count
 
@@ -99,8 +99,8 @@ Asks words command = (asked : Asked) × (asked_by words ≡ Some asked) × IsCom
 abbrev pub AskFor : List (List ℕ) → Work → Type 0
 AskFor words work = (asked : Asked) × (asked_by words ≡ Some asked) × IsWorkOf asked work
 
--- They ask for nothing, since they are no command with its operands and options, or since a number is out of its range; or memory was
--- wanting.
+-- They ask for nothing, since they are no command with its operands and options, or a run with both a mirror and a trace, or since a number
+-- is out of its range; or memory was wanting.
 abbrev pub IsRefusedFor : List (List ℕ) → Fault → Type 0
 IsRefusedFor words Usage = asked_by words ≡ None
 IsRefusedFor words (BadParams field) = (asked : Asked) × (asked_by words ≡ Some asked) × IsOutOfRange asked field
@@ -110,34 +110,42 @@ IsRefusedFor words _ = ⊥
 -- a request's store: its path, and whether it may be made
 abbrev pub store_file : Asked → Option (List ℕ × Bool)
 store_file (format_asked store keys numbers trace) = Some (store, true)
-store_file (run_asked store keys lanes turns trace limits) = Some (store, false)
+store_file (run_asked store keys lanes turns trace mirror limits) = Some (store, false)
 store_file audit_asked = None
 store_file (drill_asked count) = None
 
 -- the path of its keys
 abbrev pub keys_file : Asked → Option (List ℕ)
 keys_file (format_asked store keys numbers trace) = Some keys
-keys_file (run_asked store keys lanes turns trace limits) = Some keys
+keys_file (run_asked store keys lanes turns trace mirror limits) = Some keys
 keys_file audit_asked = None
 keys_file (drill_asked count) = None
 
 -- the path of its trace, where it is given
 abbrev pub trace_file : Asked → Option (List ℕ)
 trace_file (format_asked store keys numbers trace) = trace
-trace_file (run_asked store keys lanes turns trace limits) = trace
+trace_file (run_asked store keys lanes turns trace mirror limits) = trace
 trace_file audit_asked = None
 trace_file (drill_asked count) = None
 
+-- the path of the store's mirror, where it is given
+abbrev pub mirror_file : Asked → Option (List ℕ)
+mirror_file (format_asked store keys numbers trace) = None
+mirror_file (run_asked store keys lanes turns trace mirror limits) = mirror
+mirror_file audit_asked = None
+mirror_file (drill_asked count) = None
+
 -- The files that a request calls for: none, where a number is out of its range, for an audit, or for a self-test.
-abbrev pub AreFilesOf : Asked → Option (List ℕ × Bool) → Option (List ℕ) → Option (List ℕ) → Type 0
-AreFilesOf asked store keys trace =
-    ((field : Field) × IsOutOfRange asked field × (store ≡ None) × (keys ≡ None) × (trace ≡ None))
-    ⊎ ((work : Work) × IsWorkOf asked work × (store ≡ store_file asked) × (keys ≡ keys_file asked) × (trace ≡ trace_file asked))
+abbrev pub AreFilesOf : Asked → Option (List ℕ × Bool) → Option (List ℕ) → Option (List ℕ) → Option (List ℕ) → Type 0
+AreFilesOf asked store keys trace mirror =
+    ((field : Field) × IsOutOfRange asked field × (store ≡ None) × (keys ≡ None) × (trace ≡ None) × (mirror ≡ None))
+    ⊎ ((work : Work) × IsWorkOf asked work × (store ≡ store_file asked) × (keys ≡ keys_file asked) × (trace ≡ trace_file asked) × (mirror ≡ mirror_file asked))
 
 -- The files that the words call for: none, where they are no command with its operands and options.
-abbrev pub AreWanted : List (List ℕ) → Option (List ℕ × Bool) → Option (List ℕ) → Option (List ℕ) → Type 0
-AreWanted words store keys trace =
-    ((asked_by words ≡ None) × (store ≡ None) × (keys ≡ None) × (trace ≡ None)) ⊎ ((asked : Asked) × (asked_by words ≡ Some asked) × AreFilesOf asked store keys trace)
+abbrev pub AreWanted : List (List ℕ) → Option (List ℕ × Bool) → Option (List ℕ) → Option (List ℕ) → Option (List ℕ) → Type 0
+AreWanted words store keys trace mirror =
+    ((asked_by words ≡ None) × (store ≡ None) × (keys ≡ None) × (trace ≡ None) × (mirror ≡ None))
+    ⊎ ((asked : Asked) × (asked_by words ≡ Some asked) × AreFilesOf asked store keys trace mirror)
 
 -- The digits of a text are those of three keys of 32 bytes each.
 pub record AreKeys (text : List ℕ) (keys : Keys) : Type 0 where

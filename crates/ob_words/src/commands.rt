@@ -35,10 +35,11 @@ const FORMAT: [Word; 12] = [
 ];
 
 // The words of `run`.
-const RUN: [Word; 7] = [
+const RUN: [Word; 8] = [
     Word::Operand("STORE"),
     Word::Operand("KEYS"),
     Word::Valued("lanes"),
+    Word::Valued("mirror"),
     Word::Valued("reads"),
     Word::Valued("writes"),
     Word::Valued("trace"),

@@ -31,12 +31,14 @@ pub enum Command {
         traced: bool,
     },
     /// The script that comes in is run. The vault's batches may have so many lanes, from 1 to 16;
-    /// with `turns` all clients' calls are made by hand; there is a trace of it where `traced`; and
-    /// each client has these shares, of which 0 fits no run.
+    /// with `turns` all clients' calls are made by hand; there is a trace of it where `traced`, and a
+    /// mirror of the store where `mirrored`, never both; and each client has these shares, of which 0
+    /// fits no run.
     Run {
         lanes: u32,
         turns: bool,
         traced: bool,
+        mirrored: bool,
         shares: Shares,
     },
 }
@@ -50,6 +52,8 @@ pub struct Paths<'a> {
     pub keys: Option<&'a str>,
     /// The trace's path.
     pub trace: Option<&'a str>,
+    /// The path of the store's mirror; never beside a trace.
+    pub mirror: Option<&'a str>,
 }
 
 // How many lanes a run has where no word says it.
@@ -177,6 +181,7 @@ fn work_in(request: &Request<'_>) -> Result<Work, Field>
             lanes,
             turns,
             trace,
+            mirror,
             reads,
             writes,
             ..
@@ -185,6 +190,7 @@ fn work_in(request: &Request<'_>) -> Result<Work, Field>
                 lanes,
                 turns: *turns,
                 traced: is_given(*trace),
+                mirrored: is_given(*mirror),
                 shares: Shares {
                     reads: share_in(*reads),
                     writes: share_in(*writes),
@@ -203,8 +209,8 @@ fn work_in(request: &Request<'_>) -> Result<Work, Field>
 /// What the words ask for.
 ///
 /// # Errors
-/// `Usage` for words that are no command with its operands and options; `BadParams` for a number
-/// out of its range, the first one; and `Memory`.
+/// `Usage` for words that are no command with its operands and options, or a run with both a mirror
+/// and a trace; `BadParams` for a number out of its range, the first one; and `Memory`.
 pub fn work_of(alloc: Global, words: &[&str]) -> Result<Work, Fault>
     ensures work { IfOk result (λ work. AskFor (map (λ w. w.now) words.entry.now) work) }
     ensures refused { IfErr result
@@ -248,13 +254,15 @@ pub fn tape_key(text: Option<&[u8]>) -> [u8; 32]
 // The files of a request: none where a number is out of its range, for an audit, or for a self-test.
 fn paths_of<'a>(request: &Request<'a>) -> Paths<'a>
     ensures { AreFilesOf (asked_of request.now) (option_map (λ s. (s.0.now, s.1)) result.store)
-        (option_map (λ k. k.now) result.keys) (option_map (λ t. t.now) result.trace) }
+        (option_map (λ k. k.now) result.keys) (option_map (λ t. t.now) result.trace)
+        (option_map (λ m. m.now) result.mirror) }
 {
     if work_in(request).is_err() {
         return Paths {
             store: None,
             keys: None,
             trace: None,
+            mirror: None,
         };
     }
     match request {
@@ -267,21 +275,25 @@ fn paths_of<'a>(request: &Request<'a>) -> Paths<'a>
             store: Some((*store, true)),
             keys: Some(*keys),
             trace: *trace,
+            mirror: None,
         },
         Request::Run {
             store,
             keys,
             trace,
+            mirror,
             ..
         } => Paths {
             store: Some((*store, false)),
             keys: Some(*keys),
             trace: *trace,
+            mirror: *mirror,
         },
         Request::Audit | Request::Drill { .. } => Paths {
             store: None,
             keys: None,
             trace: None,
+            mirror: None,
         },
     }
 }
@@ -294,7 +306,7 @@ fn paths_of<'a>(request: &Request<'a>) -> Paths<'a>
 pub fn store_wanted<'a>(alloc: Global, words: &'a [&'a str]) -> Result<Paths<'a>, Memory>
     ensures { IfOk result (λ paths. AreWanted (map (λ w. w.now) words.entry.now)
         (option_map (λ s. (s.0.now, s.1)) paths.store) (option_map (λ k. k.now) paths.keys)
-        (option_map (λ t. t.now) paths.trace)) }
+        (option_map (λ t. t.now) paths.trace) (option_map (λ m. m.now) paths.mirror)) }
 {
     match read_words(alloc, words) {
         Ok(request) => Ok(paths_of(&request)),
@@ -302,6 +314,7 @@ pub fn store_wanted<'a>(alloc: Global, words: &'a [&'a str]) -> Result<Paths<'a>
             store: None,
             keys: None,
             trace: None,
+            mirror: None,
         }),
         Err(WordsErr::Memory) => Err(Memory),
     }

@@ -41,6 +41,6 @@ fn counts_are_read_or_refused(rt: HostRuntime) {
         assert!(&rt; count_of(&rt, word) == wanted, "{word}");
         let words = ["drill", word];
         let paths = store_wanted(rt.alloc(), &words).expect(&rt, "memory");
-        assert!(&rt; paths.store.is_none() && paths.keys.is_none());
+        assert!(&rt; paths.store.is_none() && paths.keys.is_none() && paths.mirror.is_none());
     }
 }

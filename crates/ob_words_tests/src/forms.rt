@@ -5,7 +5,7 @@ use ob_words::{Request, WordsErr, read_words};
 use std::process::Abort;
 
 // Words with a blank between two, and what they ask for: each operand in brackets.
-static WORDS: [(&str, &str); 66] = [
+static WORDS: [(&str, &str); 92] = [
     ("audit", "audit"),
     ("drill 1", "drill [1]"),
     ("drill x", "drill [x]"),
@@ -16,6 +16,20 @@ static WORDS: [(&str, &str); 66] = [
     ("run S K --lanes 16 --turns", "run [S] [K] lanes [16] turns"),
     ("run S K --lanes x", "run [S] [K] lanes [x]"),
     ("run S K --trace F", "run [S] [K] trace [F]"),
+    ("run S K --mirror M", "run [S] [K] mirror [M]"),
+    ("run S K --mirror S", "run [S] [K] mirror [S]"),
+    (
+        "run S K --lanes 2 --mirror M --reads 1 --writes 2 --turns",
+        "run [S] [K] lanes [2] turns mirror [M] reads [1] writes [2]",
+    ),
+    (
+        "run S K --turns --writes 2 --reads 1 --mirror M --lanes 2",
+        "run [S] [K] lanes [2] turns mirror [M] reads [1] writes [2]",
+    ),
+    (
+        "run S K --mirror M --turns --lanes 2",
+        "run [S] [K] lanes [2] turns mirror [M]",
+    ),
     ("run S K --reads 1", "run [S] [K] reads [1]"),
     ("run S K --writes x", "run [S] [K] writes [x]"),
     (
@@ -39,6 +53,10 @@ static WORDS: [(&str, &str); 66] = [
     ("run S K --lanes=2", "run [S] [K] lanes [2]"),
     ("run --lanes 2 S K", "run [S] [K] lanes [2]"),
     ("run S --turns K", "run [S] [K] turns"),
+    ("run --mirror M S K", "run [S] [K] mirror [M]"),
+    ("run S --mirror=M K", "run [S] [K] mirror [M]"),
+    ("run S --mirror K X", "run [S] [X] mirror [K]"),
+    ("run -- --mirror M", "run [--mirror] [M]"),
     ("run -- S K", "run [S] [K]"),
     ("run --turns -- -S --lanes", "run [-S] [--lanes] turns"),
     ("run  K", "run [] [K]"),
@@ -66,6 +84,26 @@ static WORDS: [(&str, &str); 66] = [
     ("drill 1 --trace F", "refused"),
     ("run S K --trace", "refused"),
     ("run S K --trace T --trace T", "refused"),
+    ("run S K --mirror", "refused"),
+    ("run S K --mirror -M", "refused"),
+    ("run S K --mirror M --mirror M", "refused"),
+    ("run S --mirror M --mirror N K", "refused"),
+    ("run --mirror S K", "refused"),
+    ("run S K --mirror M N", "refused"),
+    ("run S K --mirrors M", "refused"),
+    ("run S K --mirror M --trace T", "refused"),
+    ("run S K --trace T --mirror M", "refused"),
+    ("run --trace T S --mirror M K", "refused"),
+    ("run --mirror M S K --turns --trace T", "refused"),
+    ("run S K --lanes 2 --mirror=M --trace=T", "refused"),
+    ("run S K --mirror M --mirror M --trace T", "refused"),
+    ("format S K 8 2 2 3 2 2 2 2 8 --mirror M", "refused"),
+    (
+        "format S K 8 2 2 3 2 2 2 2 8 --trace T --mirror M",
+        "refused",
+    ),
+    ("audit --mirror M", "refused"),
+    ("drill 1 --mirror M", "refused"),
     ("format S K 8 2 2 3 2 2 2 2 8 --lanes 2", "refused"),
     ("format S K 8 2 2 3 2 2 2 2 8 --trace", "refused"),
     ("audit --trace F", "refused"),
@@ -142,11 +180,13 @@ fn push_request<R: Abort>(rt: &R, text: &mut String, request: &Request<'_>) {
             lanes,
             turns,
             trace,
+            mirror,
             reads,
             writes,
         } => {
             push_run(rt, text, &[store, keys], lanes, turns);
             push_option(rt, text, " trace", trace);
+            push_option(rt, text, " mirror", mirror);
             push_option(rt, text, " reads", reads);
             push_option(rt, text, " writes", writes);
         }

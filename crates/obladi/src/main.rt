@@ -32,6 +32,7 @@ fn run<R: AllocGlobal + Threads + Wait + Sync, O: Sink>(
     let Files {
         keys: _locked,
         mut store,
+        mirror: _,
         mut trace,
     } = files;
     let mut tape = ChaChaTape::new(&tape_key(keys.as_deref()));

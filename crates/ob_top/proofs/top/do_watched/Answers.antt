@@ -11,4 +11,4 @@ pub returns-in-Run-clause-does : goal.returns-in-Run-clause-does
 returns-in-Run-clause-does g c = rw c.in-Run.is c.run_on.ensures.done
 
 pub run_on-requires-clause-lanes : goal.run_on-requires-clause-lanes
-run_on-requires-clause-lanes g c κs within = few_lanes c.requires.asked.0 c.in-Run.lanes c.in-Run.turns _ _ (subst (λ (command : Command). Asks c.requires.asked.0 command) c.in-Run.is c.requires.asked.1)
+run_on-requires-clause-lanes g c κs within = few_lanes c.requires.asked.0 c.in-Run.lanes c.in-Run.turns _ _ _ (subst (λ (command : Command). Asks c.requires.asked.0 command) c.in-Run.is c.requires.asked.1)

@@ -60,9 +60,9 @@ pub returns-in-None-clause-drill_complete : goal.returns-in-None-clause-drill_co
 returns-in-None-clause-drill_complete g c = λ word n asks count. drill_low _ _ _ _ word n count (drill_without (c.args.trace.now ≡ c.args.trace.now) refl _ _ _ _ _ c.do_without.ensures word asks)
 
 pub returns-in-Some-clause-headline : goal.returns-in-Some-clause-headline
-returns-in-Some-clause-headline g c = rw c.in-Some.is (λ store_path keys_path lanes turns trace limits k shares keys asks are given has p at past stood.
+returns-in-Some-clause-headline g c = rw c.in-Some.is (λ store_path keys_path lanes turns trace mirror limits k shares keys asks are given has p at past stood.
     told_promised g.S.Store.disk _ _ _ _ _ _ _ _ _ _ _ (λ x image left. g.met.S.Store.only_now x image left) (λ x tells leaves. g.met.S.Store.includes_reads x tells leaves) c.do_with.ensures.goes turns k shares keys p at past stood lanes trace limits are given has
-    (run_over g.S.Store.disk _ _ _ _ _ _ _ _ _ _ _ _ c.do_with.ensures.does store_path keys_path lanes turns trace limits asks))
+    (run_over g.S.Store.disk _ _ _ _ _ _ _ _ _ _ _ _ c.do_with.ensures.does store_path keys_path lanes turns trace mirror limits asks))
 
 pub returns-in-None-clause-headline : goal.returns-in-None-clause-headline
-returns-in-None-clause-headline g c = rw c.in-None.is (λ store_path keys_path lanes turns trace limits k shares keys asks are given has. tt)
+returns-in-None-clause-headline g c = rw c.in-None.is (λ store_path keys_path lanes turns trace mirror limits k shares keys asks are given has. tt)
