@@ -1,0 +1,4 @@
+mod OfHalves
+mod Doing
+mod Telling
+mod Joining

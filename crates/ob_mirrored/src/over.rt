@@ -1,0 +1,96 @@
+//! What the words ask for, over a mirror.
+
+ghost use Rattle.std.specs.Prelude.{◌≡◌, map};
+ghost use Rattle.ob_io.specs.Streams.{inflow, outflow};
+ghost use Rattle.ob_desk.specs.Beats.{beat_kind};
+ghost use Rattle.ob_top.specs.Outside.{outside, words_given};
+ghost use Rattle.ob_mirrored.specs.Over.{IsDoneOver};
+
+use ob_desk::Beat;
+use ob_io::{Sink, Source};
+use ob_lanes::Lanes;
+use ob_mirror::{Mirror, Places};
+use ob_seal::Tape;
+use ob_store::Store;
+use ob_top::obladi;
+use std::sync::Wait;
+use std::thread::Threads;
+
+/// Room for a mirror of two stores with such lanes, and places for their hands. By a value of this
+/// type its size is known.
+#[derive(Drop)]
+pub struct Room<L, M> {
+    halves: [u64; 4],
+    places: Places<L, M>,
+}
+
+impl<L, M> Room<L, M> {
+    /// Room, and places with no hand.
+    pub fn new() -> Room<L, M> {
+        Room {
+            halves: [0; 4],
+            places: Places::new(),
+        }
+    }
+}
+
+// Both are given back as they are.
+fn hand_back<A, B>(first: &mut A, second: &mut B)
+    ensures first { first.exit.now ≡ first.entry.now }
+    ensures second { second.exit.now ≡ second.entry.now }
+{}
+
+/// Does what the words ask for over a mirror of both.
+pub fn do_over<
+    'a,
+    R: AllocGlobal + Threads + Wait + Sync,
+    S: Lanes + 'a,
+    M: Store + 'a,
+    T: Tape,
+    I: Source,
+    O: Sink,
+    B: Beat,
+    W: Sink,
+>(
+    rt: &R,
+    words: &[&str],
+    keys: Option<&[u8]>,
+    first: &mut S,
+    second: &mut M,
+    room: Room<S::Lane, M::Lane>,
+    tape: &mut T,
+    input: &mut I,
+    output: &mut O,
+    trace: &mut Option<W>,
+    beat: &mut B,
+) -> u8
+    requires none_out { (S.disk first.old).out ≡ 0 }
+    requires second_in { (M.disk second.old).out ≡ 0 }
+    requires unstarted { T.present tape.old ≡ 0 }
+    ensures none_out { (S.disk first.new).out ≡ 0 }
+    ensures second_in { (M.disk second.new).out ≡ 0 }
+    ensures done { IsDoneOver ⟦<Mirror<'a, S, M> as Store>⟧.disk (λ m. m.halves.first.now)
+        (λ m. m.halves.second.now) S.disk M.disk (λ w. outflow W.Sink w)
+        (beat_kind B.passes B.exact) (map (λ w. w.now) words.entry.now) keys.entry trace.old
+        trace.new (outside (inflow I.Source input.old) (outflow O.Sink output.old))
+        (outside (inflow I.Source input.new) (outflow O.Sink output.new)) result
+        (words_given (T.present tape.new) (T.drawn tape.new)) first.old first.new second.old
+        second.new }
+{
+    let Room { places, .. } = room;
+    let mut mirror = Mirror::over(first, second, places);
+    let status = obladi(
+        rt,
+        words,
+        keys,
+        Some(&mut mirror),
+        tape,
+        input,
+        output,
+        trace,
+        beat,
+    );
+    let (first, second) = mirror.into_lent();
+    hand_back(first, second);
+    status
+}
