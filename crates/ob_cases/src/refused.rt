@@ -15,6 +15,14 @@ const REFUSED: &str = "\
     keys run S K --trace -> 2 fault: usage/\n\
     keys run S K --trace T --trace T -> 2 fault: usage/\n\
     keys run S K --trace T -> 5 fault: store/\n\
+    keys run S K --mirror -> 2 fault: usage/\n\
+    keys run S K --mirror M --mirror M -> 2 fault: usage/\n\
+    keys run S K --mirror M --trace T -> 2 fault: usage/\n\
+    none run --trace T S K --mirror=M --lanes 17 -> 2 fault: usage/\n\
+    none run S K --mirror M --lanes 17 -> 2 fault: parameter LANES/\n\
+    none run S K --mirror M -> 7 fault: source/\n\
+    keys run S K --mirror M -> 5 fault: store/\n\
+    keys format S K 8 2 2 3 2 2 2 2 8 --mirror M -> 2 fault: usage/\n\
     keys run S K --reads 1 --reads 1 -> 2 fault: usage/\n\
     keys run S K --writes -1 -> 2 fault: usage/\n\
     keys run S K --reads 0 -> 5 fault: store/\n\
@@ -56,40 +64,50 @@ fn refusals_come_in_their_order(rt: HostRuntime) {
     }
 }
 
-// Words, whether they call for the keys `K` and for the store `S`, which may be made or not, and
-// whether for the trace `T`.
-static WANTED: [(&str, Option<bool>, bool); 12] = [
-    ("audit", None, false),
-    ("run S K", Some(false), false),
-    ("run --lanes 2 S K --turns", Some(false), false),
-    ("run S --lanes 17 K", None, false),
-    ("run S", None, false),
-    ("run S K --trace T", Some(false), true),
-    ("run --trace T S K --turns", Some(false), true),
-    ("run S K --trace T --lanes 17", None, false),
-    ("format S K 8 2 2 3 2 2 2 2 8", Some(true), false),
-    ("format S K 8 2 2 3 2 2 2 2 8 --trace T", Some(true), true),
-    ("format S K 9 2 2 3 2 2 2 2 8 --trace T", None, false),
-    ("format S K 8 2 2 3 2 2 2 2", None, false),
+// Words, whether they call for the keys `K` and for the store `S`, which may be made or not, and which
+// of the trace `T` and the mirror `M` they call for.
+static WANTED: [(&str, Option<bool>, &str); 18] = [
+    ("audit", None, ""),
+    ("run S K", Some(false), ""),
+    ("run --lanes 2 S K --turns", Some(false), ""),
+    ("run S --lanes 17 K", None, ""),
+    ("run S", None, ""),
+    ("run S K --trace T", Some(false), "T"),
+    ("run --trace T S K --turns", Some(false), "T"),
+    ("run S K --trace T --lanes 17", None, ""),
+    ("run S K --mirror M", Some(false), "M"),
+    ("run --mirror M S K --turns", Some(false), "M"),
+    ("run S K --mirror M --lanes 17", None, ""),
+    ("run S K --mirror M --trace T", None, ""),
+    ("run S K --trace T --mirror M", None, ""),
+    ("format S K 8 2 2 3 2 2 2 2 8", Some(true), ""),
+    ("format S K 8 2 2 3 2 2 2 2 8 --trace T", Some(true), "T"),
+    ("format S K 8 2 2 3 2 2 2 2 8 --mirror M", None, ""),
+    ("format S K 9 2 2 3 2 2 2 2 8 --trace T", None, ""),
+    ("format S K 8 2 2 3 2 2 2 2", None, ""),
 ];
 
-fn expect_wanted<R: AllocGlobal + Abort>(rt: &R, line: &str, may_make: Option<bool>, traced: bool) {
+fn expect_wanted<R: AllocGlobal + Abort>(rt: &R, line: &str, may_make: Option<bool>, beside: &str) {
     let words = words_of(rt, line);
     let paths = store_wanted(rt.alloc(), &words).expect(rt, "memory");
     let (store, keys) = match may_make {
         Some(may_make) => (Some(("S", may_make)), Some("K")),
         None => (None, None),
     };
-    let trace = if traced { Some("T") } else { None };
+    let trace = if beside == "T" { Some("T") } else { None };
+    let mirror = if beside == "M" { Some("M") } else { None };
     assert!(rt;
-        paths.store == store && paths.keys == keys && paths.trace == trace,
+        paths.store == store
+            && paths.keys == keys
+            && paths.trace == trace
+            && paths.mirror == mirror,
         "{line}"
     );
 }
 
 #[test]
 fn what_words_do_not_call_for_is_not_wanted(rt: HostRuntime) {
-    for &(line, may_make, traced) in &WANTED {
-        expect_wanted(&rt, line, may_make, traced);
+    for &(line, may_make, beside) in &WANTED {
+        expect_wanted(&rt, line, may_make, beside);
     }
 }

@@ -1,13 +1,14 @@
-//! The program: its words, its keys, store and trace, standard input and standard output go to the
-//! top call.
+//! The program: its words, its keys, store, mirror and trace, standard input and standard output go
+//! to the top call.
 #![tactic(auto)]
 
 use ob_base::Fault;
 use ob_desk::Eager;
 use ob_io::Sink;
+use ob_mirrored::{Room, obladi_mirrored};
 use ob_outside::{Files, Named, StdSink, StdSource, hold_standard, open_named, words_of};
 use ob_seal::ChaChaTape;
-use ob_top::{finish, obladi};
+use ob_top::finish;
 use ob_words::tape_key;
 use std::alloc::AllocGlobal;
 use std::io;
@@ -32,16 +33,18 @@ fn run<R: AllocGlobal + Threads + Wait + Sync, O: Sink>(
     let Files {
         keys: _locked,
         mut store,
-        mirror: _,
+        mut mirror,
         mut trace,
     } = files;
     let mut tape = ChaChaTape::new(&tape_key(keys.as_deref()));
     let mut input = StdSource::new(rt.reader());
-    Ok(obladi(
+    Ok(obladi_mirrored(
         waits,
         &texts,
         keys.as_deref(),
         store.as_mut(),
+        &mut mirror,
+        Room::new(),
         &mut tape,
         &mut input,
         output,
