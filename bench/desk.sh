@@ -7,8 +7,13 @@
 # Then what a look takes in an epoch of 64 aborted transactions, and in one of 64,000. It fails where
 # the latter takes more than twice as long.
 # It needs rt, and writes only to a temporary folder. Times are of the processor.
+#
+#   desk.sh [PROGRAM]    PROGRAM: this bench's program, as an earlier run left it (KEEP=FILE keeps it);
+#                        else it is proved and built here
 set -euo pipefail
 top=$(cd "$(dirname "$0")/.." && pwd)
+program=${1:+$(realpath "$1")}
+keep=${KEEP:+$(realpath "$KEEP")}
 work=$(mktemp -d)
 trap 'rm -rf "$work"' EXIT
 epochs=200
@@ -272,7 +277,13 @@ new-requires-2 c = record {
 }
 PROOF
 cd "$work/crates/desk_bench"
-rt run </dev/null >"$work/log" 2>&1 || { tail -30 "$work/log"; exit 1; }
+if [[ -n $program ]]; then
+    mkdir -p out
+    cp "$program" out/desk_bench
+else
+    rt run </dev/null >"$work/log" 2>&1 || { tail -30 "$work/log"; exit 1; }
+    [[ -z $keep ]] || cp out/desk_bench "$keep"
+fi
 TIMEFORMAT=%U
 # The fewest nanoseconds a call of five runs, with the beginning and ending of the transactions.
 fastest() {

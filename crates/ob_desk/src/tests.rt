@@ -4,11 +4,19 @@
 // to commit and on the key that a get waits for, and no public call tells of these.
 
 mod beside;
+mod calls;
+mod drawn;
+mod own;
+mod pair;
+mod plain;
+mod plain_desk;
+mod shares;
+mod told;
 
 use crate::{Beat, Begun, Desk, Done, Eager, Got, Hasty, Look, Txn};
 use ob_base::{Fault, Key, Memory, Params, Value, Write};
 use ob_serial::{EpochRecord, Outcome, Why};
-use ob_shares::NO_SHARES;
+use ob_shares::{NO_SHARES, Shares};
 use std::alloc::Global;
 use std::test::Fail;
 
@@ -18,6 +26,9 @@ use std::test::Fail;
 enum Call {
     // Another desk from here on, on which clients 1 to n have begun.
     Anew(u32),
+    // Another desk with so many batches left, whose two clients have begun, and may name one key each
+    // by gets, and one by puts and deletes.
+    Shared(u32),
     Begin(u32),
     Get(u32, Key),
     Poll(u32),
@@ -336,6 +347,13 @@ const LOOKS: [(Call, Answer); 9] = [
 ];
 
 fn txn(number: u32) -> Txn {
+    if number > 40 {
+        return Txn {
+            client: 1,
+            epoch: 1,
+            ticket: u64::from(number - 40),
+        };
+    }
     if number > 20 {
         let ticket = number - 20;
         return Txn {
@@ -359,7 +377,10 @@ fn is_seven(value: &Value) -> bool {
     value.as_slice() == b"7".as_slice()
 }
 
-fn of_got(got: Got) -> Answer {
+fn of_got(got: Option<Got>) -> Answer {
+    let Some(got) = got else {
+        return Answer::Not;
+    };
     match got {
         Got::Value { value: None } => Answer::Absent,
         Got::Value { value: Some(value) } => {
@@ -374,7 +395,10 @@ fn of_got(got: Got) -> Answer {
     }
 }
 
-fn of_done(done: Done) -> Answer {
+fn of_done(done: Option<Done>) -> Answer {
+    let Some(done) = done else {
+        return Answer::Not;
+    };
     match done {
         Done::Yes => Answer::Yes,
         Done::Aborted { why } => Answer::Aborted(why),
@@ -401,12 +425,42 @@ fn anew(old: &mut Desk, alloc: Global, begun: u32) -> Result<Answer, Memory> {
     Ok(Answer::Yes)
 }
 
+// One key for each client.
+const ONE_EACH: Shares = Shares {
+    reads: Some(1),
+    writes: Some(1),
+};
+
+// 8 keys, 2 read batches of 2 places, of which so many are left, 2 write places, 2 clients, who have
+// begun.
+fn shared_desk(alloc: Global, left: u32) -> Result<Option<Desk>, Memory> {
+    let Ok(p) = Params::new(8, 2, 2, 3, 2, 2, 2, 2, 6) else {
+        return Ok(None);
+    };
+    if left > 2 {
+        return Ok(None);
+    }
+    let mut desk = Desk::new(alloc, &p, 1, left, &[1, 2], ONE_EACH)?;
+    for n in 0..2 {
+        let _begun = begin(&mut desk, n + 1)?;
+    }
+    Ok(Some(desk))
+}
+
+fn shared(old: &mut Desk, alloc: Global, left: u32) -> Result<Answer, Memory> {
+    let Some(new) = shared_desk(alloc, left)? else {
+        return Ok(Answer::Not);
+    };
+    *old = new;
+    Ok(Answer::Yes)
+}
+
 // The calls, as far as they may be made.
 fn begin(desk: &mut Desk, client: u32) -> Result<Answer, Memory> {
-    if !desk.may_begin(client) {
+    let Some(begun) = calls::begin(desk, client)? else {
         return Ok(Answer::Not);
-    }
-    Ok(match desk.begin(client)? {
+    };
+    Ok(match begun {
         Begun::Txn { txn } => Answer::Began {
             epoch: txn.epoch,
             ticket: txn.ticket,
@@ -415,61 +469,25 @@ fn begin(desk: &mut Desk, client: u32) -> Result<Answer, Memory> {
     })
 }
 
-fn get(desk: &mut Desk, txn: &Txn, key: Key) -> Result<Answer, Memory> {
-    // The prover has to see this type named here.
-    let _told: Option<Value> = None;
-    if !desk.may_access(txn, key) {
-        return Ok(Answer::Not);
-    }
-    let got = desk.get(txn, key)?;
-    Ok(of_got(got))
-}
-
-fn poll(desk: &mut Desk, txn: &Txn) -> Answer {
-    if !desk.may_poll(txn) {
-        return Answer::Not;
-    }
-    of_got(desk.poll(txn))
-}
-
 fn put(desk: &mut Desk, txn: &Txn, key: Key) -> Result<Answer, Memory> {
     let Some(value) = seven() else {
         return Ok(Answer::Not);
     };
-    if !desk.may_access(txn, key) {
-        return Ok(Answer::Not);
-    }
-    let done = desk.put(txn, key, value)?;
-    Ok(of_done(done))
-}
-
-fn del(desk: &mut Desk, txn: &Txn, key: Key) -> Result<Answer, Memory> {
-    if !desk.may_access(txn, key) {
-        return Ok(Answer::Not);
-    }
-    let done = desk.del(txn, key)?;
-    Ok(of_done(done))
-}
-
-fn commit(desk: &mut Desk, txn: &Txn) -> Answer {
-    if !desk.may_commit(txn) {
-        return Answer::Not;
-    }
-    of_done(desk.commit(txn))
+    Ok(of_done(calls::write(desk, txn, key, &Some(value))?))
 }
 
 fn abort(desk: &mut Desk, txn: &Txn) -> Answer {
-    if !desk.may_abort(txn) {
-        return Answer::Not;
+    match calls::abort(desk, txn) {
+        Some(why) => Answer::Aborted(why),
+        None => Answer::Not,
     }
-    Answer::Aborted(desk.abort(txn))
 }
 
 fn settled(desk: &Desk, txn: &Txn) -> Answer {
-    if !desk.may_settle(txn) {
+    let Some(outcome) = calls::settled(desk, txn) else {
         return Answer::Not;
-    }
-    match desk.settled(txn) {
+    };
+    match outcome {
         None => Answer::Open,
         Some(Outcome::Committed) => Answer::Committed,
         Some(Outcome::Aborted { why }) => Answer::Aborted(why),
@@ -603,12 +621,13 @@ fn make(desk: &mut Desk, alloc: Global, call: Call) -> Result<Answer, Memory> {
     let _told: Option<Value> = None;
     Ok(match call {
         Call::Anew(begun) => anew(desk, alloc, begun)?,
+        Call::Shared(left) => shared(desk, alloc, left)?,
         Call::Begin(client) => begin(desk, client)?,
-        Call::Get(n, key) => get(desk, &txn(n), key)?,
-        Call::Poll(n) => poll(desk, &txn(n)),
+        Call::Get(n, key) => of_got(calls::get(desk, &txn(n), key)?),
+        Call::Poll(n) => of_got(calls::poll(desk, &txn(n))),
         Call::Put(n, key) => put(desk, &txn(n), key)?,
-        Call::Del(n, key) => del(desk, &txn(n), key)?,
-        Call::Commit(n) => commit(desk, &txn(n)),
+        Call::Del(n, key) => of_done(calls::write(desk, &txn(n), key, &None)?),
+        Call::Commit(n) => of_done(calls::commit(desk, &txn(n))),
         Call::Abort(n) => abort(desk, &txn(n)),
         Call::Settled(n) => settled(desk, &txn(n)),
         Call::SignOff(n) => sign_off(desk, n),

@@ -1,0 +1,172 @@
+//! One client's calls beside two different sets of others' calls: its shares refuse the same ones.
+
+use super::calls;
+use super::drawn::{SETUPS, call, key_of};
+use super::pair::{Pair, Random, Setup, begin, get, open_both, poll, round, write};
+use super::plain::{note, past};
+use crate::{Desk, Txn};
+use ob_base::{Key, Value};
+use ob_serial::{Outcome, Why};
+use std::alloc::Global;
+use std::process::Abort;
+
+// What the client of whom it is asked does: a get of a key, or a put.
+#[derive(Clone, Copy)]
+struct Access {
+    key: Key,
+    puts: bool,
+}
+
+fn accesses(rt: &impl Abort, alloc: Global, random: &mut Random, setup: &Setup) -> Vec<Access> {
+    let mut list = Vec::new(alloc);
+    for _ in 0..10 {
+        let access = Access {
+            key: key_of(random, setup),
+            puts: random.below(2) == 0,
+        };
+        list.push(access).expect(rt, "memory");
+    }
+    list
+}
+
+// Which of these are refused, where the client's own names decide.
+fn wanted(rt: &impl Abort, alloc: Global, setup: &Setup, own: &[Access]) -> Vec<bool> {
+    let mut read = Vec::new(alloc);
+    let mut changed = Vec::new(alloc);
+    let mut list = Vec::new(alloc);
+    for access in own {
+        let (share, names) = if access.puts {
+            (setup.shares.writes, &mut changed)
+        } else {
+            (setup.shares.reads, &mut read)
+        };
+        let refused = past(share, names, 1, access.key).is_some();
+        if !refused {
+            note(rt, names, 1, access.key);
+        }
+        list.push(refused).expect(rt, "memory");
+    }
+    list
+}
+
+// The first client's transaction: its last one, where that isn't aborted, once its get is answered,
+// else one that begins now. None where an answer isn't the plain desk's.
+fn ready(rt: &impl Abort, pair: &mut Pair) -> Option<Txn> {
+    for _ in 0..9 {
+        let Some(txn) = pair.plain.last(1) else {
+            if !begin(rt, pair, 1) {
+                return None;
+            }
+            continue;
+        };
+        let alike = if pair.plain.outcome(&txn).is_some() {
+            begin(rt, pair, 1)
+        } else if pair.plain.waits_for(&txn).is_some() {
+            round(rt, pair) && poll(rt, pair, &txn)
+        } else {
+            return Some(txn);
+        };
+        if !alike {
+            return None;
+        }
+    }
+    None
+}
+
+// Some calls of others, and batches: whether they are answered alike.
+fn others(rt: &impl Abort, pair: &mut Pair, setup: &Setup) -> bool {
+    for _ in 0..pair.random.below(6) {
+        let client = (pair.random.below(7) as u32).saturating_add(2);
+        let alike = if pair.random.below(9) == 0 {
+            round(rt, pair)
+        } else {
+            call(rt, pair, setup, client)
+        };
+        if !alike {
+            return false;
+        }
+    }
+    true
+}
+
+// Whether the transaction was aborted by a share.
+fn is_refused(desk: &Desk, txn: &Txn) -> bool {
+    match calls::settled(desk, txn) {
+        Some(Some(Outcome::Aborted { why })) => {
+            matches!(why, Why::ShareReads { .. } | Why::ShareWrites { .. })
+        }
+        _ => false,
+    }
+}
+
+// Makes the access, behind some calls of others: whether a share refuses it. None where an answer
+// isn't the plain desk's.
+fn make_access(rt: &impl Abort, pair: &mut Pair, setup: &Setup, access: &Access) -> Option<bool> {
+    if !others(rt, pair, setup) {
+        return None;
+    }
+    let txn = ready(rt, pair)?;
+    let alike = if access.puts {
+        write(rt, pair, &txn, access.key, &Value::new(b"v"))
+    } else {
+        get(rt, pair, &txn, access.key)
+    };
+    if !alike {
+        return None;
+    }
+    Some(is_refused(&pair.desk, &txn))
+}
+
+// Which of these calls of the first client are refused by a share, beside others' calls that the
+// numbers draw.
+fn refused(
+    rt: &impl Abort,
+    alloc: Global,
+    setup: &Setup,
+    own: &[Access],
+    random: Random,
+) -> Vec<bool> {
+    let mut random = random;
+    let left = random.below(u64::from(setup.batches) + 1) as u32;
+    let mut beside = open_both(rt, alloc, setup, left, random, [0; 8]);
+    let mut list = Vec::new(alloc);
+    for one in own {
+        if let Some(refused) = make_access(rt, &mut beside, setup, one) {
+            list.push(refused).expect(rt, "memory");
+        }
+    }
+    list
+}
+
+fn another(random: &mut Random) -> Random {
+    Random {
+        state: random.below(1 << 31),
+    }
+}
+
+fn count(list: &[bool]) -> u64 {
+    let mut many: u64 = 0;
+    for is_so in list {
+        many = many.saturating_add(u64::from(*is_so));
+    }
+    many
+}
+
+#[test]
+fn shares_refuse_the_same_calls_beside_other_calls_of_others(rt: HostRuntime) {
+    let alloc = rt.alloc();
+    let mut random = Random { state: 2 };
+    let mut many: u64 = 0;
+    for _ in 0..400 {
+        for setup in SETUPS {
+            let own = accesses(&rt, alloc, &mut random, setup);
+            let wanted = wanted(&rt, alloc, setup, &own);
+            let one = refused(&rt, alloc, setup, &own, another(&mut random));
+            let other = refused(&rt, alloc, setup, &own, another(&mut random));
+            assert!(rt; one.as_slice() == other.as_slice());
+            assert!(rt; one.as_slice() == wanted.as_slice());
+            many = many.saturating_add(count(&wanted));
+        }
+    }
+    assert!(rt; many >= 1000);
+}
