@@ -35,7 +35,9 @@ const ADDS: &str = "\
     run S K --turns --reads 1 --writes 1 < client 1/begin/add 0 1/put 0 x/get 0/commit/\
     client 2/begin/add 1 1/add 2 1/commit -> \
     0 epoch 1/txn 1 client 1 committed/get 0 absent/put 0 1/put 0 x/get 0 = x/\
-    txn 2 client 2 aborted share reads 1/get 1 absent/put 1 1/";
+    txn 2 client 2 aborted share reads 1/get 1 absent/put 1 1/\n\
+    run S K --turns --writes 1 < client 1/begin/add 3 1/put 4 x/commit -> \
+    0 epoch 2/txn 1 client 1 aborted share writes 1/get 3 absent/put 3 1/";
 
 // A share of reads bounds no batches, of which gets that come one after another take one each.
 const BATCHES: &str = "\
