@@ -4,11 +4,10 @@ ghost use Rattle.std.specs.Prelude.{◌≡◌, ◌<◌, ◌≤◌, ◌+◌, ◌^
 ghost use Rattle.ob_runner.specs.RunnerViews.{client_of, bound_of, MayHaveMade};
 ghost use Rattle.ob_serve_tests.specs.Pairs.{IsNewPair};
 
-use crate::runs::{NEVER, run_scripts};
+use crate::runs::{NEVER, run_scripts, runner_of};
 use ob_base::{Fault, Key, Value, Write};
 use ob_desk::Desk;
 use ob_runner::ScriptRunner;
-use ob_script::parse;
 use ob_serial::{EndErr, Vault};
 use ob_session::{Made, Runner, Step};
 use ob_store::Watch;
@@ -158,12 +157,7 @@ pub fn at_gate<'g>(
     ensures { IsNewPair (λ r. client_of r.runner) (λ r. bound_of r.runner)
         (λ r said. MayHaveMade r.runner said) number result }
 {
-    let Ok(scripts) = parse(alloc, script, 8) else {
-        panic!(rt; "no script")
-    };
-    let Ok(runner) = ScriptRunner::new(alloc, &scripts, number) else {
-        panic!(rt; "no memory")
-    };
+    let runner = runner_of(rt, alloc, script, number);
     Opens {
         runner,
         gate,
@@ -178,8 +172,10 @@ const SCRIPT: &[u8] = b"client 1\nbegin\nget 5\ncommit\nclient 2\nbegin\nget 6\n
 fn a_client_runs_while_a_batch_is_read(rt: HostRuntime) {
     let gate = Gate::new(false);
     let ended = run_scripts(&rt, rt.alloc(), SCRIPT, NEVER, &gate, 1000);
-    assert!(rt; ended.is_ok());
-    assert!(rt; gate.reached.load(SeqCst));
-    assert!(rt; gate.open.load(SeqCst));
-    assert!(rt; !gate.ran_out.load(SeqCst));
+    assert!(rt;
+        ended.is_ok()
+            && gate.reached.load(SeqCst)
+            && gate.open.load(SeqCst)
+            && !gate.ran_out.load(SeqCst)
+    );
 }

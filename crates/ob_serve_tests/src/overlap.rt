@@ -11,16 +11,16 @@ ghost use Rattle.ob_serve_tests.specs.declared.first.First.TheVariants as firsts
 
 use crate::first::First;
 use crate::ring::{new_store, new_tape, open_ring};
-use crate::runs::{NEVER, both, run_over};
+use crate::runs::{NEVER, both, new_output, run_over, runner_of};
 use crate::sessions::TURNS;
-use ob_base::{Fault, Key};
+use ob_base::{Fault, Key, Params};
 use ob_conduct::RunErr;
 use ob_desk::{Begun, Desk, Done, Txn};
 use ob_lanes::Lanes;
 use ob_mem::{Fail, HoldStore, MemSink};
 use ob_runner::ScriptRunner;
-use ob_script::parse;
-use ob_serial::{Outcome, Why};
+use ob_seal::ListTape;
+use ob_serial::{Outcome, Vault, Why};
 use ob_session::{Made, Runner, Said, Step};
 use std::alloc::Global;
 use std::process::Abort;
@@ -223,12 +223,7 @@ fn client<'h>(
         (λ r said. MayHaveMade r.runner said × HasComeTo r.first (client_of r.runner) said) number
         result }
 {
-    let Ok(scripts) = parse(alloc, script, 8) else {
-        panic!(rt; "no script")
-    };
-    let Ok(runner) = ScriptRunner::new(alloc, &scripts, number) else {
-        panic!(rt; "no memory")
-    };
+    let runner = runner_of(rt, alloc, script, number);
     Overlapping {
         runner,
         hold,
@@ -397,30 +392,6 @@ fn tells(written: &[u8], row: &Row) -> bool {
     has(first, row.lines[0]) && has(second, row.lines[1])
 }
 
-// What the next run over a store writes: each client reads one key.
-fn read_again<R: Threads + Wait + Sync + Abort, S: Lanes>(
-    rt: &R,
-    alloc: Global,
-    store: &mut S,
-    output: &mut MemSink,
-) -> Result<(), RunErr>
-    requires { (S.disk store.old).out ≡ 0 }
-{
-    let hold = Hold::new();
-    let mut tape = new_tape(rt, alloc);
-    let mut vault = open_ring(rt, alloc, store, &mut tape);
-    let params = vault.params();
-    let mut readers = clients(rt, alloc, READS, &hold, false);
-    run_over(rt, alloc, &params, &mut vault, &mut readers, output, false)
-}
-
-fn new_output(rt: &impl Abort, alloc: Global, room: usize) -> MemSink {
-    let Ok(output) = MemSink::new(alloc, room, Vec::new(alloc)) else {
-        panic!(rt; "no memory")
-    };
-    output
-}
-
 fn is_one_of(written: &[u8], all: &[&[u8]]) -> bool {
     for one in all {
         if *one == written {
@@ -430,30 +401,107 @@ fn is_one_of(written: &[u8], all: &[&[u8]]) -> bool {
     false
 }
 
-// Plays a row.
-fn play<R: Threads + Wait + Sync + Abort>(rt: &R, alloc: Global, i: usize, row: &Row) {
-    let mut output = new_output(rt, alloc, row.room);
+// A run of both clients.
+#[derive(Clone, Copy)]
+enum Run {
+    // In threads, over a store that holds its first end: the room of its output, and whether the
+    // second client stops the desk meanwhile.
+    Held { room: usize, stops: bool },
+    // The next one, by hand, in which each client reads one key.
+    Next,
+}
+
+// Its script, the room of its output, whether the second client stops the desk, and whether the
+// clients run in threads.
+fn setting_of(run: Run) -> (&'static [u8], usize, bool, bool) {
+    match run {
+        Run::Held { room, stops } => (SCRIPT, room, stops, true),
+        Run::Next => (READS, 1000, false, false),
+    }
+}
+
+// How a run went: how it ended, whether an end was held, what each client was told, and what was
+// written.
+#[derive(Drop)]
+struct Went {
+    fault: Option<RunErr>,
+    reached: bool,
+    first: Heard,
+    second: Heard,
+    output: MemSink,
+}
+
+// Runs both clients over a vault.
+fn run_pair<R: Threads + Wait + Sync + Abort, V: Vault>(
+    rt: &R,
+    alloc: Global,
+    params: &Params,
+    vault: &mut V,
+    hold: &Hold,
+    run: Run,
+) -> Went
+    requires { V.params vault.old ≡ params.now }
+{
+    let (script, room, stops, threads) = setting_of(run);
+    let mut output = new_output(rt, alloc, room);
+    let mut pair = clients(rt, alloc, script, hold, stops);
+    let ended = run_over(rt, alloc, params, vault, &mut pair, &mut output, threads);
+    Went {
+        fault: ended.err(),
+        reached: hold.reached.load(SeqCst),
+        first: heard_at(&pair, 0),
+        second: heard_at(&pair, 1),
+        output,
+    }
+}
+
+// Runs both clients over a vault that is opened at a store.
+fn run_ring<'a, R: Threads + Wait + Sync + Abort, S: Lanes>(
+    rt: &R,
+    alloc: Global,
+    store: &'a mut S,
+    tape: &'a mut ListTape,
+    hold: &Hold,
+    run: Run,
+) -> (Went, &'a mut S)
+    requires none_out { (S.disk store.old).out ≡ 0 }
+    requires unstarted { tape.old.generation ≡ 0 }
+    ensures { (S.disk result.1.now).out ≡ 0 }
+{
+    let mut vault = open_ring(rt, alloc, store, tape);
+    let params = vault.params();
+    let went = run_pair(rt, alloc, &params, &mut vault, hold, run);
+    let (store, _) = vault.into_lent();
+    (went, store)
+}
+
+// Whether the run over a store that holds its first end went as the row says.
+fn went_so(went: &Went, row: &Row) -> bool {
+    went.fault == row.fault
+        && went.reached
+        && went.first.outcome == Some(row.first)
+        && went.first.refused.is_none()
+        && went.second.outcome == row.second
+        && went.second.refused == row.refused
+        && tells(went.output.written(), row)
+}
+
+// Whether the next run went well, and wrote what the row says.
+fn went_on(went: &Went, row: &Row) -> bool {
+    went.fault.is_none() && is_one_of(went.output.written(), row.next)
+}
+
+// Whether a row goes as it says.
+fn plays_so<R: Threads + Wait + Sync + Abort>(rt: &R, alloc: Global, row: &Row) -> bool {
     let hold = Hold::new();
     let store = new_store(rt, alloc, row.fail);
     let mut held = HoldStore::new(store, CELL, TURNS, &hold.reached, &hold.release);
-    let mut tape = new_tape(rt, alloc);
-    let mut vault = open_ring(rt, alloc, &mut held, &mut tape);
-    let params = vault.params();
-    let mut pair = clients(rt, alloc, SCRIPT, &hold, row.stops);
-    let ended = run_over(rt, alloc, &params, &mut vault, &mut pair, &mut output, true);
-    assert!(rt; ended.err() == row.fault, "row {i}");
-    assert!(rt; hold.reached.load(SeqCst), "row {i}");
-    let (first, second) = (heard_at(&pair, 0), heard_at(&pair, 1));
-    assert!(rt; first.outcome == Some(row.first), "row {i}");
-    assert!(rt; first.refused.is_none(), "row {i}");
-    assert!(rt; second.outcome == row.second, "row {i}");
-    assert!(rt; second.refused == row.refused, "row {i}");
-    assert!(rt; tells(output.written(), row), "row {i}");
-    let mut next = new_output(rt, alloc, 1000);
-    let (store, _) = vault.into_lent();
-    let again = read_again(rt, alloc, store, &mut next);
-    assert!(rt; again.is_ok(), "row {i}");
-    assert!(rt; is_one_of(next.written(), row.next), "row {i}");
+    let (room, stops) = (row.room, row.stops);
+    let run = Run::Held { room, stops };
+    let (mut tape, mut other) = (new_tape(rt, alloc), new_tape(rt, alloc));
+    let (first, store) = run_ring(rt, alloc, &mut held, &mut tape, &hold, run);
+    let (next, _) = run_ring(rt, alloc, store, &mut other, &hold, Run::Next);
+    went_so(&first, row) && went_on(&next, row)
 }
 
 // Were the turn kept through the end, the second client could go on only behind it: the store would
@@ -461,6 +509,6 @@ fn play<R: Threads + Wait + Sync + Abort>(rt: &R, alloc: Global, i: usize, row: 
 #[test]
 fn a_client_goes_on_beside_an_end_that_is_held(rt: HostRuntime) {
     for (i, row) in ROWS.iter().enumerate() {
-        play(&rt, rt.alloc(), i, row);
+        assert!(&rt; plays_so(&rt, rt.alloc(), row), "row {i}");
     }
 }

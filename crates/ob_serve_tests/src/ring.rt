@@ -3,7 +3,7 @@
 ghost use Rattle.std.specs.Prelude.{◌≡◌};
 ghost use Rattle.ob_mem.specs.Memory.{disk_of_store};
 
-use crate::runs::test_keys;
+use crate::runs::{blank, test_keys};
 use ob_base::{Params, ring_cells};
 use ob_lanes::Lanes;
 use ob_mem::{Fail, MemStore};
@@ -32,10 +32,7 @@ pub fn new_store<R: Threads + Sync + Abort>(rt: &R, alloc: Global, fail: Fail) -
     ensures { (disk_of_store result).out ≡ 0 }
 {
     let p = small(rt);
-    let mut fails = Vec::new(alloc);
-    assert!(rt; fails.push(fail).is_ok());
-    let cells = ring_cells(&p) as usize;
-    let mut store = MemStore::new(alloc, cells, fails).expect(rt, "memory");
+    let mut store = blank(rt, alloc, ring_cells(&p) as usize, fail);
     let mut tape = new_tape(rt, alloc);
     let keys = test_keys();
     assert!(rt; format(rt, alloc, &mut store, &mut tape, &keys, &p, &mut Blind).is_ok());

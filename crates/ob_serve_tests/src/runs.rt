@@ -5,6 +5,7 @@ ghost use Rattle.ob_mem.specs.Memory.{disk_of_store};
 ghost use Rattle.ob_desk.specs.Desk.{new_desk, setup_of};
 ghost use Rattle.ob_driver.specs.Testing.{two_clients};
 ghost use Rattle.ob_run.specs.Ends.{IsQuiet};
+ghost use Rattle.ob_runner.specs.RunnerViews.{client_of, bound_of, MayHaveMade};
 ghost use Rattle.ob_serve_tests.specs.Pairs.{IsNewPair, AreTwo, CanOpen};
 
 use crate::gate::{Gate, Gated, at_gate};
@@ -14,6 +15,8 @@ use ob_desk::{Desk, Eager};
 use ob_flat::{FlatVault, format, head, prepare};
 use ob_mem::{Fail, MemSink, MemStore};
 use ob_run::run;
+use ob_runner::ScriptRunner;
+use ob_script::parse;
 use ob_seal::Keys;
 use ob_serial::Vault;
 use ob_session::Runner;
@@ -32,19 +35,47 @@ pub fn test_keys() -> Keys {
 /// A write that no run of the tests comes to.
 pub const NEVER: Fail = Fail::Write(1000);
 
+/// So many cells of zeros, of which this call fails.
+pub fn blank(rt: &impl Abort, alloc: Global, cells: usize, fail: Fail) -> MemStore
+    ensures { (disk_of_store result).out ≡ 0 }
+{
+    let fails = [fail].to_vec(alloc).expect(rt, "memory");
+    MemStore::new(alloc, cells, fails).expect(rt, "memory")
+}
+
 /// A store of eight keys, two batches of two places, two writes, of which this call fails.
 pub fn formatted(rt: &impl Abort, alloc: Global, fail: Fail) -> MemStore
     ensures { (disk_of_store result).out ≡ 0 }
 {
     let params = Params::new(8, 2, 2, 3, 2, 2, 2, 2, 8).expect(rt, "parameters in range");
-    let mut fails = Vec::new(alloc);
-    assert!(rt; fails.push(fail).is_ok());
-    let mut store = MemStore::new(alloc, 25, fails).expect(rt, "memory");
+    let mut store = blank(rt, alloc, 25, fail);
     assert!(rt; format(&mut store, &test_keys(), &params, &mut Blind).is_ok());
     store
 }
 
+/// An output that takes so many bytes.
+pub fn new_output(rt: &impl Abort, alloc: Global, room: usize) -> MemSink {
+    let Ok(output) = MemSink::new(alloc, room, Vec::new(alloc)) else {
+        panic!(rt; "no memory")
+    };
+    output
+}
+
 // ---- two clients
+
+/// The runner of a client's part of a script.
+pub fn runner_of(rt: &impl Abort, alloc: Global, script: &[u8], number: u32) -> ScriptRunner
+    ensures { IsNewPair (λ r. client_of r) (λ r. bound_of r) (λ r said. MayHaveMade r said) number
+        result }
+{
+    let Ok(scripts) = parse(alloc, script, 8) else {
+        panic!(rt; "no script")
+    };
+    let Ok(runner) = ScriptRunner::new(alloc, &scripts, number) else {
+        panic!(rt; "no memory")
+    };
+    runner
+}
 
 /// Both runners.
 pub fn both<U: Runner>(rt: &impl Abort, alloc: Global, first: U, second: U) -> Vec<U>
@@ -156,9 +187,7 @@ pub fn run_scripts<R: Threads + Wait + Sync + Abort>(
     gate: &Gate,
     room: usize,
 ) -> Result<(), RunErr> {
-    let Ok(mut output) = MemSink::new(alloc, room, Vec::new(alloc)) else {
-        panic!(rt; "no memory")
-    };
+    let mut output = new_output(rt, alloc, room);
     let first = at_gate(rt, alloc, script, 1, gate, false);
     let second = at_gate(rt, alloc, script, 2, gate, true);
     let mut runners = both(rt, alloc, first, second);

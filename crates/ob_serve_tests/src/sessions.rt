@@ -8,7 +8,7 @@ ghost use Rattle.ob_driver.specs.Drives.{IsFirstPass};
 ghost use Rattle.ob_serve_tests.specs.Pairs.{IsSession};
 ghost use denote.Param.Send.{IsSync};
 
-use crate::runs::{NEVER, desk_at, formatted, open};
+use crate::runs::{NEVER, desk_at, formatted, new_output, open};
 use crate::starved::Starved;
 use ob_base::{Key, Params, Value};
 use ob_calls::Refused;
@@ -18,7 +18,7 @@ use ob_hall::{Hall, Pass};
 use ob_mem::{HoldStore, MemSink};
 use ob_run::serve;
 use ob_serial::{Outcome, Vault, Why};
-use ob_store::Blind;
+use ob_store::{Blind, Store};
 use ob_threads::Client;
 use std::alloc::Global;
 use std::process::Abort;
@@ -372,16 +372,17 @@ fn run_beside<R: Threads + Wait + Sync, V: Vault>(
     result
 }
 
-// Two sessions over a new store.
-fn run_sessions<R: Threads + Wait + Sync + Abort>(
+// Two sessions over a store.
+fn run_sessions<R: Threads + Wait + Sync + Abort, S: Store>(
     rt: &R,
     alloc: Global,
+    store: &mut S,
     clock: &Clock,
     output: &mut MemSink,
-) -> Result<(), RunErr> {
-    let store = formatted(rt, alloc, NEVER);
-    let mut held = HoldStore::new(store, REGISTER, TURNS, &clock.reached, &clock.release);
-    let mut vault = open(rt, alloc, &mut held);
+) -> Result<(), RunErr>
+    requires { (S.disk store.old).out ≡ 0 }
+{
+    let mut vault = open(rt, alloc, store);
     let params = vault.params();
     let mut opened = open_hall(rt, alloc, &params, &vault);
     run_beside(
@@ -397,18 +398,29 @@ fn run_sessions<R: Threads + Wait + Sync + Abort>(
     )
 }
 
+// Whether two sessions over a new store end well, with so many calls answered as wanted, and with
+// these lines.
+fn end_so<R: Threads + Wait + Sync + Abort>(
+    rt: &R,
+    alloc: Global,
+    clock: &Clock,
+    right: u64,
+    lines: &[u8],
+) -> bool {
+    let mut output = new_output(rt, alloc, 1000);
+    let store = formatted(rt, alloc, NEVER);
+    let mut held = HoldStore::new(store, REGISTER, TURNS, &clock.reached, &clock.release);
+    let ended = run_sessions(rt, alloc, &mut held, clock, &mut output);
+    ended.is_ok() && clock.right.load(SeqCst) == right && output.written() == lines
+}
+
 const LINES: &[u8] =
     b"epoch 1\ntxn 1 client 1 aborted conflict key 5 reader 2\nget 7 absent\ntxn 2 client 2 committed\nget 5 absent\ndel 6\n";
 
 #[test]
 fn two_sessions_are_served(rt: HostRuntime) {
-    let alloc = rt.alloc();
-    let mut output = MemSink::new(alloc, 1000, Vec::new(alloc)).expect(&rt, "memory");
     let clock = Clock::new(false);
-    let ended = run_sessions(&rt, alloc, &clock, &mut output);
-    assert!(rt; ended.is_ok());
-    assert!(rt; clock.right.load(SeqCst) == 9);
-    assert!(rt; output.written() == LINES);
+    assert!(rt; end_so(&rt, rt.alloc(), &clock, 9, LINES));
 }
 
 const TWO_EPOCHS: &[u8] =
@@ -418,12 +430,6 @@ const TWO_EPOCHS: &[u8] =
 // would wait for it in vain, and fail.
 #[test]
 fn a_client_goes_on_while_an_epoch_is_ended(rt: HostRuntime) {
-    let alloc = rt.alloc();
-    let mut output = MemSink::new(alloc, 1000, Vec::new(alloc)).expect(&rt, "memory");
     let clock = Clock::new(true);
-    let ended = run_sessions(&rt, alloc, &clock, &mut output);
-    assert!(rt; ended.is_ok());
-    assert!(rt; clock.reached.load(SeqCst));
-    assert!(rt; clock.right.load(SeqCst) == 8);
-    assert!(rt; output.written() == TWO_EPOCHS);
+    assert!(&rt; end_so(&rt, rt.alloc(), &clock, 8, TWO_EPOCHS) && clock.reached.load(SeqCst));
 }

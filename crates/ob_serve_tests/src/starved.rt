@@ -10,11 +10,10 @@ ghost use Rattle.ob_run.specs.Ends.{QuietRule};
 ghost use Rattle.ob_serve_tests.specs.Pairs.{AreTwo};
 
 use crate::gate::Gate;
-use crate::runs::{NEVER, both, run_two};
+use crate::runs::{NEVER, both, new_output, run_two};
 use ob_base::Fault;
 use ob_conduct::RunErr;
 use ob_desk::Desk;
-use ob_mem::MemSink;
 use ob_session::{Made, Runner, Said, Step};
 use std::alloc::Global;
 use std::process::Abort;
@@ -93,9 +92,7 @@ pub fn ends<R: Threads + Wait + Sync + Abort>(
     alloc: Global,
     threads: bool,
 ) -> (Option<RunErr>, bool, bool) {
-    let Ok(mut output) = MemSink::new(alloc, 1000, Vec::new(alloc)) else {
-        panic!(rt; "no memory")
-    };
+    let mut output = new_output(rt, alloc, 1000);
     let mut runners = starving(rt, alloc);
     let gate = Gate::new(true);
     let ended = run_two(rt, alloc, NEVER, &gate, &mut runners, &mut output, threads);
@@ -108,6 +105,7 @@ pub fn ends<R: Threads + Wait + Sync + Abort>(
 #[test]
 fn want_of_memory_is_told_and_the_others_sign_off(rt: HostRuntime) {
     let fault = Some(RunErr::Fault(Fault::Memory));
-    assert!(&rt; ends(&rt, rt.alloc(), true) == (fault, true, true));
-    assert!(&rt; ends(&rt, rt.alloc(), false) == (fault, false, true));
+    let by_threads = ends(&rt, rt.alloc(), true);
+    let by_hand = ends(&rt, rt.alloc(), false);
+    assert!(&rt; by_threads == (fault, true, true) && by_hand == (fault, false, true));
 }
