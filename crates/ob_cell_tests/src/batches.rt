@@ -2,9 +2,9 @@
 
 ghost use Rattle.std.specs.Prelude.{◌≡◌, ◌≤◌};
 
-use crate::shared::{STORE_FAULT, is_damage, new_store, params, spelled, test_sealer};
+use crate::shared::{STORE_FAULT, crew_of, is_damage, new_store, params, run, spelled};
 use ob_base::{Check, Fault, Job, Jobs};
-use ob_cells::{Crew, JobsErr, run_jobs};
+use ob_cells::{Crew, JobsErr};
 use ob_mem::{Fail, MemLane, MemStore};
 use ob_store::Store;
 use std::alloc::Global;
@@ -171,25 +171,53 @@ const BATCHES: &[Batch] = &[
     Batch(&[READ_46], 56, 2, 18, Told::NotRead, 6),
 ];
 
-// A crew of so many lanes, with room for 18 jobs.
-fn crew_of(rt: &impl Abort, alloc: Global, lanes: usize) -> Crew<MemLane>
-    requires { (1 ≤ lanes) × (lanes ≤ 16) }
-    ensures { result.lanes ≡ lanes }
-{
-    let crew = Crew::new(alloc, lanes, 18).expect(rt, "memory");
-    assert!(rt; crew.lanes() == lanes);
-    crew
+// How a batch went: its answer, how many jobs it has, whether each has the plain bytes of an empty
+// slot, or none has any, and how often the store had failed by then.
+#[derive(Clone, Copy)]
+struct Went {
+    answer: Answer,
+    many: usize,
+    read: bool,
+    unread: bool,
+    faults: u64,
 }
 
-// What jobs answer that a crew reads.
-fn run<R: Abort + Threads + Sync>(
+// How a crew reads the jobs.
+fn read_once<R: Abort + Threads + Sync>(
     rt: &R,
     store: &mut MemStore,
     crew: &mut Crew<MemLane>,
     jobs: &mut Jobs,
-) -> Answer {
-    assert!(rt; jobs.jobs().len() <= crew.jobs());
-    run_jobs(rt, store, crew, &test_sealer(1), jobs)
+) -> Went {
+    let answer = run(rt, store, crew, jobs);
+    Went {
+        answer,
+        many: jobs.jobs().len(),
+        read: are_read(jobs.jobs(), true),
+        unread: are_read(jobs.jobs(), false),
+        faults: store.faults(),
+    }
+}
+
+// How a crew of so many lanes reads jobs over a store where these calls fail and a bit of this cell
+// is another, and how the same crew reads them again. The first job's number, and how many there
+// are.
+fn read_twice<R: Abort + Threads + Sync>(
+    rt: &R,
+    alloc: Global,
+    lanes: usize,
+    fails: &[Fail],
+    broken: u64,
+    asked: (u64, usize),
+) -> (Went, Went)
+    requires { (1 ≤ lanes) × (lanes ≤ 16) }
+{
+    let mut store = store_of(rt, alloc, fails, broken);
+    let mut jobs = jobs_of(rt, alloc, asked.0, asked.1);
+    let mut crew = crew_of(rt, alloc, lanes);
+    let first = read_once(rt, &mut store, &mut crew, &mut jobs);
+    let second = read_once(rt, &mut store, &mut crew, &mut jobs);
+    (first, second)
 }
 
 // Whether a batch answers so that is read by so many lanes, and leaves results where it is done.
@@ -197,23 +225,21 @@ fn ends_so<R: Abort + Threads + Sync>(rt: &R, alloc: Global, lanes: usize, batch
     requires { (1 ≤ lanes) × (lanes ≤ 16) }
 {
     let Batch(fails, broken, number, many, told, faults) = batch;
-    let mut store = store_of(rt, alloc, fails, *broken);
-    let mut jobs = jobs_of(rt, alloc, *number, *many);
-    let mut crew = crew_of(rt, alloc, lanes);
-    is_told(told, run(rt, &mut store, &mut crew, &mut jobs))
-        && are_read(jobs.jobs(), matches!(told, Told::Done))
-        && jobs.jobs().len() == *many
-        && store.faults() == *faults
+    let (went, _) = read_twice(rt, alloc, lanes, fails, *broken, (*number, *many));
+    let is_done = matches!(told, Told::Done);
+    is_told(told, went.answer)
+        && (went.read || !is_done)
+        && (went.unread || is_done)
+        && went.many == *many
+        && went.faults == *faults
 }
 
 #[test]
 fn batches_are_read_or_the_first_failing_job_is_told(rt: HostRuntime) {
-    for i in 0..BATCHES.len() {
+    for (i, batch) in BATCHES.iter().enumerate() {
         for lanes in 1..17 {
-            assert!(rt;
-                ends_so(&rt, rt.alloc(), lanes, &BATCHES[i]),
-                "batch {i} by {lanes}"
-            );
+            let is_so = ends_so(&rt, rt.alloc(), lanes, batch);
+            assert!(&rt; is_so, "batch {i} by {lanes}");
         }
     }
 }
@@ -222,14 +248,12 @@ fn batches_are_read_or_the_first_failing_job_is_told(rt: HostRuntime) {
 // of its 16 jobs ten fail.
 fn goes_on<R: Abort + Threads + Sync>(rt: &R, alloc: Global, refused: u64) -> bool {
     let fails = [Fail::Lane(refused), READ_46, READ_56];
-    let mut store = store_of(rt, alloc, &fails, 0);
-    let mut crew = crew_of(rt, alloc, 16);
-    let mut jobs = jobs_of(rt, alloc, 2, 16);
-    is_told(&Told::NotBegun, run(rt, &mut store, &mut crew, &mut jobs))
-        && store.faults() == 1
-        && is_told(&Told::NotRead, run(rt, &mut store, &mut crew, &mut jobs))
-        && store.faults() == 11
-        && are_read(jobs.jobs(), false)
+    let (first, second) = read_twice(rt, alloc, 16, &fails, 0, (2, 16));
+    is_told(&Told::NotBegun, first.answer)
+        && first.faults == 1
+        && is_told(&Told::NotRead, second.answer)
+        && second.faults == 11
+        && second.unread
 }
 
 #[test]
@@ -242,6 +266,6 @@ fn a_batch_is_not_begun_where_a_lane_is_refused(rt: HostRuntime) {
 #[test]
 fn a_refusal_leads_to_its_fault(rt: HostRuntime) {
     let refused = JobsErr::NotBegun(STORE_FAULT);
-    assert!(rt; Fault::from(refused) == STORE_FAULT);
-    assert!(rt; Fault::from(JobsErr::Job(Fault::Memory)) == Fault::Memory);
+    let wanting = JobsErr::Job(Fault::Memory);
+    assert!(rt; Fault::from(refused) == STORE_FAULT && Fault::from(wanting) == Fault::Memory);
 }

@@ -3,16 +3,16 @@
 ghost use Rattle.std.specs.Prelude.{◌≡◌, ◌≤◌, ◌<◌};
 
 use crate::late::{LateLane, LateStore};
-use crate::shared::{STORE_FAULT, is_damage, new_store, params, test_sealer};
+use crate::shared::{STORE_FAULT, crew_of, is_damage, new_store, params, run, test_sealer};
 use ob_base::{Check, Fault, Job, Jobs};
-use ob_cells::{Crew, JobsErr, run_jobs};
+use ob_cells::{Crew, JobsErr};
 use ob_mem::Fail;
 use ob_store::Store;
 use std::alloc::Global;
 use std::process::Abort;
 use std::thread::Threads;
 
-// A batch has a job for each of the store's sealed cells.
+// A batch has a job for each of the store's sealed cells, as many as a crew has room for.
 const JOBS: u64 = 18;
 
 // A cell that no job reads.
@@ -91,34 +91,6 @@ fn are_unread(jobs: &[Job]) -> bool {
     jobs.iter().all(|job| job.result.is_none())
 }
 
-// A crew of so many lanes, with room for all jobs.
-fn crew_of(rt: &impl Abort, alloc: Global, lanes: usize) -> Crew<LateLane>
-    requires { (1 ≤ lanes) × (lanes ≤ 16) }
-{
-    Crew::new(alloc, lanes, JOBS as usize).expect(rt, "memory")
-}
-
-// What the jobs answer that a crew reads.
-fn run<R: Abort + Threads + Sync>(
-    rt: &R,
-    store: &mut LateStore,
-    crew: &mut Crew<LateLane>,
-    jobs: &mut Jobs,
-) -> Result<(), JobsErr>
-    ensures { store.new.store.log.out ≤ store.old.store.log.out }
-{
-    assert!(rt; jobs.jobs().len() <= crew.jobs());
-    run_jobs(rt, store, crew, &test_sealer(1), jobs)
-}
-
-// Whether a batch was refused for a read.
-fn is_unread(answer: Result<(), JobsErr>) -> bool {
-    match answer {
-        Err(JobsErr::Job(fault)) => fault == STORE_FAULT,
-        _ => false,
-    }
-}
-
 // Whether a batch was refused for damage of this cell.
 fn is_damaged(answer: Result<(), JobsErr>, cell: u64) -> bool {
     match answer {
@@ -127,19 +99,66 @@ fn is_damaged(answer: Result<(), JobsErr>, cell: u64) -> bool {
     }
 }
 
+// How a batch went: its answer; whether each job has its plain bytes, or none has any; how many
+// reads were made that don't wait, and how many by the last lane that had to; and how often the
+// store had failed by then.
+#[derive(Clone, Copy)]
+struct Went {
+    answer: Result<(), JobsErr>,
+    read: bool,
+    unread: bool,
+    made: u64,
+    beside: u64,
+    faults: u64,
+}
+
+// How a crew reads the jobs.
+fn read_once<R: Abort + Threads + Sync>(
+    rt: &R,
+    store: &mut LateStore,
+    crew: &mut Crew<LateLane>,
+    jobs: &mut Jobs,
+) -> Went
+    ensures { store.new.store.log.out ≤ store.old.store.log.out }
+{
+    let answer = run(rt, store, crew, jobs);
+    Went {
+        answer,
+        read: are_read(jobs.jobs()),
+        unread: are_unread(jobs.jobs()),
+        made: store.made(),
+        beside: store.beside(),
+        faults: store.faults(),
+    }
+}
+
+// How a crew of so many lanes reads all jobs over a store with this trouble, and how the same crew
+// reads them again behind a write.
+fn read_twice<R: Abort + Threads + Sync>(
+    rt: &R,
+    alloc: Global,
+    lanes: usize,
+    trouble: &Trouble,
+) -> (Went, Went)
+    requires { (1 ≤ lanes) × (lanes ≤ 16) }
+{
+    let mut store = store_of(rt, alloc, trouble);
+    let mut crew = crew_of(rt, alloc, lanes);
+    let mut jobs = all_jobs(rt, alloc);
+    let first = read_once(rt, &mut store, &mut crew, &mut jobs);
+    assert!(rt; store.write(OTHER, &[0; 128]).is_ok());
+    let second = read_once(rt, &mut store, &mut crew, &mut jobs);
+    (first, second)
+}
+
 // Whether all jobs are read while one lane waits in the first of them, and that lane gets no other.
 fn is_held_alone<R: Abort + Threads + Sync>(rt: &R, alloc: Global, lanes: usize) -> bool
     requires { (1 ≤ lanes) × (lanes ≤ 16) }
 {
     let mut trouble = NO_TROUBLE;
     trouble.late = 0;
-    let mut store = store_of(rt, alloc, &trouble);
-    let mut crew = crew_of(rt, alloc, lanes);
-    let mut jobs = all_jobs(rt, alloc);
-    run(rt, &mut store, &mut crew, &mut jobs).is_ok()
-        && are_read(jobs.jobs())
-        && store.made() == JOBS - 1
-        && store.beside() == 1
+    let (went, _) = read_twice(rt, alloc, lanes, &trouble);
+    went.answer.is_ok() && went.read && went.made == JOBS - 1 && went.beside == 1
 }
 
 #[test]
@@ -154,17 +173,14 @@ fn a_late_read_holds_up_no_other_job(rt: HostRuntime) {
 fn goes_on<R: Abort + Threads + Sync>(rt: &R, alloc: Global, failing: u64) -> bool {
     let mut trouble = NO_TROUBLE;
     trouble.failing = failing;
-    let mut store = store_of(rt, alloc, &trouble);
-    let mut crew = crew_of(rt, alloc, 4);
-    let mut jobs = all_jobs(rt, alloc);
-    is_unread(run(rt, &mut store, &mut crew, &mut jobs))
-        && are_unread(jobs.jobs())
-        && store.made() == JOBS
-        && store.faults() == 1
-        && store.write(OTHER, &[0; 128]).is_ok()
-        && run(rt, &mut store, &mut crew, &mut jobs).is_ok()
-        && are_read(jobs.jobs())
-        && store.made() == 2 * JOBS
+    let (first, second) = read_twice(rt, alloc, 4, &trouble);
+    first.answer == Err(JobsErr::Job(STORE_FAULT))
+        && first.unread
+        && first.made == JOBS
+        && first.faults == 1
+        && second.answer.is_ok()
+        && second.read
+        && second.made == 2 * JOBS
 }
 
 #[test]
@@ -187,10 +203,8 @@ fn tells_the_earlier<R: Abort + Threads + Sync>(
     trouble.first = damaged.0;
     trouble.second = damaged.1;
     trouble.late = damaged.0;
-    let mut store = store_of(rt, alloc, &trouble);
-    let mut crew = crew_of(rt, alloc, lanes);
-    let mut jobs = all_jobs(rt, alloc);
-    is_damaged(run(rt, &mut store, &mut crew, &mut jobs), damaged.0) && are_unread(jobs.jobs())
+    let (went, _) = read_twice(rt, alloc, lanes, &trouble);
+    is_damaged(went.answer, damaged.0) && went.unread
 }
 
 // Pairs of jobs.
@@ -200,10 +214,8 @@ const PAIRS: &[(u64, u64)] = &[(0, 1), (0, 17), (5, 6), (5, 17), (16, 17)];
 fn the_first_damaged_job_is_told_though_it_is_read_last(rt: HostRuntime) {
     for i in 0..PAIRS.len() {
         for lanes in 2..17 {
-            assert!(rt;
-                tells_the_earlier(&rt, rt.alloc(), lanes, &PAIRS[i]),
-                "pair {i} by {lanes}"
-            );
+            let is_so = tells_the_earlier(&rt, rt.alloc(), lanes, &PAIRS[i]);
+            assert!(&rt; is_so, "pair {i} by {lanes}");
         }
     }
 }

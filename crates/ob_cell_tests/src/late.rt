@@ -13,8 +13,7 @@ use ob_mem::{MemLane, MemStore};
 use ob_store::Store;
 use std::sync::atomic::AtomicU64;
 use std::sync::atomic::Ordering::SeqCst;
-use std::thread;
-use std::thread::Threads;
+use std::thread::{self, Threads};
 
 // A read that waits looks so often whether the others were made.
 const TURNS: u64 = 10_000_000;

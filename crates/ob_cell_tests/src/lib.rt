@@ -10,8 +10,6 @@ mod late;
 #[cfg(test)]
 mod logs;
 #[cfg(test)]
-mod long;
-#[cfg(test)]
 mod sealed;
 #[cfg(test)]
 mod shared;

@@ -30,8 +30,8 @@ fn with_slots(rt: &impl Abort, alloc: Global, fails: &[Fail]) -> MemStore
     let bytes: [u8; 292] = empty_slots();
     let mut sealer = test_sealer(1);
     let cut = Cut { bytes: &bytes };
-    assert!(rt; write_sealed(&mut store, &mut sealer, 39, 4, &cut, &mut Blind).is_ok());
-    assert!(rt; sealer.next() == (1, 4));
+    let is_written = write_sealed(&mut store, &mut sealer, 39, 4, &cut, &mut Blind).is_ok();
+    assert!(rt; is_written && sealer.next() == (1, 4));
     store
 }
 
@@ -53,8 +53,8 @@ fn read_shown(rt: &impl Abort, alloc: Global, store: &mut MemStore) -> [[u8; 128
     let mut sink = new_sink(rt, alloc, 20);
     let mut cells = [[9; 128]; 4];
     let mut watch = SinkWatch::new(&mut sink);
-    assert!(rt; read_cells(store, 39, &mut cells, &mut watch).is_ok());
-    assert!(rt; sink.written() == b"R 39\nR 40\nR 41\nR 42\n".as_slice());
+    let are_read = read_cells(store, 39, &mut cells, &mut watch).is_ok();
+    assert!(rt; are_read && sink.written() == b"R 39\nR 40\nR 41\nR 42\n".as_slice());
     cells
 }
 
@@ -84,19 +84,30 @@ fn read_plain<W: Watch>(store: &mut MemStore, watch: &mut W) -> (Read, bool) {
     (read, plain == empty_slots())
 }
 
+// Whether the slots read back as they were written.
+fn reads_back(rt: &impl Abort, alloc: Global) -> bool {
+    let mut store = with_slots(rt, alloc, &[]);
+    let cells = read_shown(rt, alloc, &mut store);
+    have_tags(&cells)
+        && are_slots(&cells)
+        && read_plain(&mut store, &mut Blind) == (Ok(FIRST), true)
+}
+
 #[test]
 fn a_run_reads_back(rt: HostRuntime) {
-    let mut store = with_slots(&rt, rt.alloc(), &[]);
-    let cells = read_shown(&rt, rt.alloc(), &mut store);
-    assert!(rt; have_tags(&cells));
-    assert!(rt; are_slots(&cells));
-    assert!(rt; read_plain(&mut store, &mut Blind) == (Ok(FIRST), true));
+    assert!(rt; reads_back(&rt, rt.alloc()));
+}
+
+// Such a store in which a cell has these bytes.
+fn slots_with(rt: &impl Abort, alloc: Global, cell: u64, bytes: &[u8; 128]) -> MemStore {
+    let mut store = with_slots(rt, alloc, &[]);
+    assert!(rt; write_through(&mut store, cell, bytes, &mut Blind).is_ok());
+    store
 }
 
 // What the slots read as where a cell has these bytes, and the reads that are made.
 fn read_with(rt: &impl Abort, alloc: Global, cell: u64, bytes: &[u8; 128]) -> (Read, usize) {
-    let mut store = with_slots(rt, alloc, &[]);
-    assert!(rt; write_through(&mut store, cell, bytes, &mut Blind).is_ok());
+    let mut store = slots_with(rt, alloc, cell, bytes);
     let mut sink = new_sink(rt, alloc, 20);
     let (read, _) = read_plain(&mut store, &mut SinkWatch::new(&mut sink));
     (read, sink.written().len() / 5)
@@ -124,10 +135,9 @@ fn the_first_cell_that_breaks_a_rule_is_told(rt: HostRuntime) {
 #[test]
 fn a_seal_is_of_its_cell_alone(rt: HostRuntime) {
     let (read, reads) = read_with(&rt, rt.alloc(), 40, &sealed_as(41, (1, 1), &[7; 96]));
-    assert!(rt; reads == 2);
-    assert!(rt; matches!(read, Err(fault) if is_damage(fault, 40, Check::Tag)));
-    let (read, reads) = read_with(&rt, rt.alloc(), 42, &sealed_as(42, (1, 3), &[7; 96]));
-    assert!(rt; read == Ok(FIRST) && reads == 4);
+    let (other, all) = read_with(&rt, rt.alloc(), 42, &sealed_as(42, (1, 3), &[7; 96]));
+    let is_told = matches!(read, Err(fault) if is_damage(fault, 40, Check::Tag));
+    assert!(rt; reads == 2 && is_told && other == Ok(FIRST) && all == 4);
 }
 
 const NOT_READ: &[Fail] = &[
@@ -138,28 +148,36 @@ const NOT_READ: &[Fail] = &[
     },
 ];
 
-// Whether reading the slots fails, sealed ones and cells as they are.
-fn fails(rt: &impl Abort, alloc: Global, fail: Fail) -> bool {
+// Whether reading the slots fails.
+fn fails_sealed(rt: &impl Abort, alloc: Global, fail: Fail) -> bool {
     let mut store = with_slots(rt, alloc, &[fail]);
-    let mut again = with_slots(rt, alloc, &[fail]);
     read_plain(&mut store, &mut Blind).0 == Err(STORE_FAULT)
-        && read_cells(&mut again, 39, &mut [[0; 128]; 4], &mut Blind).is_err()
+}
+
+// Whether reading the cells as they are fails.
+fn fails_bare(rt: &impl Abort, alloc: Global, fail: Fail) -> bool {
+    let mut store = with_slots(rt, alloc, &[fail]);
+    read_cells(&mut store, 39, &mut [[0; 128]; 4], &mut Blind).is_err()
 }
 
 #[test]
 fn a_failing_read_is_told(rt: HostRuntime) {
     for fail in NOT_READ {
-        assert!(rt; fails(&rt, rt.alloc(), *fail));
+        assert!(&rt; fails_sealed(&rt, rt.alloc(), *fail) && fails_bare(&rt, rt.alloc(), *fail));
     }
+}
+
+// Whether sealing the slots fails where the third write does, behind three seals.
+fn fails_to_seal(rt: &impl Abort, alloc: Global) -> bool {
+    let mut store = new_store(rt, alloc, 43, &[Fail::Write(2)]);
+    let mut sealer = test_sealer(1);
+    let bytes: [u8; 384] = empty_slots();
+    let cut = Cut { bytes: &bytes };
+    let refused = write_sealed(&mut store, &mut sealer, 39, 4, &cut, &mut Blind).is_err();
+    refused && sealer.next() == (1, 3)
 }
 
 #[test]
 fn a_failing_write_is_told(rt: HostRuntime) {
-    let alloc = rt.alloc();
-    let mut store = new_store(&rt, alloc, 43, &[Fail::Write(2)]);
-    let mut sealer = test_sealer(1);
-    let bytes: [u8; 384] = empty_slots();
-    let cut = Cut { bytes: &bytes };
-    assert!(rt; write_sealed(&mut store, &mut sealer, 39, 4, &cut, &mut Blind).is_err());
-    assert!(rt; sealer.next() == (1, 3));
+    assert!(rt; fails_to_seal(&rt, rt.alloc()));
 }

@@ -1,14 +1,17 @@
 //! What tests of cells share: stores, sealers, what a crash leaves, how damage is told.
 
-ghost use Rattle.std.specs.Prelude.{◌≡◌, ℕ};
+ghost use Rattle.std.specs.Prelude.{◌≡◌, ◌≤◌, ℕ};
 ghost use Rattle.ob_mem.specs.Replay.{zeros};
 ghost use Rattle.ob_mem.specs.Memory.{disk_of_store};
 
-use ob_base::{Check, Fault, Params};
+use ob_base::{Check, Fault, Jobs, Params};
+use ob_cells::{Crew, JobsErr, run_jobs};
+use ob_lanes::Lanes;
 use ob_mem::{Fail, MemSink, MemStore};
 use ob_seal::{Keys, Sealer};
 use std::alloc::Global;
 use std::process::Abort;
+use std::thread::Threads;
 
 /// So many cells of zeros, where these calls fail.
 pub fn new_store(rt: &impl Abort, alloc: Global, cells: usize, fails: &[Fail]) -> MemStore
@@ -50,6 +53,29 @@ pub fn left_after(
 /// The parameters of a store with so many keys and two read batches of so many places.
 pub fn params(rt: &impl Abort, keys: u32, places: u32) -> Params {
     Params::new(keys, 2, 2, 3, 2, places, 2, 2, 8).expect(rt, "parameters in range")
+}
+
+/// A crew of so many lanes, with room for 18 jobs.
+pub fn crew_of<L: Drop>(rt: &impl Abort, alloc: Global, lanes: usize) -> Crew<L>
+    requires { (1 ≤ lanes) × (lanes ≤ 16) }
+    ensures { result.lanes ≡ lanes }
+{
+    let crew = Crew::new(alloc, lanes, 18).expect(rt, "memory");
+    assert!(rt; crew.lanes() == lanes);
+    crew
+}
+
+/// What jobs answer that a crew reads.
+pub fn run<S: Lanes, R: Abort + Threads + Sync>(
+    rt: &R,
+    store: &mut S,
+    crew: &mut Crew<S::Lane>,
+    jobs: &mut Jobs,
+) -> Result<(), JobsErr>
+    ensures { (S.disk store.new).out ≤ (S.disk store.old).out }
+{
+    assert!(rt; jobs.jobs().len() <= crew.jobs());
+    run_jobs(rt, store, crew, &test_sealer(1), jobs)
 }
 
 /// A sealer of a generation, under the keys of the bytes 0 to 95.

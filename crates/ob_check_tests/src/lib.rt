@@ -1,5 +1,6 @@
 //! Tests of checkpoints: against cells that were made elsewhere, each rule broken once, and tables
-//! that look random, written and read back; and laws over any store, at one.
+//! that look random, written and read back; laws over any store, at one; and runs that several
+//! threads seal.
 #![tactic(auto)]
 
 #[cfg(test)]
@@ -10,5 +11,7 @@ mod checkpoints;
 mod drawn;
 #[cfg(test)]
 mod laws;
+#[cfg(test)]
+mod long;
 #[cfg(test)]
 mod text;

@@ -1,5 +1,5 @@
-//! The laws of a run over a mirror: it begins where the first half stood, and its headline is one of
-//! each half alone.
+//! The laws of a run over a mirror: it begins where the first half stood, and its headline is one
+//! of each half alone.
 
 ghost use Rattle.ob_mirrored.specs.Behind.{JoinsStand};
 ghost use Rattle.ob_mirrored.specs.Halves.{HalfKeeps};

@@ -79,7 +79,8 @@ fn do_joined<
 
 // Whether there is more to be said of the words than want of memory.
 fn refused_for(fault: Fault) -> Result<bool, Memory>
-    ensures { MatchResult result (λ yes. (yes ≡ false) × (fault ≢ faults.Memory)) (λ err. fault ≡ faults.Memory) }
+    ensures { MatchResult result (λ yes. (yes ≡ false) × (fault ≢ faults.Memory))
+        (λ err. fault ≡ faults.Memory) }
 {
     match fault {
         Fault::Memory => Err(Memory),
@@ -235,8 +236,8 @@ fn do_with<
 /// The top call with a second store, which `--mirror` names: `mirror` is that store, or none where
 /// it wasn't opened. Where the words ask for no mirror it is left as it is, and all is done that
 /// `obladi` does. A run with a mirror first reads the head of the store and copies all its cells to
-/// the second one, whatever that had; from then on each write and sync goes to both, and a read that
-/// the first refuses is made of the second.
+/// the second one, whatever that had; from then on each write and sync goes to both, and a read
+/// that the first refuses is made of the second.
 ///
 /// The status is that of `obladi`. Before anything is touched `fault: store` and 5 stand where
 /// either store is missing, behind what is wrong with the words and the keys; and so they do where
@@ -278,8 +279,8 @@ pub fn obladi_mirrored<
         (words_given (T.present tape.new) (T.drawn tape.new)) }
     ensures mirrored { MirroredDoes ⟦<Mirror<'a, S, M> as Store>⟧.disk (λ m. m.halves.first.now)
         (λ m. m.halves.second.now) S.disk M.disk (λ w. outflow W.Sink w)
-        (beat_kind B.passes B.exact) (map (λ w. w.now) words.entry.now) text.entry store.entry store.exit
-        mirror.old mirror.new trace.old trace.new
+        (beat_kind B.passes B.exact) (map (λ w. w.now) words.entry.now) text.entry store.entry
+        store.exit mirror.old mirror.new trace.old trace.new
         (outside (inflow I.Source input.old) (outflow O.Sink output.old))
         (outside (inflow I.Source input.new) (outflow O.Sink output.new)) result
         (words_given (T.present tape.new) (T.drawn tape.new)) }
