@@ -18,15 +18,19 @@ trap 'rm -rf "$memory" "$disk"' EXIT
 cat >"$memory/copy.c" <<'C'
 #include <fcntl.h>
 #include <stdlib.h>
+#include <string.h>
 #include <unistd.h>
-// Copies so many cells of 128 bytes, each read by itself, 512 of them written at once, and syncs.
+// Copies so many cells of 128 bytes, each read by itself, 512 of them written at once, and syncs. Behind the
+// file's end they are zeros.
 int main(int argc, char **argv) {
     static unsigned char cells[512][128];
     int from = argc > 3 ? open(argv[1], O_RDONLY) : -1, to = argc > 3 ? open(argv[2], O_RDWR | O_CREAT, 0600) : -1;
     long many = argc > 3 ? atol(argv[3]) : 0, at, held = 0;
     if (from < 0 || to < 0) return 1;
     for (at = 0; at < many; at++) {
-        if (pread(from, cells[held], 128, 128 * at) != 128) return 1;
+        long got = pread(from, cells[held], 128, 128 * at);
+        if (got < 0) return 1;
+        memset(cells[held] + got, 0, 128 - got);
         if (++held < 512 && at + 1 < many) continue;
         if (pwrite(to, cells, 128 * held, 128 * (at + 1 - held)) != 128 * held) return 1;
         held = 0;
@@ -83,7 +87,7 @@ took = fewest({"one": lambda: ran(run, disk, script), "two": lambda: ran([*run, 
 (one, one_used), (two, two_used) = took["one"], took["two"]
 print(f"1,000 transactions at 256 keys: one file {one:.2f} s, two {two:.2f} s; of the processor {one_used:.2f} s, {two_used:.2f} s")
 run = store_in(memory, LARGE)
-cells = os.path.getsize(memory + "/store") // 128
+cells = int(open(memory + "/report").read().split()[2])
 took = fewest({
     "without": lambda: ran([*run, "--lanes", "1"], memory),
     "with": lambda: ran([*run, "--lanes", "1", "--mirror", memory + "/second"], memory),
