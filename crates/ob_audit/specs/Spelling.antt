@@ -1,5 +1,5 @@
 -- How the lines of a trace are spelled, without the line feed.
-use Rattle.std.specs.Prelude.{◌≡◌, ◌<◌, ◌≤◌, ◌^◌, ◌⊎◌, ℕ, List, [], ◌∷◌, ◌++◌, length, decimal}
+use Rattle.std.specs.Prelude.{◌≡◌, ◌<◌, ◌≤◌, ◌^◌, ◌⊎◌, ℕ, false, List, [], ◌∷◌, ◌++◌, length, decimal}
 use Rattle.ob_base.specs.declared.params.Params.{Params}
 use Rattle.ob_store.specs.declared.watch.Note.{Note}
 use Rattle.ob_store.specs.declared.watch.Note.TheVariants as N
@@ -52,5 +52,5 @@ IsLineOf bytes line = SpellsLine bytes line ⊎ ((line ≡ L.Bad) × ((l : Line)
 -- The bytes of a line and a line feed are what whoever writes a trace writes.
 pub record LinesAreTheWriters : Type 0 where
   pub starts : (p : Params) (bytes : List ℕ) → IsLineSpelled (L.Start p) bytes → bytes ++ 10 ∷ [] ≡ start_line p
-  pub opens : (bytes : List ℕ) → IsLineSpelled L.Open bytes → bytes ++ 10 ∷ [] ≡ open_line
+  pub opens : (bytes : List ℕ) → IsLineSpelled L.Open bytes → bytes ++ 10 ∷ [] ≡ open_line false
   pub notes : (note : Note) (bytes : List ℕ) → IsLineSpelled (L.Note note) bytes → bytes ++ 10 ∷ [] ≡ line_of note

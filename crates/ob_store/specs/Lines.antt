@@ -25,14 +25,15 @@ start_line p =
     80 ∷ blank_number p.keys ++ blank_number p.levels ++ blank_number p.real ++ blank_number p.dummies ++ blank_number p.batches ++ blank_number p.places
     ++ blank_number p.writes ++ blank_number p.evictions ++ blank_number p.room ++ 10 ∷ []
 
--- the line before the notes of a run: `O`
-abbrev pub open_line : List ℕ
-open_line = 79 ∷ 10 ∷ []
+-- the line before the notes of a run: `O`, or `O M` where it has a mirror
+abbrev pub open_line : Bool → List ℕ
+open_line false = 79 ∷ 10 ∷ []
+open_line true = 79 ∷ 32 ∷ 77 ∷ 10 ∷ []
 
 -- how a trace begins
 abbrev pub first_line : Start → List ℕ
 first_line (Format p) = start_line p
-first_line Run = open_line
+first_line (Run mirrored) = open_line mirrored
 
 -- the lines of these notes, one behind the other
 abbrev pub lines_of : List Note → List ℕ

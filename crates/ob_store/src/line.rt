@@ -17,8 +17,8 @@ use ob_io::{Sink, put_all};
 pub enum Start {
     /// With the parameters of a store that is made.
     Format { params: Params },
-    /// With a run.
-    Run,
+    /// With a run, over a mirror or over a store alone.
+    Run { mirrored: bool },
 }
 
 // A line that is put together. The longest is a letter, and nine times a blank and ten digits.
@@ -72,7 +72,8 @@ fn add_params(line: &mut Line, p: &Params)
     add(line, b"\n");
 }
 
-/// Writes the first line of a trace: `P` and the nine parameters, or `O`.
+/// Writes the first line of a trace: `P` and the nine parameters, `O` of a run, or `O M` of one
+/// with a mirror.
 ///
 /// # Errors
 /// The sink failed. A front of the line is written.
@@ -86,7 +87,8 @@ pub(crate) fn put_start<S: Sink>(sink: &mut S, start: &Start) -> Result<(), Fail
     let mut line = Line::new();
     match start {
         Start::Format { params } => add_params(&mut line, params),
-        Start::Run => add(&mut line, b"O\n"),
+        Start::Run { mirrored: false } => add(&mut line, b"O\n"),
+        Start::Run { mirrored: true } => add(&mut line, b"O M\n"),
     }
     put_all(sink, line.as_slice())
 }

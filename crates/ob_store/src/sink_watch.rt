@@ -29,8 +29,9 @@ impl<'a, S: Sink> SinkWatch<'a, S> {
         }
     }
 
-    /// Writes the first line of a trace, `P` and the nine parameters of a store that is made or
-    /// `O` of a run, or a front of it where the watch breaks then. Once broken it writes nothing.
+    /// Writes the first line of a trace, `P` and the nine parameters of a store that is made, `O` of
+    /// a run or `O M` of a run with a mirror, or a front of it where the watch breaks then. Once
+    /// broken it writes nothing.
     pub fn start(&mut self, start: &Start)
         ensures { AddsOnly (first_line start.now)
             (sink_trace (S.written self.old.sink.now) self.old.broken (S.faults self.old.sink.now)

@@ -17,7 +17,7 @@ use std::process::Abort;
 enum Begins {
     // With these parameters.
     Format([u32; 9]),
-    Run,
+    Run { mirrored: bool },
 }
 
 // A sink's room, and the number of its call that fails; how a trace begins; what is written of it
@@ -54,14 +54,14 @@ const TRACES: &[Trace] = &[
     Trace {
         room: 200,
         fails: &[],
-        begins: Begins::Run,
+        begins: Begins::Run { mirrored: false },
         written: b"O\nL 3\nR 41\nW 18446744073709551615\nS\n",
         broken: false,
     },
     Trace {
         room: 200,
         fails: &[0],
-        begins: Begins::Run,
+        begins: Begins::Run { mirrored: false },
         written: b"",
         broken: true,
     },
@@ -75,14 +75,14 @@ const TRACES: &[Trace] = &[
     Trace {
         room: 200,
         fails: &[3],
-        begins: Begins::Run,
+        begins: Begins::Run { mirrored: false },
         written: b"O\nL 3\nR 41\n",
         broken: true,
     },
     Trace {
         room: 200,
         fails: &[4],
-        begins: Begins::Run,
+        begins: Begins::Run { mirrored: false },
         written: b"O\nL 3\nR 41\nW 18446744073709551615\n",
         broken: true,
     },
@@ -96,8 +96,22 @@ const TRACES: &[Trace] = &[
     Trace {
         room: 8,
         fails: &[],
-        begins: Begins::Run,
+        begins: Begins::Run { mirrored: false },
         written: b"O\nL 3\nR ",
+        broken: true,
+    },
+    Trace {
+        room: 200,
+        fails: &[],
+        begins: Begins::Run { mirrored: true },
+        written: b"O M\nL 3\nR 41\nW 18446744073709551615\nS\n",
+        broken: false,
+    },
+    Trace {
+        room: 3,
+        fails: &[],
+        begins: Begins::Run { mirrored: true },
+        written: b"O M",
         broken: true,
     },
 ];
@@ -109,7 +123,9 @@ fn start_of(rt: &impl Abort, begins: &Begins) -> Start {
             let params = Params::new(n, l, z, s, r, br, bw, e, t).expect(rt, "parameters in range");
             Start::Format { params }
         }
-        Begins::Run => Start::Run,
+        Begins::Run { mirrored } => Start::Run {
+            mirrored: *mirrored,
+        },
     }
 }
 

@@ -227,7 +227,7 @@ module _ (before mid after : Outside) (status : ℕ) (input : after.input ≡ mi
     FormatsBy keys p trace = ByTrace flow was is before after status trace (start_line p) (λ t u. FormatDone ring_kind ring_lives disk tape keys p old new before after t u status) old new
 
     abbrev RunsBy : Keys → ℕ → Bool → Option (List ℕ) → Shares → Type 0
-    RunsBy keys k turns trace shares = ByTrace flow was is before after status trace open_line (λ t u. RunDone ring_kind ring_lives disk (manner beat (not turns) k shares) tape keys old new before after t u status) old new
+    RunsBy keys k turns trace shares = ByTrace flow was is before after status trace (open_line false) (λ t u. RunDone ring_kind ring_lives disk (manner beat (not turns) k shares) tape keys old new before after t u status) old new
 
     abbrev FormatTells : List (List ℕ) → Option (List ℕ) → Type 0
     FormatTells numbers trace = Tell Memory ⊎ (((field : Field) × IsBadNumber numbers field × Tell (BadParams field))

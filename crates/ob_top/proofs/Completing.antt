@@ -247,7 +247,7 @@ module _ {S W : Type 0} (disk : S → Disk) (flow : W → Flow) (beat : BeatKind
 
   abbrev pub RunTells : Option (List ℕ) → Bool → Option (List ℕ) → AskedShares → Type 0
   RunTells lanes turns trace limits = Tell fault.Memory ⊎ ((AreBadLanes lanes × Tell (fault.BadParams LANES))
-      ⊎ ((k : ℕ) × AreLanes lanes k × (shares : Shares) × AreShares limits shares × (KeysTell ⊎ ((keys : Keys) × HasKeys text keys × ByTrace flow was is before after status trace open_line (λ t u. RunDone ring_kind ring_lives disk (manner beat (not turns) k shares) tape keys old new before after t u status) old new))))
+      ⊎ ((k : ℕ) × AreLanes lanes k × (shares : Shares) × AreShares limits shares × (KeysTell ⊎ ((keys : Keys) × HasKeys text keys × ByTrace flow was is before after status trace (open_line false) (λ t u. RunDone ring_kind ring_lives disk (manner beat (not turns) k shares) tape keys old new before after t u status) old new))))
 
   format_whole : (can : CanFormat flow words text (disk old) (disk new) was is before after) → FormatTells can.numbers can.trace → (status ≡ 0) ⊎ (status ≡ 9)
   format_whole can (inl (kept, told)) = inr told.status_is
@@ -288,7 +288,7 @@ module _ {S W : Type 0} (disk : S → Disk) (flow : W → Flow) (beat : BeatKind
     run_whole (inl (kept, told)) = inr (inl told.status_is)
     run_whole (inr (inl (bad, (kept, told)))) = absurd (no_bad_lanes can.lanes can.k can.in_range bad)
     run_whole (inr (inr (k, are, shares, given, inl (f, refusal, (kept, told))))) = absurd (keys_stand text can.keys f can.has refusal)
-    run_whole (inr (inr (k, are, shares, given, inr (keys, has, done)))) = of_trace flow was is before after status open_line can.trace (λ t u. RunDone ring_kind ring_lives disk (manner beat (not can.turns) k shares) tape keys old new before after t u status) old new can.trace_holds done
+    run_whole (inr (inr (k, are, shares, given, inr (keys, has, done)))) = of_trace flow was is before after status (open_line false) can.trace (λ t u. RunDone ring_kind ring_lives disk (manner beat (not can.turns) k shares) tape keys old new before after t u status) old new can.trace_holds done
         ((status ≡ 0) ⊎ ((status ≡ 9) ⊎ Full)) (λ t u whole watch d.
         by_answer (run_answers ring_kind ring_keeps ring_lives disk words text old new flow was is before after script can by refl tape status t u whole watch
         (subst (λ (k : Keys). RunDone ring_kind ring_lives disk by tape k old new before after t u status) (one_keys text keys can.keys has can.has)

@@ -346,26 +346,26 @@ module _ {S W : Type 0} (disk : S → Disk) (flow : W → Flow) (beat : BeatKind
         (subst (λ n. Rose (flow has.before).faults n) (sym has.told.1) (subst (λ n. Rose n u.faults) (sym has.tells.1) (rose_later has.start.faults t.faults u.faults has.line.faults rose))))
 
     -- so it did where the first line broke it
-    first_broke : (t u : Trace) → HasTrace flow open_line was is t u → t.broken ≡ true → u ≡ t → Rose (faults_of flow was) (faults_of flow is)
+    first_broke : (t u : Trace) → HasTrace flow (open_line false) was is t u → t.broken ≡ true → u ≡ t → Rose (faults_of flow was) (faults_of flow is)
     first_broke t u has broken still =
         subst (λ (x : Option W). Rose (faults_of flow x) (faults_of flow is)) (sym has.was_is) (subst (λ (x : Option W). Rose (flow has.before).faults (faults_of flow x)) (sym has.is_is)
-        (subst (λ n. Rose (flow has.before).faults n) (sym has.told.1) (subst (λ n. Rose n u.faults) (sym has.tells.1) (subst (λ (x : Trace). Rose has.start.faults x.faults) (sym still) (rose_added open_line has.start t has.line has.whole broken)))))
+        (subst (λ n. Rose (flow has.before).faults n) (sym has.told.1) (subst (λ n. Rose n u.faults) (sym has.tells.1) (subst (λ (x : Trace). Rose has.start.faults x.faults) (sym still) (rose_added (open_line false) has.start t has.line has.whole broken)))))
 
     abbrev Done : Trace → Trace → Type 0
     Done t u = RunDone ring_kind ring_lives disk (manner beat (not turns) k shares) tape keys old new before after t u status
 
-    by_trace : (trace : Option (List ℕ)) → ByTrace flow was is before after status trace open_line Done old new → Keeps trace
+    by_trace : (trace : Option (List ℕ)) → ByTrace flow was is before after status trace (open_line false) Done old new → Keeps trace
     by_trace None (kept, done) = done_promised disk keys (called turns None k shares) blind blind (λ rose. absurd (no_rise rose)) only_now includes_reads goes p at past stood refl done
     by_trace (Some file) (inl (none, kept, same, line)) =
         none_promised disk keys (called turns (Some file) k shares) blind blind (λ rose. absurd (no_rise rose)) only_now includes_reads goes p at past stood refl SinkFault line (inl (subst (λ (x : Option W). is_lacking (Some file) x ≡ true) (sym none) refl)) same
     by_trace (Some file) (inr (t, u, has, inl (broken, still, same, line))) = none_promised disk keys (called turns (Some file) k shares) blind blind (λ rose. absurd (no_rise rose)) only_now includes_reads goes p at past stood refl SinkFault line (inr (first_broke t u has broken still)) same
-    by_trace (Some file) (inr (t, u, has, inr (whole, done))) = done_promised disk keys (called turns (Some file) k shares) t u (sink_rose open_line t u has) only_now includes_reads goes p at past stood whole done
+    by_trace (Some file) (inr (t, u, has, inr (whole, done))) = done_promised disk keys (called turns (Some file) k shares) t u (sink_rose (open_line false) t u has) only_now includes_reads goes p at past stood whole done
 
     pub told_promised : (lanes trace : Option (List ℕ)) (limits : AskedShares) → AreLanes lanes k → AreShares limits shares → HasKeys text keys → RunTells disk flow beat tape [] text old new was is before after status lanes turns trace limits → Keeps trace
     told_promised lanes trace limits are given has (inl (kept, line)) = none_promised disk keys (called turns trace k shares) blind blind (λ rose. absurd (no_rise rose)) only_now includes_reads goes p at past stood refl Memory line tt kept.0
     told_promised lanes trace limits are given has (inr (inl (bad, line))) = absurd (no_bad_lanes lanes k are bad)
     told_promised lanes trace limits are given has (inr (inr (m, these, those, limited, inl (f, refusal, line)))) = absurd (keys_stand text keys f has refusal)
     told_promised lanes trace limits are given has (inr (inr (m, these, those, limited, inr (own, holds, by)))) =
-        by_trace trace (subst (λ (x : Keys). ByTrace flow was is before after status trace open_line (λ t u. RunDone ring_kind ring_lives disk (manner beat (not turns) k shares) tape x old new before after t u status) old new) (one_keys text own keys holds has)
-        (subst (λ n. ByTrace flow was is before after status trace open_line (λ t u. RunDone ring_kind ring_lives disk (manner beat (not turns) n shares) tape own old new before after t u status) old new) (one_lanes lanes m k these are)
-        (subst (λ (x : Shares). ByTrace flow was is before after status trace open_line (λ t u. RunDone ring_kind ring_lives disk (manner beat (not turns) m x) tape own old new before after t u status) old new) (one_shares limits those shares limited given) by)))
+        by_trace trace (subst (λ (x : Keys). ByTrace flow was is before after status trace (open_line false) (λ t u. RunDone ring_kind ring_lives disk (manner beat (not turns) k shares) tape x old new before after t u status) old new) (one_keys text own keys holds has)
+        (subst (λ n. ByTrace flow was is before after status trace (open_line false) (λ t u. RunDone ring_kind ring_lives disk (manner beat (not turns) n shares) tape own old new before after t u status) old new) (one_lanes lanes m k these are)
+        (subst (λ (x : Shares). ByTrace flow was is before after status trace (open_line false) (λ t u. RunDone ring_kind ring_lives disk (manner beat (not turns) m x) tape own old new before after t u status) old new) (one_shares limits those shares limited given) by)))

@@ -43,7 +43,7 @@ traced_of (Run k turns traced mirrored shares) = traced
 
 abbrev pub start_for : Command → Start
 start_for (Format p traced) = start.Format p
-start_for (Run k turns traced mirrored shares) = start.Run
+start_for (Run k turns traced mirrored shares) = start.Run false
 
 -- What a command did under a watch that told this before it and tells that behind it; the tape has then given this.
 abbrev pub WatchedDoes : {S : Type 0} → (S → Disk) → BeatKind → (tape : Given) → Command → Keys → S → S → Outside → Outside → Trace → Trace → Option RunErr → Type 0

@@ -85,4 +85,4 @@ module _ {S W : Type 0} (disk : S → Disk) (flow : W → Flow) (beat : BeatKind
       Refuses Memory
       ⊎ ((AreBadLanes lanes × Refuses (BadParams LANES))
       ⊎ ((k : ℕ) × AreLanes lanes k × (shares : Shares) × AreShares limits shares × (KeysDo
-      ⊎ ((keys : Keys) × HasKeys text keys × OfStore entry exit HasNoStore (λ old new. ByTrace flow was is before after status trace open_line (λ t u. RunDone ring_kind ring_lives disk (manner beat (not turns) k shares) tape keys old new before after t u status) old new)))))
+      ⊎ ((keys : Keys) × HasKeys text keys × OfStore entry exit HasNoStore (λ old new. ByTrace flow was is before after status trace (open_line false) (λ t u. RunDone ring_kind ring_lives disk (manner beat (not turns) k shares) tape keys old new before after t u status) old new)))))

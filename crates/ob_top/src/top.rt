@@ -45,7 +45,7 @@ fn start_of(command: &Command) -> Start
 {
     match *command {
         Command::Format { params, .. } => Start::Format { params },
-        Command::Run { .. } => Start::Run,
+        Command::Run { .. } => Start::Run { mirrored: false },
     }
 }
 
