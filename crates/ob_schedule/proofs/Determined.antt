@@ -69,6 +69,6 @@ note_determined f [] [] n g h a b = absurd a
 
 pub determined : (f : Follow) (line : Line) (g h : Follow) → TakesLine f line g → TakesLine f line h → g ≡ h
 determined f (L.Start p) g h a b = a ∙ sym b
-determined f L.Open g h a b = a ∙ sym b
+determined f (L.Open mirrored) g h a b = a ∙ sym b
 determined f (L.Note n) g h a b = note_determined f f.holes f.wants n g h a b
 determined f L.Bad g h a b = absurd a

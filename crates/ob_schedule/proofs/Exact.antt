@@ -93,7 +93,7 @@ from_bad f (inr named) = absurd (bad_unnamed f (wanted_next f) named)
 
 pub exact : (f : Follow) (l : Line) → Admits f l ↔ (IsStop l ⊎ Names f (wanted_next f) l)
 exact f (L.Start p) = (λ a. inl tt, λ s. (started p, refl))
-exact f L.Open = (λ a. inl tt, λ s. (opened f, refl))
+exact f (L.Open mirrored) = (λ a. inl tt, λ s. (opened mirrored f, refl))
 exact f (L.Note n) = (λ a. inr (note_named f f.holes f.wants n a.0 a.1), from_note f n)
 exact f L.Bad = (λ a. absurd a.1, from_bad f)
 

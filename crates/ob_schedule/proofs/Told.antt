@@ -6,7 +6,7 @@ use Rattle.ob_base.specs.Layout.{GenerationTwin, EpochTwin, LogArea, log_cell, l
 use Rattle.ob_store.specs.declared.watch.Note.{Note}
 use Rattle.ob_store.specs.declared.watch.Note.TheVariants.{Write, Sync}
 use Rattle.ob_schedule.specs.Paths.{by_falling_level}
-use Rattle.ob_schedule.specs.Schedule.{Fills, Public, set_twin, record_notes, open_notes, end_notes, head_notes, hole_reads, bucket_writes, is_lifted_by_end, log_gates, writes_of, reads_of, region_cells, check_cells, gate_cell}
+use Rattle.ob_schedule.specs.Schedule.{Fills, Public, set_twin, record_notes, open_notes, end_notes, first_reads, hole_reads, bucket_writes, is_lifted_by_end, log_gates, writes_of, reads_of, region_cells, check_cells, gate_cell}
 use Rattle.ob_schedule.specs.declared.want.Side.{Side}
 use Rattle.ob_schedule.specs.declared.want.Side.TheVariants.{Even, Odd}
 use Rattle.ob_schedule.specs.declared.want.Gate.{Gate}
@@ -67,16 +67,20 @@ by_sides : (p : Params) (epoch : Side) (ws : List Note) → found_reads p (side_
 by_sides p Even ws = tail_joined (found_reads p 0 1) ws
 by_sides p Odd ws = tail_joined (found_reads p 1 0) ws
 
-pub notes_open : (p : Params) (s : StandingKnown) (f : Fills) (found : ℕ → Bool) → IsGateKnown s.generation_gate (found (gate_cell p GenerationTwin (side_number (other s.generation)))) → fixed_notes (register_wants p ++ found_wants p s) ≡ head_notes ++ open_notes p
-    (public_known p s []) f found (side_number (other s.generation)) 0
-notes_open p s f found known =
+pub notes_open : (p : Params) (mirrored : Bool) (s : StandingKnown) (f : Fills) (found : ℕ → Bool) → IsGateKnown s.generation_gate (found (gate_cell p GenerationTwin (side_number (other s.generation))))
+    → fixed_notes (register_wants p mirrored ++ found_wants p s) ≡ first_reads p mirrored ++ open_notes p (public_known p s []) f found (side_number (other s.generation)) 0
+notes_open p mirrored s f found known =
     let area : ℕ = side_number (other s.epoch) in
-    let sets_notes : fixed_notes (sets p Generation (other s.generation) s.generation_gate) ≡ set_twin p GenerationTwin (side_number (other s.generation)) (found (gate_cell p GenerationTwin (side_number (other s.generation)))) =
+    let registers : List Note = reads_of (region_cells p GenerationTwin ++ region_cells p EpochTwin) in
+    let set : List Note = set_twin p GenerationTwin (side_number (other s.generation)) (found (gate_cell p GenerationTwin (side_number (other s.generation)))) in
+    let sets_notes : fixed_notes (sets p Generation (other s.generation) s.generation_gate) ≡ set =
     notes_set p Generation (other s.generation) s.generation_gate (found (gate_cell p GenerationTwin (side_number (other s.generation)))) known in
-    ap (λ (ns : List Note). (head_notes ++ reads_of (region_cells p GenerationTwin ++ region_cells p EpochTwin)) ++ ns)
-    (notes_behind (found_reads p (side_number s.epoch) area) (Fixed Sync Settles ∷ sets p Generation (other s.generation) s.generation_gate)
+    let behind : fixed_notes (found_wants p s) ≡ _ =
+    notes_behind (found_reads p (side_number s.epoch) area) (Fixed Sync Settles ∷ sets p Generation (other s.generation) s.generation_gate)
     ∙ ap (λ (ws : List Note). found_reads p (side_number s.epoch) area ++ Sync ∷ ws) sets_notes
-    ∙ by_sides p s.epoch (set_twin p GenerationTwin (side_number (other s.generation)) (found (gate_cell p GenerationTwin (side_number (other s.generation))))))
+    ∙ by_sides p s.epoch set in
+    notes_behind (first_reads p mirrored ++ registers) (found_wants p s) ∙ ap (λ (ns : List Note). (first_reads p mirrored ++ registers) ++ ns) behind
+    ∙ append_assoc (first_reads p mirrored) registers (((found_reads p (side_number s.epoch % 2) ((side_number s.epoch + 1) % 2) ++ (Sync ∷ [])) ++ set) ++ [])
 
 -- ---- an end
 

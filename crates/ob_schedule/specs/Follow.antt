@@ -77,15 +77,15 @@ on_from holes wants runs f = f
 abbrev pub taken_up : Follow → Follow
 taken_up f = on_from f.holes f.wants f.runs f
 
--- behind a stop a run begins; on a store that isn't whole it reads the head alone
-abbrev pub opened_wants : Params → StandingKnown → Option StandingKnown → List Want
-opened_wants p s None = register_wants p ++ found_wants p s
-opened_wants p s (Some newer) = register_wants p ++ Checkpoint ∷ []
+-- behind a stop a run begins, with a mirror or without one; on a store that isn't whole it reads the head alone
+abbrev pub opened_wants : Params → Bool → StandingKnown → Option StandingKnown → List Want
+opened_wants p mirrored s None = register_wants p mirrored ++ found_wants p s
+opened_wants p mirrored s (Some newer) = register_wants p mirrored ++ Checkpoint ∷ []
 
-abbrev pub opened : Follow → Follow
-opened f =
+abbrev pub opened : Bool → Follow → Follow
+opened mirrored f =
     cond f.formatted
-    (record f { runs = true; chosen = false; batch = 0; leaves = []; holes = []; wants = opened_wants f.params f.stands f.newer })
+    (record f { runs = true; chosen = false; batch = 0; leaves = []; holes = []; wants = opened_wants f.params mirrored f.stands f.newer })
     (record f { runs = false; holes = []; wants = kept head_notes })
 
 -- ---- what a line does
@@ -196,7 +196,7 @@ TakesNote f [] [] note next = ⊥
 
 abbrev pub TakesLine : Follow → Line → Follow → Type 0
 TakesLine f (L.Start p) next = next ≡ started p
-TakesLine f L.Open next = next ≡ opened f
+TakesLine f (L.Open mirrored) next = next ≡ opened mirrored f
 TakesLine f (L.Note note) next = TakesNote f f.holes f.wants note next
 TakesLine f L.Bad next = ⊥
 

@@ -3,7 +3,7 @@ use Rattle.std.specs.Prelude.{◌≡◌, ◌⊎◌, ◌↔◌, ℕ, ◌+◌, Boo
 use Rattle.ob_base.specs.declared.params.Params.{Params}
 use Rattle.ob_base.specs.Layout.{GenerationTwin, EpochTwin}
 use Rattle.ob_store.specs.declared.watch.Note.{Note}
-use Rattle.ob_schedule.specs.Schedule.{Fills, set_twin, record_notes, format_notes, open_notes, head_notes, end_notes, hole_reads, gate_cell}
+use Rattle.ob_schedule.specs.Schedule.{Fills, set_twin, record_notes, format_notes, open_notes, first_reads, end_notes, hole_reads, gate_cell}
 use Rattle.ob_schedule.specs.declared.line.Line.{Line}
 use Rattle.ob_schedule.specs.declared.want.Side.{Side}
 use Rattle.ob_schedule.specs.declared.want.Gate.{Gate}
@@ -39,9 +39,9 @@ pub record NotesAreScheduled : Type 0 where
   pub formats : (p : Params) → fixed_notes (started p).wants ≡ format_notes p
   pub records : (p : Params) (side : Side) (batch : ℕ) → fixed_notes (record_wants p side batch) ≡ record_notes p (side_number side) batch
   pub settings : (p : Params) (r : Register) (side : Side) (gate : Gate) (is_open : Bool) → IsGateKnown gate is_open → fixed_notes (sets p r side gate) ≡ set_twin p (register_region r) (side_number side) is_open
-  -- an opening that repeats no batch
-  pub opens : (p : Params) (s : StandingKnown) (f : Fills) (found : ℕ → Bool) → IsGateKnown s.generation_gate (found (gate_cell p GenerationTwin (side_number (other s.generation))))
-      → fixed_notes (register_wants p ++ found_wants p s) ≡ head_notes ++ open_notes p (public_known p s []) f found (side_number (other s.generation)) 0
+  -- an opening that repeats no batch, behind the head and the copy for a mirror
+  pub opens : (p : Params) (mirrored : Bool) (s : StandingKnown) (f : Fills) (found : ℕ → Bool) → IsGateKnown s.generation_gate (found (gate_cell p GenerationTwin (side_number (other s.generation))))
+      → fixed_notes (register_wants p mirrored ++ found_wants p s) ≡ first_reads p mirrored ++ open_notes p (public_known p s []) f found (side_number (other s.generation)) 0
   -- an end, whose lifts are the holes'
   pub ends : (p : Params) (s : StandingKnown) (leaves : List ℕ) (f : Fills) (found : ℕ → Bool) → IsGateKnown s.epoch_gate (found (gate_cell p EpochTwin (side_number s.epoch + 1)))
       → hole_reads p (public_known p s leaves) f (end_holes p s leaves) ++ fixed_notes (end_wants p s leaves) ≡ end_notes p (record (public_known p s leaves) { gates = found }) f

@@ -36,7 +36,7 @@ Names f W.End line = ⊥
 -- a run or a format begins
 abbrev pub IsStop : Line → Type 0
 IsStop (L.Start p) = Unit {0}
-IsStop L.Open = Unit {0}
+IsStop (L.Open mirrored) = Unit {0}
 IsStop (L.Note note) = ⊥
 IsStop L.Bad = ⊥
 

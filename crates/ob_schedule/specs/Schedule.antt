@@ -5,7 +5,7 @@ use Rattle.std.proofs.Common.{zero, suc}
 use Rattle.std.specs.List.{count_by, flat_map}
 use Rattle.ob_base.specs.declared.params.Params.{Params}
 use Rattle.ob_base.specs.Tree.{below, buckets, passes}
-use Rattle.ob_base.specs.Layout.{Region, GenerationTwin, EpochTwin, LogArea, start_of, size_of, record_cells, checkpoint_cells, log_cell, check_cell, slot_cell}
+use Rattle.ob_base.specs.Layout.{Region, GenerationTwin, EpochTwin, LogArea, start_of, size_of, record_cells, checkpoint_cells, ring_cells, log_cell, check_cell, slot_cell}
 use Rattle.ob_store.specs.declared.watch.Note.{Note}
 use Rattle.ob_store.specs.declared.watch.Note.TheVariants.{Label, Read, Write, Sync}
 use Rattle.ob_schedule.specs.Paths.{is_one_of, eviction_path, by_falling_level}
@@ -106,6 +106,14 @@ opens_gate q c = record q { gates = λ d. (d == c) || q.gates d }
 -- the head is read by itself, before anything else is known
 abbrev pub head_notes : List Note
 head_notes = Read 0 ∷ []
+
+-- Behind it a run with a mirror reads the epoch's register, to know how many cells there are, and then copies each.
+abbrev pub copy_notes : Params → List Note
+copy_notes p = reads_of (region_cells p EpochTwin ++ below (ring_cells p))
+
+-- what a run reads before its opening, with a mirror or without one
+abbrev pub first_reads : Params → Bool → List Note
+first_reads p mirrored = head_notes ++ cond mirrored (copy_notes p) []
 
 -- A run begins with the register gates that its opening found open, and has shown nothing. (A gate whose closing was begun and not
 -- made sure of may be found in either state, so it isn't told by what was known before.)

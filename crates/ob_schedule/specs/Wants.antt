@@ -1,5 +1,5 @@
 -- The lists of what a run shows next, from the public schedule's own, each note with what it changes.
-use Rattle.std.specs.Prelude.{ℕ, true, ◌+◌, List, [], ◌∷◌, ◌++◌, map, drop, filter}
+use Rattle.std.specs.Prelude.{ℕ, Bool, true, ◌+◌, List, [], ◌∷◌, ◌++◌, map, drop, filter}
 use Rattle.ob_base.specs.declared.params.Params.{Params}
 use Rattle.ob_base.specs.Tree.{below}
 use Rattle.ob_base.specs.Layout.{GenerationTwin, EpochTwin, LogArea, log_cell, log_gate, record_cells}
@@ -7,7 +7,7 @@ use Rattle.ob_store.specs.declared.watch.Note.{Note}
 use Rattle.ob_store.specs.declared.watch.Note.TheVariants.{Write, Sync}
 use Rattle.ob_schedule.specs.Holes.{Hole, final_holes}
 use Rattle.ob_schedule.specs.Paths.{by_falling_level}
-use Rattle.ob_schedule.specs.Schedule.{region_cells, reads_of, writes_of, twin_gates, check_cells, log_gates, bucket_writes, set_twin, head_notes, is_lifted_by_end, counts_now}
+use Rattle.ob_schedule.specs.Schedule.{region_cells, reads_of, writes_of, twin_gates, check_cells, log_gates, bucket_writes, set_twin, first_reads, is_lifted_by_end, counts_now}
 use Rattle.ob_schedule.specs.declared.want.Side.{Side}
 use Rattle.ob_schedule.specs.declared.want.Gate.{Gate}
 use Rattle.ob_schedule.specs.declared.want.Gate.TheVariants.{Open, Closed, Unsure}
@@ -59,8 +59,8 @@ found_wants p s =
     kept (reads_of (check_cells p (side_number s.epoch)) ++ reads_of (region_cells p (LogArea (side_number (other s.epoch)))))
     ++ Fixed Sync Settles ∷ sets p Generation (other s.generation) s.generation_gate
 
-abbrev pub register_wants : Params → List Want
-register_wants p = kept (head_notes ++ reads_of (region_cells p GenerationTwin ++ region_cells p EpochTwin))
+abbrev pub register_wants : Params → Bool → List Want
+register_wants p mirrored = kept (first_reads p mirrored ++ reads_of (region_cells p GenerationTwin ++ region_cells p EpochTwin))
 
 -- the lifted ones of these buckets are written in their other home
 abbrev pub writes_anew : Params → StandingKnown → List ℕ → List ℕ → List Note

@@ -8,8 +8,8 @@ use ob_store::Note;
 pub enum Line {
     /// A format begins, with these parameters.
     Start(Params),
-    /// A run begins.
-    Open,
+    /// A run begins, over a mirror or over a store alone.
+    Open { mirrored: bool },
     /// A note of the format or the run.
     Note(Note),
     /// None of these.
