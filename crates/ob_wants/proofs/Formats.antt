@@ -1,4 +1,4 @@
--- A format's notes and an opening's first reads, part by part.
+-- A format's notes, part by part.
 use Rattle.std.specs.Prelude.{◌≡◌, ℕ, true, List, [], ◌∷◌, ◌++◌, take, drop}
 use Rattle.std.proofs.Common.{refl, sym, ap, ◌∙◌, append_assoc}
 use Rattle.ob_base.specs.declared.params.Params.{Params}
@@ -6,14 +6,14 @@ use Rattle.ob_base.specs.Tree.{below, buckets}
 use Rattle.ob_base.specs.Layout.{GenerationTwin, EpochTwin}
 use Rattle.ob_store.specs.declared.watch.Note.{Note}
 use Rattle.ob_store.specs.declared.watch.Note.TheVariants.{Write, Sync}
-use Rattle.ob_schedule.specs.Schedule.{writes_of, reads_of, log_gates, check_cells, bucket_writes, set_twin, format_notes}
+use Rattle.ob_schedule.specs.Schedule.{writes_of, log_gates, check_cells, bucket_writes, set_twin, format_notes}
 use Rattle.ob_schedule.specs.declared.want.Change.TheVariants.{Keeps, Formats}
 use Rattle.ob_schedule.specs.declared.want.Want.{Want}
 use Rattle.ob_schedule.specs.declared.want.Want.TheVariants.{Fixed}
 use Rattle.ob_schedule.specs.declared.want.Side.{Side}
 use Rattle.ob_schedule.specs.declared.want.Register.{Register}
 use Rattle.ob_schedule.specs.declared.want.Register.TheVariants.{Generation, Epoch}
-use Rattle.ob_schedule.specs.Wants.{kept, setting, format_front, register_wants}
+use Rattle.ob_schedule.specs.Wants.{kept, setting, format_front}
 use Rattle.ob_schedule.specs.Follow.{format_wants, started}
 
 writes_joined : (xs ys : List ℕ) → writes_of (xs ++ ys) ≡ writes_of xs ++ writes_of ys
@@ -52,9 +52,6 @@ format_last (n ∷ m ∷ notes) = ap (λ (ws : List Want). Fixed n Keeps ∷ ws)
 
 pub wants_made : (p : Params) (notes : List Note) → notes ++ Sync ∷ [] ≡ format_notes p → kept notes ++ Fixed Sync Formats ∷ [] ≡ (started p).wants
 wants_made p notes e = sym (format_last notes) ∙ ap format_wants e
-
-pub heads_read : (p : Params) → kept (reads_of (below 9)) ≡ register_wants p
-heads_read p = refl
 
 -- what sets a register whose gate is closed
 pub rest_taken : (p : Params) (r : Register) (side : Side) → take 4 (drop 2 (setting p r side)) ≡ drop 2 (setting p r side)

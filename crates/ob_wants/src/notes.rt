@@ -6,14 +6,14 @@ ghost use Rattle.ob_base.specs.Tree.{below, width, buckets};
 ghost use Rattle.ob_base.specs.Layout.{slot_cell, check_cell, log_cell, log_gate, record_cells, log_cells, LogArea};
 ghost use Rattle.ob_store.specs.declared.watch.Note.{Note};
 ghost use Rattle.ob_store.specs.declared.watch.Note.TheVariants.{Sync};
-ghost use Rattle.ob_schedule.specs.Schedule.{writes_of, reads_of, check_cells, log_gates, bucket_writes, region_cells, set_twin, format_notes, gate_cell, body_cell};
+ghost use Rattle.ob_schedule.specs.Schedule.{writes_of, reads_of, check_cells, log_gates, bucket_writes, region_cells, copy_notes, set_twin, format_notes, gate_cell, body_cell};
 ghost use Rattle.ob_schedule.specs.Sides.{side_number, register_region};
 ghost use Rattle.ob_schedule.specs.Wants.{kept, format_front};
 
 use crate::standing::cell_at;
 use ob_base::{
     EPOCH_CELL, GENERATION_CELL, Params, buckets, check_cell, checkpoint_cells, log_cell,
-    record_cells,
+    record_cells, ring_cells,
 };
 use ob_schedule::{Change, Register, Runs, Side, Want};
 use ob_store::Note;
@@ -113,6 +113,16 @@ pub(crate) fn push_log_reads(p: &Params, side: Side, wants: &mut Runs) -> Result
         ≡ wants.old ++ kept (reads_of (region_cells p.now (LogArea (side_number side))))) }
 {
     wants.push_reads(record_at(p, side, 0, 0), area_len(p))
+}
+
+/// Puts what a run with a mirror reads behind the head behind the list: the epoch's register, and
+/// then each cell of the store.
+#[tactic(auto, using(ob_base::proofs::Bounds::cells_le))]
+pub(crate) fn push_copy(p: &Params, wants: &mut Runs) -> Result<(), AllocError>
+    ensures { OnOk result (wants.new ≡ wants.old ++ kept (copy_notes p.now)) }
+{
+    wants.push_reads(EPOCH_CELL, 4)?;
+    wants.push_reads(0, ring_cells(p))
 }
 
 /// Puts the writes of a bucket's slots in a home behind the list.

@@ -11,8 +11,8 @@ ghost use Rattle.ob_schedule.specs.Wants.{kept, setting, sets, record_wants, reg
 
 use crate::leaves::Leaves;
 use crate::notes::{
-    gate_at, kept, push_body, push_bucket, push_check_reads, push_check_writes, push_format,
-    push_gates, push_kept, push_log_reads, set_notes,
+    gate_at, kept, push_body, push_bucket, push_check_reads, push_check_writes, push_copy,
+    push_format, push_gates, push_kept, push_log_reads, set_notes,
 };
 use crate::rows::at_or;
 use crate::standing::StandingPlain;
@@ -70,12 +70,18 @@ fn push_sets(register: Register, side: Side, gate: Gate, wants: &mut Runs) -> Re
     }
 }
 
-/// Puts what an opening shows first behind the list: the reads of the head and of the registers.
-#[tactic(auto, using(crate::proofs::Formats::heads_read))]
-pub fn push_registers(p: &Params, wants: &mut Runs) -> Result<(), AllocError>
-    ensures { OnOk result (wants.new ≡ wants.old ++ register_wants p.now) }
+/// Puts what an opening shows first behind the list: the reads of the head, of the copy where the
+/// run has a mirror, and of the registers.
+pub fn push_registers(p: &Params, mirrored: bool, wants: &mut Runs) -> Result<(), AllocError>
+    ensures { OnOk result (wants.new ≡ wants.old ++ register_wants p.now mirrored) }
 {
-    wants.push_reads(0, 9)
+    if mirrored {
+        wants.push_reads(0, 1)?;
+        push_copy(p, wants)?;
+        wants.push_reads(1, 8)
+    } else {
+        wants.push_reads(0, 9)
+    }
 }
 
 /// A format's notes, each with what it changes.
