@@ -147,25 +147,25 @@ impl FollowPlain {
         }
     }
 
-    // What an opening shows, into an empty list.
-    fn push_opening(&mut self) -> Result<(), AllocError>
+    // What an opening shows, with a mirror or without one, into an empty list.
+    fn push_opening(&mut self, mirrored: bool) -> Result<(), AllocError>
         ensures { OnOk result ((follow_of self.old).wants ≡ []
             → follow_of self.new
             ≡ record (follow_of self.old) {
-              wants = opened_wants self.old.params
+              wants = opened_wants self.old.params mirrored
                   (standing_of self.old.stands) (follow_of self.old).newer;
             }) }
     {
-        push_registers(&self.params, &mut self.wants)?;
+        push_registers(&self.params, mirrored, &mut self.wants)?;
         match self.newer {
             None => push_found(&self.params, &self.stands, &mut self.wants),
             Some(_) => self.wants.push(Want::Checkpoint),
         }
     }
 
-    // Behind a stop a run begins.
-    fn open(&mut self) -> Result<(), AllocError>
-        ensures { OnOk result (follow_of self.new ≡ opened (follow_of self.old)) }
+    // Behind a stop a run begins, with a mirror or without one.
+    fn open(&mut self, mirrored: bool) -> Result<(), AllocError>
+        ensures { OnOk result (follow_of self.new ≡ opened mirrored (follow_of self.old)) }
     {
         self.visits.clear();
         self.wants.clear();
@@ -176,7 +176,7 @@ impl FollowPlain {
         self.chosen = false;
         self.batch = 0;
         self.leaves.clear();
-        self.push_opening()
+        self.push_opening(mirrored)
     }
 
     // The slot of the bucket's home that the cell holds.
@@ -692,7 +692,7 @@ impl FollowPlain {
                 }
                 Err(error) => Err(error),
             },
-            Line::Open => match self.open() {
+            Line::Open { mirrored } => match self.open(*mirrored) {
                 Ok(()) => Ok(None),
                 Err(error) => Err(error),
             },
