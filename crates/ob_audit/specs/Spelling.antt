@@ -1,5 +1,5 @@
 -- How the lines of a trace are spelled, without the line feed.
-use Rattle.std.specs.Prelude.{◌≡◌, ◌<◌, ◌≤◌, ◌^◌, ◌⊎◌, ℕ, false, List, [], ◌∷◌, ◌++◌, length, decimal}
+use Rattle.std.specs.Prelude.{◌≡◌, ◌<◌, ◌≤◌, ◌^◌, ◌⊎◌, ℕ, Bool, true, false, List, [], ◌∷◌, ◌++◌, length, decimal}
 use Rattle.ob_base.specs.declared.params.Params.{Params}
 use Rattle.ob_store.specs.declared.watch.Note.{Note}
 use Rattle.ob_store.specs.declared.watch.Note.TheVariants as N
@@ -19,10 +19,15 @@ numbers_text p =
     decimal p.keys ++ (32 ∷ decimal p.levels ++ (32 ∷ decimal p.real ++ (32 ∷ decimal p.dummies ++ (32 ∷ decimal p.batches ++ (32 ∷ decimal p.places
     ++ (32 ∷ decimal p.writes ++ (32 ∷ decimal p.evictions ++ 32 ∷ decimal p.room)))))))
 
+-- a run's line, with a mirror or without one
+abbrev pub open_text : Bool → List ℕ
+open_text false = 79 ∷ []
+open_text true = 79 ∷ 32 ∷ 77 ∷ []
+
 -- the bytes are the line's
 abbrev pub IsLineSpelled : Line → List ℕ → Type 0
 IsLineSpelled (L.Start p) bytes = bytes ≡ 80 ∷ 32 ∷ numbers_text p
-IsLineSpelled L.Open bytes = bytes ≡ 79 ∷ []
+IsLineSpelled (L.Open mirrored) bytes = bytes ≡ open_text mirrored
 IsLineSpelled (L.Note note) bytes = bytes ≡ note_text note
 IsLineSpelled L.Bad bytes = ⊥
 
@@ -35,7 +40,7 @@ IsNoteInRange N.Sync = Unit {0}
 
 abbrev pub IsLineInRange : Line → Type 0
 IsLineInRange (L.Start p) = Unit {0}
-IsLineInRange L.Open = Unit {0}
+IsLineInRange (L.Open mirrored) = Unit {0}
 IsLineInRange (L.Note note) = IsNoteInRange note
 IsLineInRange L.Bad = Unit {0}
 
@@ -52,5 +57,5 @@ IsLineOf bytes line = SpellsLine bytes line ⊎ ((line ≡ L.Bad) × ((l : Line)
 -- The bytes of a line and a line feed are what whoever writes a trace writes.
 pub record LinesAreTheWriters : Type 0 where
   pub starts : (p : Params) (bytes : List ℕ) → IsLineSpelled (L.Start p) bytes → bytes ++ 10 ∷ [] ≡ start_line p
-  pub opens : (bytes : List ℕ) → IsLineSpelled L.Open bytes → bytes ++ 10 ∷ [] ≡ open_line false
+  pub opens : (mirrored : Bool) (bytes : List ℕ) → IsLineSpelled (L.Open mirrored) bytes → bytes ++ 10 ∷ [] ≡ open_line mirrored
   pub notes : (note : Note) (bytes : List ℕ) → IsLineSpelled (L.Note note) bytes → bytes ++ 10 ∷ [] ≡ line_of note

@@ -28,7 +28,7 @@ lines_in (byte ∷ bytes) = if byte == 10 then [] ∷ lines_in bytes else with_f
 -- the first line begins a format
 abbrev pub TakesFirst : Line → Follow → Type 0
 TakesFirst (L.Start p) next = next ≡ started p
-TakesFirst L.Open next = ⊥
+TakesFirst (L.Open mirrored) next = ⊥
 TakesFirst (L.Note note) next = ⊥
 TakesFirst L.Bad next = ⊥
 

@@ -55,6 +55,17 @@ fn params_of(bytes: &[u8]) -> Option<Params>
     }
 }
 
+// The line of a run with a mirror, whose letter and blank stand before these bytes.
+fn mirrored_of(rest: &[u8]) -> Option<Line>
+    ensures found { IfSome result (λ line. IsLineSpelled line (79 ∷ 32 ∷ rest.now)) }
+    ensures only { (line : Line) → IsLineSpelled line (79 ∷ 32 ∷ rest.now) → result ≡ Some line }
+{
+    match rest {
+        [b'M'] => Some(Line::Open { mirrored: true }),
+        _ => None,
+    }
+}
+
 // The line with this letter and these bytes behind the blank.
 fn lettered(letter: u8, rest: &[u8]) -> Option<Line>
     ensures found { IfSome result (λ line. IsLineSpelled line (letter ∷ 32 ∷ rest.now)) }
@@ -66,6 +77,9 @@ fn lettered(letter: u8, rest: &[u8]) -> Option<Line>
             Some(p) => Some(Line::Start(p)),
             None => None,
         };
+    }
+    if letter == b'O' {
+        return mirrored_of(rest);
     }
     let number = number_of(rest)?;
     match letter {
@@ -82,7 +96,7 @@ fn line_in(bytes: &[u8]) -> Option<Line>
         → result ≡ Some line }
 {
     match bytes {
-        [b'O'] => Some(Line::Open),
+        [b'O'] => Some(Line::Open { mirrored: false }),
         [b'S'] => Some(Line::Note(Note::Sync)),
         [letter, b' ', rest @ ..] => lettered(*letter, rest),
         _ => None,
