@@ -8,7 +8,7 @@ use Rattle.ob_base.specs.declared.params.Params.{Params}
 use Rattle.ob_base.specs.Layout.{GenerationTwin, EpochTwin, LogArea}
 use Rattle.ob_store.specs.declared.watch.Note.{Note}
 use Rattle.ob_store.specs.declared.watch.Note.TheVariants.{Sync}
-use Rattle.ob_schedule.specs.Schedule.{check_cells, format_notes, head_notes, reads_of, region_cells, set_twin}
+use Rattle.ob_schedule.specs.Schedule.{check_cells, first_reads, format_notes, head_notes, reads_of, region_cells, set_twin}
 use Rattle.ob_schedule.specs.declared.line.Line.{Line}
 use Rattle.ob_schedule.specs.declared.line.Line.TheVariants as L
 use Rattle.ob_schedule.specs.declared.want.Want.{Want}
@@ -16,8 +16,8 @@ use Rattle.ob_schedule.specs.Standing.{StandingKnown, standing_formatted}
 use Rattle.ob_schedule.specs.Wants.{kept}
 use Rattle.ob_schedule.specs.Follow.{Follow, taken_up, started, opened, opened_wants, format_wants}
 use Rattle.ob_histories.specs.Fills.{AllFills, AreAllFills, public_at}
-use Rattle.ob_histories.specs.Runs.{RunFound, HistoryRun, HistoryTurn, first_turn, next_turn, turn_behind, notes_of_turn, opening_reads, opening_step, notes_from, notes_shown, is_settled}
-use Rattle.ob_histories.specs.Histories.{IsTurnLeft, RunLeaves, MayFind, AreRunsBehind, found_formatted, lines_of_notes, run_lines, IsHistory, IsCutHistory, AreHistories}
+use Rattle.ob_histories.specs.Runs.{RunFound, HistoryRun, HeadRun, HistoryTurn, first_turn, next_turn, turn_behind, notes_of_turn, opening_reads, opening_step, notes_from, notes_shown, is_settled}
+use Rattle.ob_histories.specs.Histories.{IsTurnLeft, RunLeaves, MayFind, AreRunsBehind, found_formatted, lines_of_notes, run_lines, head_lines, IsHistory, IsCutHistory, AreHistories}
 use Rattle.ob_histories.specs.Laws.{TakesLines, AreAdmitted, HistoriesAreAdmitted}
 use Rattle.ob_histories.proofs.Walks.{Reach, reach_join, taken_join, Stops}
 use Rattle.ob_histories.proofs.Finding.{Stands, Allows}
@@ -38,48 +38,49 @@ module _ (p : Params) (f : AllFills) (all : AreAllFills p f) where
       let more = steps_taken n shown generation (next_turn p t) step.then step.known in
       (more.0, (reach_join (before p f t s) (before p f (next_turn p t) step.then) more.0 (notes_of_turn p f t) (notes_from p f (next_turn p t) n shown) step.whole more.1.0, more.1.1))
 
-  abbrev Taken : Follow → RunFound → ℕ → ℕ → Type 0
-  Taken h x steps shown =
-      (g : Follow) × (Reach (opened h) (notes_shown p f x steps shown) g
-      × ((y : RunFound) → (is_settled p f x steps shown ≡ true → RunLeaves p f x steps shown y → Stops p (Allows p f y) g) × (is_settled p f x steps shown ≡ false → Stops p (Allows p f y) h → Stops p (Allows p f y) g)))
+  abbrev Taken : Bool → Follow → RunFound → ℕ → ℕ → Type 0
+  Taken mirrored h x steps shown =
+      (g : Follow) × (Reach (opened mirrored h) (notes_shown p f mirrored x steps shown) g
+      × ((y : RunFound) → (is_settled p f mirrored x steps shown ≡ true → RunLeaves p f mirrored x steps shown y → Stops p (Allows p f y) g) × (is_settled p f mirrored x steps shown ≡ false → Stops p (Allows p f y) h → Stops p (Allows p f y) g)))
 
   abbrev ends : RunFound → List Note
   ends x = set_twin p GenerationTwin (suc x.generation) x.generation_gate
 
   -- the sync stands between an opening's reads and the setting
-  opening_long : (x : RunFound) → length (opening_step p f x) ≡ length (opening_reads p f x) + suc (length (ends x))
-  opening_long x =
+  opening_long : (mirrored : Bool) (x : RunFound) → length (opening_step p f mirrored x) ≡ length (opening_reads p f mirrored x) + suc (length (ends x))
+  opening_long mirrored x =
       let rest : List Note = reads_of (region_cells p GenerationTwin ++ region_cells p EpochTwin) ++ reads_of (check_cells p ((public_at p f x.epoch).epoch % 2)) ++ reads_of (region_cells p (LogArea (((public_at p f x.epoch).epoch + 1) % 2))) in
-      omega (arith, length-append (rest ++ (Sync ∷ [])) (ends x), length-append rest (Sync ∷ []))
+      let first : List Note = first_reads p mirrored in
+      omega (arith, length-append first ((rest ++ (Sync ∷ [])) ++ ends x), length-append first rest, length-append (rest ++ (Sync ∷ [])) (ends x), length-append rest (Sync ∷ []))
 
-  run_taken : (h : Follow) (x : RunFound) (steps shown : ℕ) → Stops p (Allows p f x) h → Taken h x steps shown
-  run_taken h x zero shown stops =
-      let open_walk = opens p f x h stops in
+  run_taken : (mirrored : Bool) (h : Follow) (x : RunFound) (steps shown : ℕ) → Stops p (Allows p f x) h → Taken mirrored h x steps shown
+  run_taken mirrored h x zero shown stops =
+      let open_walk = opens p f mirrored x h stops in
       let at = open_walk.1.1.stops shown in
-      let long = opening_long x in (
+      let long = opening_long mirrored x in (
         at.0,
         (
           at.1.0,
           λ y. (
-            (λ settled left. at.1.1.settled (let more : length (opening_reads p f x) < shown = ltb-true (length (opening_reads p f x)) shown settled in omega (arith, long, more)) y left),
-            (λ not_yet was. at.1.1.still (let few : shown ≤ length (opening_reads p f x) = ltb-false (length (opening_reads p f x)) shown not_yet in omega (arith, long, few)) y was),
+            (λ settled left. at.1.1.settled (let more : length (opening_reads p f mirrored x) < shown = ltb-true (length (opening_reads p f mirrored x)) shown settled in omega (arith, long, more)) y left),
+            (λ not_yet was. at.1.1.still (let few : shown ≤ length (opening_reads p f mirrored x) = ltb-false (length (opening_reads p f mirrored x)) shown not_yet in omega (arith, long, few)) y was),
           ),
         ),
       )
-  run_taken h x (suc n) shown stops =
-      let open_walk = opens p f x h stops in
+  run_taken mirrored h x (suc n) shown stops =
+      let open_walk = opens p f mirrored x h stops in
       let more = steps_taken n shown (suc x.generation) (first_turn x) open_walk.0 open_walk.1.0 in (
         more.0,
         (
-          reach_join (opened h) (before p f (first_turn x) open_walk.0) more.0 (opening_step p f x) (notes_from p f (first_turn x) n shown) open_walk.1.1.whole more.1.0,
+          reach_join (opened mirrored h) (before p f (first_turn x) open_walk.0) more.0 (opening_step p f mirrored x) (notes_from p f (first_turn x) n shown) open_walk.1.1.whole more.1.0,
           λ y. ((λ settled left. more.1.1 y (left.0, left.1) left.2), (λ not_yet was. absurd (let never : true ≡ false = not_yet in cc))),
         ),
       )
 
   -- ---- runs behind each other
 
-  next_may : (h g : Follow) (last : Option HistoryRun) (run : HistoryRun) (settled : Bool) → is_settled p f run.found run.steps run.shown ≡ settled → ((y : RunFound) → MayFind p f last y → Stops p (Allows p f y) h)
-      → ((y : RunFound) → (is_settled p f run.found run.steps run.shown ≡ true → RunLeaves p f run.found run.steps run.shown y → Stops p (Allows p f y) g) × (is_settled p f run.found run.steps run.shown ≡ false → Stops p (Allows p f y) h → Stops p (Allows p f y) g))
+  next_may : (h g : Follow) (last : Option HistoryRun) (run : HistoryRun) (settled : Bool) → is_settled p f run.mirrored run.found run.steps run.shown ≡ settled → ((y : RunFound) → MayFind p f last y → Stops p (Allows p f y) h)
+      → ((y : RunFound) → (is_settled p f run.mirrored run.found run.steps run.shown ≡ true → RunLeaves p f run.mirrored run.found run.steps run.shown y → Stops p (Allows p f y) g) × (is_settled p f run.mirrored run.found run.steps run.shown ≡ false → Stops p (Allows p f y) h → Stops p (Allows p f y) g))
       → (y : RunFound) → MayFind p f (cond settled (Some run) last) y → Stops p (Allows p f y) g
   next_may h g last run true is may told y found = (told y).0 is found
   next_may h g last run false is may told y found = (told y).1 is (may y found)
@@ -88,9 +89,9 @@ module _ (p : Params) (f : AllFills) (all : AreAllFills p f) where
       → (g : Follow) × TakesLines h (flat_map (run_lines p f) runs) g
   runs_taken h last [] may are = (h, refl)
   runs_taken h last (run ∷ runs) may are =
-      let one = run_taken h run.found run.steps run.shown (may run.found are.0) in
-      let more = runs_taken one.0 (cond (is_settled p f run.found run.steps run.shown) (Some run) last) runs (next_may h one.0 last run (is_settled p f run.found run.steps run.shown) refl may one.1.1) are.1 in
-      (more.0, taken_join h one.0 more.0 (run_lines p f run) (flat_map (run_lines p f) runs) (opened h, refl, one.1.0) more.1)
+      let one = run_taken run.mirrored h run.found run.steps run.shown (may run.found are.0) in
+      let more = runs_taken one.0 (cond (is_settled p f run.mirrored run.found run.steps run.shown) (Some run) last) runs (next_may h one.0 last run (is_settled p f run.mirrored run.found run.steps run.shown) refl may one.1.1) are.1 in
+      (more.0, taken_join h one.0 more.0 (run_lines p f run) (flat_map (run_lines p f) runs) (opened run.mirrored h, refl, one.1.0) more.1)
 
 -- ---- a format
 
@@ -145,25 +146,22 @@ format_found : (p : Params) (f : AllFills) (y : RunFound) → y ≡ found_format
 format_found p f y is = (refl, (refl, subst (λ (x : RunFound). Stands p f x standing_formatted) (sym is) (formatted_stands p f)))
 
 -- runs behind a cut format read the head at most
-pub cut_opened : (h : Follow) → h.formatted ≡ false → (g : Follow) → opened h ≡ record h { runs = false; holes = []; wants = kept head_notes }
-cut_opened h cut g = λ i. cond (cut i)
-    (record h { runs = true; chosen = false; batch = 0; leaves = []; holes = []; wants = opened_wants h.params h.stands h.newer }) (record h { runs = false; holes = []; wants = kept head_notes })
+pub cut_opened : (mirrored : Bool) (h : Follow) → h.formatted ≡ false → opened mirrored h ≡ record h { runs = false; holes = []; wants = kept head_notes }
+cut_opened mirrored h cut = λ i. cond (cut i)
+    (record h { runs = true; chosen = false; batch = 0; leaves = []; holes = []; wants = opened_wants h.params mirrored h.stands h.newer }) (record h { runs = false; holes = []; wants = kept head_notes })
 
 head_taken : (h : Follow) (n : ℕ) → h.formatted ≡ false → (g : Follow) × (Reach (record h { runs = false; holes = []; wants = kept head_notes }) (take n head_notes) g × (g.formatted ≡ false))
 head_taken h zero cut = (record h { runs = false; holes = []; wants = kept head_notes }, (refl, cut))
 head_taken h (suc zero) cut = (record h { runs = false; holes = []; wants = [] }, ((record h { runs = false; holes = []; wants = [] }, (refl, refl), refl), cut))
 head_taken h (suc (suc n)) cut = (record h { runs = false; holes = []; wants = [] }, ((record h { runs = false; holes = []; wants = [] }, (refl, refl), refl), cut))
 
-abbrev pub head_lines : ℕ → List Line
-head_lines head = L.Open ∷ lines_of_notes (take head head_notes)
-
-heads_taken : (h : Follow) (heads : List ℕ) → h.formatted ≡ false → (g : Follow) × TakesLines h (flat_map head_lines heads) g
+heads_taken : (h : Follow) (heads : List HeadRun) → h.formatted ≡ false → (g : Follow) × TakesLines h (flat_map head_lines heads) g
 heads_taken h [] cut = (h, refl)
 heads_taken h (head ∷ heads) cut =
-    let one = head_taken h head cut in
+    let one = head_taken h head.shown cut in
     let more = heads_taken one.0 heads one.1.1 in
-    let reach : Reach (opened h) (take head head_notes) one.0 = subst (λ (g : Follow). Reach g (take head head_notes) one.0) (sym (cut_opened h cut h)) one.1.0 in
-    (more.0, taken_join h one.0 more.0 (head_lines head) (flat_map head_lines heads) (opened h, refl, reach) more.1)
+    let reach : Reach (opened head.mirrored h) (take head.shown head_notes) one.0 = subst (λ (g : Follow). Reach g (take head.shown head_notes) one.0) (sym (cut_opened head.mirrored h cut)) one.1.0 in
+    (more.0, taken_join h one.0 more.0 (head_lines head) (flat_map head_lines heads) (opened head.mirrored h, refl, reach) more.1)
 
 -- ---- histories
 

@@ -8,7 +8,7 @@ use Rattle.ob_base.specs.declared.params.Params.{Params}
 use Rattle.ob_base.specs.Layout.{GenerationTwin, EpochTwin, LogArea, check_cell, checkpoint_cells}
 use Rattle.ob_store.specs.declared.watch.Note.{Note}
 use Rattle.ob_store.specs.declared.watch.Note.TheVariants.{Read, Sync}
-use Rattle.ob_schedule.specs.Schedule.{check_cells, head_notes, reads_of, region_cells, set_twin}
+use Rattle.ob_schedule.specs.Schedule.{check_cells, first_reads, reads_of, region_cells, set_twin}
 use Rattle.ob_schedule.specs.declared.want.Side.{Side}
 use Rattle.ob_schedule.specs.declared.want.Gate.TheVariants.{Open}
 use Rattle.ob_schedule.specs.declared.want.Register.TheVariants.{Generation}
@@ -37,9 +37,9 @@ abbrev pub MayBe : ℕ → ℕ → StandingKnown → Option StandingKnown → Ru
 MayBe epoch generation s None x = Exactly epoch generation (rest_of s) x
 MayBe epoch generation s (Some newer) x = Exactly epoch generation (rest_of s) x ⊎ Exactly (suc epoch) generation (rest_of newer) x
 
-module _ (p : Params) (f : AllFills) (all : AreAllFills p f) (epoch generation : ℕ) (h : Follow) (good : Good p f epoch generation h) where
+module _ (p : Params) (f : AllFills) (all : AreAllFills p f) (mirrored : Bool) (epoch generation : ℕ) (h : Follow) (good : Good p f epoch generation h) where
   abbrev opening : Bool → List Want → Follow
-  opening chosen wants = op p f found_formatted h good.0 good.1.0 chosen wants
+  opening chosen wants = op p f mirrored found_formatted h good.0 good.1.0 chosen wants
 
   -- a run that may have been, and what it leaves
   pub record Runs (ms : List Note) (y z : RunFound) : Type 0 where
@@ -47,30 +47,30 @@ module _ (p : Params) (f : AllFills) (all : AreAllFills p f) (epoch generation :
     pub steps : ℕ
     pub shown : ℕ
     pub may : MayBe epoch generation h.stands h.newer found
-    pub are : ms ≡ notes_shown p f found steps shown
-    pub leaves : ((is_settled p f found steps shown ≡ true) × (RunLeaves p f found steps shown y × RunLeaves p f found steps shown z))
-        ⊎ ((is_settled p f found steps shown ≡ false) × (((found ≡ y) ⊎ (found ≡ z)) × Behind p f epoch generation h.stands h.newer y z))
+    pub are : ms ≡ notes_shown p f mirrored found steps shown
+    pub leaves : ((is_settled p f mirrored found steps shown ≡ true) × (RunLeaves p f mirrored found steps shown y × RunLeaves p f mirrored found steps shown z))
+        ⊎ ((is_settled p f mirrored found steps shown ≡ false) × (((found ≡ y) ⊎ (found ≡ z)) × Behind p f epoch generation h.stands h.newer y z))
 
   abbrev ends : RunFound → List Note
   ends x = set_twin p GenerationTwin (suc x.generation) x.generation_gate
 
-  split_step : (x : RunFound) → opening_step p f x ≡ opening_reads p f x ++ Sync ∷ ends x
+  split_step : (x : RunFound) → opening_step p f mirrored x ≡ opening_reads p f mirrored x ++ Sync ∷ ends x
   split_step x =
       let reads : List Note = reads_of (region_cells p GenerationTwin ++ region_cells p EpochTwin) ++ reads_of (check_cells p ((public_at p f x.epoch).epoch % 2)) ++ reads_of (region_cells p (LogArea (((public_at p f x.epoch).epoch + 1) % 2))) in
-      ap (λ (ns : List Note). Read 0 ∷ ns) (append_assoc reads (Sync ∷ []) (ends x))
+      ap (λ (ns : List Note). first_reads p mirrored ++ ns) (append_assoc reads (Sync ∷ []) (ends x)) ∙ sym (append_assoc (first_reads p mirrored) reads (Sync ∷ ends x))
 
   -- before the first sync nothing is settled
-  unsettled : (x : RunFound) (ms rest : List Note) → MayBe epoch generation h.stands h.newer x → ms ++ rest ≡ opening_reads p f x → (y z : RunFound) → ((x ≡ y) ⊎ (x ≡ z)) → Behind p f epoch generation h.stands h.newer y z → Runs ms y z
+  unsettled : (x : RunFound) (ms rest : List Note) → MayBe epoch generation h.stands h.newer x → ms ++ rest ≡ opening_reads p f mirrored x → (y z : RunFound) → ((x ≡ y) ⊎ (x ≡ z)) → Behind p f epoch generation h.stands h.newer y z → Runs ms y z
   unsettled x ms rest may front y z same behind =
-      let whole : ms ++ (rest ++ Sync ∷ ends x) ≡ opening_step p f x = sym (append_assoc ms rest (Sync ∷ ends x)) ∙ ap (λ (ns : List Note). ns ++ Sync ∷ ends x) front ∙ sym (split_step x) in
-      let short : length ms ≤ length (opening_reads p f x) = omega (arith, ap (length {A = Note}) front, length-append ms rest) in
+      let whole : ms ++ (rest ++ Sync ∷ ends x) ≡ opening_step p f mirrored x = sym (append_assoc ms rest (Sync ∷ ends x)) ∙ ap (λ (ns : List Note). ns ++ Sync ∷ ends x) front ∙ sym (split_step x) in
+      let short : length ms ≤ length (opening_reads p f mirrored x) = omega (arith, ap (length {A = Note}) front, length-append ms rest) in
       record {
         found = x;
         steps = 0;
         shown = length ms;
         may = may;
         are = sym (subst (λ (ns : List Note). take (length ms) ns ≡ ms) whole (is_front ms (rest ++ Sync ∷ ends x)));
-        leaves = inr (le-ltb (length (opening_reads p f x)) (length ms) short, (same, behind));
+        leaves = inr (le-ltb (length (opening_reads p f mirrored x)) (length ms) short, (same, behind));
       }
 
   -- ---- what is found
@@ -81,13 +81,13 @@ module _ (p : Params) (f : AllFills) (all : AreAllFills p f) (epoch generation :
     found_by records generation_gate epoch_gate = record { epoch = at_epoch; generation = generation; records = records; generation_gate = generation_gate; epoch_gate = epoch_gate }
 
     abbrev reads : List Note
-    reads = opening_reads p f (found_by 0 false false)
+    reads = opening_reads p f mirrored (found_by 0 false false)
 
     abbrev set_wants : List Want
     set_wants = sets p Generation (other z0.generation) z0.generation_gate
 
-    same_reads : (x : RunFound) → x.epoch ≡ at_epoch → reads ≡ opening_reads p f x
-    same_reads x is = ap (λ (n : ℕ). opening_reads p f (record { epoch = n; generation = generation; records = 0; generation_gate = false; epoch_gate = false })) (sym is)
+    same_reads : (x : RunFound) → x.epoch ≡ at_epoch → reads ≡ opening_reads p f mirrored x
+    same_reads x is = ap (λ (n : ℕ). opening_reads p f mirrored (record { epoch = n; generation = generation; records = 0; generation_gate = false; epoch_gate = false })) (sym is)
 
     stop_reads : (chosen : Bool) (ws : List Want) (ms rest : List Note) → ms ++ rest ≡ reads → Result p f epoch (opening chosen ws) Runs ms
     stop_reads chosen ws ms rest front = (
@@ -111,10 +111,10 @@ module _ (p : Params) (f : AllFills) (all : AreAllFills p f) (epoch generation :
         by (suc n) lacks = λ y but left.
             (let x : RunFound = found_by y.records was y.epoch_gate in
             let shows : List Note = reads ++ Sync ∷ ms in
-            let whole : shows ++ rest ≡ opening_step p f x = append_assoc reads (Sync ∷ ms) rest ∙ ap (λ (ns : List Note). reads ++ Sync ∷ ns) front ∙ sym (split_step x) in
-            let less : suc n ≡ length (opening_step p f x) - length shows = omega (arith, lacks, sym (ap (length {A = Note}) whole), length-append shows rest) in
+            let whole : shows ++ rest ≡ opening_step p f mirrored x = append_assoc reads (Sync ∷ ms) rest ∙ ap (λ (ns : List Note). reads ++ Sync ∷ ns) front ∙ sym (split_step x) in
+            let less : suc n ≡ length (opening_step p f mirrored x) - length shows = omega (arith, lacks, sym (ap (length {A = Note}) whole), length-append shows rest) in
             let long : length reads < length shows = omega (arith, length-append reads (Sync ∷ ms)) in
-            let leaves : RunLeaves p f x 0 (length shows) y = subst (λ (k : ℕ). IsOpeningLeft x k y) less (but.at_epoch, refl, refl, (but.of_generation, left)) in
+            let leaves : RunLeaves p f mirrored x 0 (length shows) y = subst (λ (k : ℕ). IsOpeningLeft x k y) less (but.at_epoch, refl, refl, (but.of_generation, left)) in
             record {
               found = x;
               steps = 0;
@@ -173,8 +173,11 @@ module _ (p : Params) (f : AllFills) (all : AreAllFills p f) (epoch generation :
     abbrev logs : List Note
     logs = reads_of (region_cells p (LogArea (side_number (other z0.epoch))))
 
+    abbrev register_reads : List Note
+    register_reads = reads_of (region_cells p GenerationTwin ++ region_cells p EpochTwin)
+
     abbrev registers : List Note
-    registers = head_notes ++ reads_of (region_cells p GenerationTwin ++ region_cells p EpochTwin)
+    registers = first_reads p mirrored ++ register_reads
 
     same_area : side_number z0.epoch ≡ (public_at p f at_epoch).epoch % 2
     same_area = sure.0.side ∙ ap (λ (n : ℕ). n % 2) (sym (epoch_at p f at_epoch))
@@ -185,7 +188,8 @@ module _ (p : Params) (f : AllFills) (all : AreAllFills p f) (epoch generation :
     are_reads : registers ++ (checks 0 (checkpoint_cells p) ++ logs) ≡ reads
     are_reads =
         (λ i. registers ++ (reads_of (check_cells p (same_area i)) ++ reads_of (region_cells p (LogArea (same_next i)))))
-        ∙ sym (append_assoc registers (reads_of (check_cells p ((public_at p f at_epoch).epoch % 2))) (reads_of (region_cells p (LogArea (((public_at p f at_epoch).epoch + 1) % 2)))))
+        ∙ append_assoc (first_reads p mirrored) register_reads (reads_of (check_cells p ((public_at p f at_epoch).epoch % 2)) ++ reads_of (region_cells p (LogArea (((public_at p f at_epoch).epoch + 1) % 2))))
+        ∙ ap (λ (ns : List Note). first_reads p mirrored ++ ns) (sym (append_assoc register_reads (reads_of (check_cells p ((public_at p f at_epoch).epoch % 2))) (reads_of (region_cells p (LogArea (((public_at p f at_epoch).epoch + 1) % 2))))))
 
     abbrev less : ℕ
     less = checkpoint_cells p - 1
@@ -206,11 +210,11 @@ module _ (p : Params) (f : AllFills) (all : AreAllFills p f) (epoch generation :
     with_first = ap (λ (n : ℕ). registers ++ (checks 0 n ++ logs)) (sym all_checks) ∙ are_reads
 
     -- what stands is sure
-    conv_sure : (most : ℕ) → h.newer ≡ None → h.stands ≡ z0 → at_epoch ≡ epoch → Conv p f most epoch (opened h) Runs
+    conv_sure : (most : ℕ) → h.newer ≡ None → h.stands ≡ z0 → at_epoch ≡ epoch → Conv p f most epoch (opened mirrored h) Runs
     conv_sure most none is same =
         let found_reads : List Note = checks 0 (checkpoint_cells p) ++ logs in
-        let wants : opened_wants p h.stands h.newer ≡ kept registers ++ (kept found_reads ++ Fixed Sync Settles ∷ set_wants) = (λ i. opened_wants p (is i) (none i)) in
-        subst (λ (g : Follow). Conv p f most epoch g Runs) (sym (opened_is p f found_formatted h good.0 good.1.0 ∙ ap (opening false) wants))
+        let wants : opened_wants p mirrored h.stands h.newer ≡ kept registers ++ (kept found_reads ++ Fixed Sync Settles ∷ set_wants) = (λ i. opened_wants p mirrored (is i) (none i)) in
+        subst (λ (g : Follow). Conv p f most epoch g Runs) (sym (opened_is p f mirrored found_formatted h good.0 good.1.0 ∙ ap (opening false) wants))
         (conv_kept p f most epoch (opening false []) registers (kept found_reads ++ Fixed Sync Settles ∷ set_wants) Runs
         (λ ms rest front some. stop_reads false [] ms (rest ++ found_reads) (sym (append_assoc ms rest found_reads) ∙ ap (λ (ns : List Note). ns ++ found_reads) front ∙ are_reads))
         (conv_found most false registers found_reads are_reads is (sym same)))
@@ -225,7 +229,7 @@ module _ (p : Params) (f : AllFills) (all : AreAllFills p f) (epoch generation :
 
   -- ---- either
 
-  conv_by : (most : ℕ) (newer : Option StandingKnown) → h.newer ≡ newer → Stood p f epoch generation h.stands newer → Conv p f most epoch (opened h) Runs
+  conv_by : (most : ℕ) (newer : Option StandingKnown) → h.newer ≡ newer → Stood p f epoch generation h.stands newer → Conv p f most epoch (opened mirrored h) Runs
   conv_by most None none sure =
       conv_sure epoch h.stands sure (λ x is. subst (λ (o : Option StandingKnown). MayBe epoch generation h.stands o x) (sym none) is)
       (λ y z behind. (let only = subst (λ (o : Option StandingKnown). Behind p f epoch generation h.stands o y z) none behind in (y, (only.0, inl refl)))) most none refl refl
@@ -242,11 +246,11 @@ module _ (p : Params) (f : AllFills) (all : AreAllFills p f) (epoch generation :
       let second : Note = first_check (suc epoch) newer newer_sure newer_tells newer_pick in
       let behind_first : List Note = first ∷ more_reads epoch older older_sure older_tells older_pick in
       let whole : regs ++ behind_first ≡ reads epoch older older_sure older_tells older_pick = with_first epoch older older_sure older_tells older_pick in
-      let wants : opened_wants p h.stands h.newer ≡ kept regs ++ Checkpoint ∷ [] = ap (opened_wants p h.stands) some in
+      let wants : opened_wants p mirrored h.stands h.newer ≡ kept regs ++ Checkpoint ∷ [] = ap (opened_wants p mirrored h.stands) some in
       let g : Follow = opening false (Checkpoint ∷ []) in
       let chosen : newer_or_same h.stands h.newer ≡ newer = ap (newer_or_same h.stands) some in
       let one_of : OneOf p f epoch g first (taken_up (opening false (drop 1 (found_wants p older)))) second (taken_up (opening true (drop 1 (found_wants p newer)))) = either newer some turned in
-      subst (λ (k : Follow). Conv p f most epoch k Runs) (sym (opened_is p f found_formatted h good.0 good.1.0 ∙ ap (opening false) wants))
+      subst (λ (k : Follow). Conv p f most epoch k Runs) (sym (opened_is p f mirrored found_formatted h good.0 good.1.0 ∙ ap (opening false) wants))
       (conv_kept p f most epoch (opening false []) regs (Checkpoint ∷ []) Runs
       (λ ms rest front more. stop_reads epoch older older_sure older_tells older_pick false [] ms (rest ++ behind_first) (sym (append_assoc ms rest behind_first) ∙ ap (λ (ns : List Note). ns ++ behind_first) front ∙ whole))
       (conv_either p f most epoch g (taken_up (opening false (drop 1 (found_wants p older)))) (taken_up (opening true (drop 1 (found_wants p newer)))) first second (λ ms y z. Runs (regs ++ ms) y z) one_of
@@ -260,5 +264,5 @@ module _ (p : Params) (f : AllFills) (all : AreAllFills p f) (epoch generation :
       either newer some turned given k (inr is) filled =
           inr (is.is ∙ ap (λ (side : Side). Read (check_cell p (side_number side) 0)) (sym turned), is.then ∙ (λ i. taken_up (opening true (drop 1 (found_wants p (newer_or_same h.stands (some i)))))))
 
-  pub conv_opening : (most : ℕ) → Conv p f most epoch (opened h) Runs
+  pub conv_opening : (most : ℕ) → Conv p f most epoch (opened mirrored h) Runs
   conv_opening most = conv_by most h.newer refl good.1.1

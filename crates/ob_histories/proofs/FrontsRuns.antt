@@ -14,13 +14,13 @@ use Rattle.ob_schedule.specs.declared.want.Gate.TheVariants.{Open, Closed, Unsur
 use Rattle.ob_schedule.specs.Standing.{StandingKnown, standing_formatted}
 use Rattle.ob_schedule.specs.Follow.{Follow, TakesLine, taken_up, started, opened, format_wants}
 use Rattle.ob_histories.specs.Fills.{AllFills, AreAllFills}
-use Rattle.ob_histories.specs.Runs.{RunFound, HistoryRun, is_settled}
-use Rattle.ob_histories.specs.Histories.{RunLeaves, MayFind, AreRunsBehind, found_formatted, lines_of_notes, run_lines, IsHistory, IsCutHistory}
+use Rattle.ob_histories.specs.Runs.{RunFound, HistoryRun, HeadRun, is_settled}
+use Rattle.ob_histories.specs.Histories.{RunLeaves, MayFind, AreRunsBehind, found_formatted, lines_of_notes, run_lines, head_lines, IsHistory, IsCutHistory}
 use Rattle.ob_histories.specs.Laws.{FilledAreHistories}
 use Rattle.ob_histories.specs.Filled.{epoch_behind, TakesFilled}
 use Rattle.ob_histories.proofs.Places.{rest_of}
 use Rattle.ob_histories.proofs.Finding.{GateMay}
-use Rattle.ob_histories.proofs.Admitting.{formatting, formatted_stands, cut_opened, head_lines}
+use Rattle.ob_histories.proofs.Admitting.{formatting, formatted_stands, cut_opened}
 use Rattle.ob_histories.proofs.Fronts.{Rest, Exactly, Good, Behind, Takes}
 use Rattle.ob_histories.proofs.FrontsTurns.{may_one}
 use Rattle.ob_histories.proofs.FrontsOpenings.{MayBe, Runs, conv_opening}
@@ -28,7 +28,7 @@ use Rattle.ob_histories.proofs.FrontsOpenings.{MayBe, Runs, conv_opening}
 -- no line, or a run's first
 abbrev IsStopped : List Line → Type 0
 IsStopped [] = Unit {0}
-IsStopped (L.Open ∷ lines) = Unit {0}
+IsStopped (L.Open mirrored ∷ lines) = Unit {0}
 IsStopped (L.Start p ∷ lines) = ⊥
 IsStopped (L.Note note ∷ lines) = ⊥
 IsStopped (L.Bad ∷ lines) = ⊥
@@ -60,7 +60,7 @@ module _ (p : Params) (f : AllFills) (all : AreAllFills p f) where
 
   split : (epoch : ℕ) (known : Follow) (lines : List Line) → TakesFilled p f epoch known lines → Split epoch known lines
   split epoch known [] taken = record { notes = []; rest = []; then = known; epoch_then = epoch; are = refl; taken = (refl, refl); more = tt; stopped = tt }
-  split epoch known (L.Open ∷ lines) taken = record { notes = []; rest = L.Open ∷ lines; then = known; epoch_then = epoch; are = refl; taken = (refl, refl); more = taken; stopped = tt }
+  split epoch known (L.Open mirrored ∷ lines) taken = record { notes = []; rest = L.Open mirrored ∷ lines; then = known; epoch_then = epoch; are = refl; taken = (refl, refl); more = taken; stopped = tt }
   split epoch known (L.Start q ∷ lines) taken = absurd taken
   split epoch known (L.Bad ∷ lines) taken = absurd taken
   split epoch known (L.Note note ∷ lines) (next, takes, filled, taken) =
@@ -98,39 +98,39 @@ module _ (p : Params) (f : AllFills) (all : AreAllFills p f) where
   found_either last x y z (inl same) one two = subst (λ (v : RunFound). MayFind p f last v) (sym same) one
   found_either last x y z (inr same) one two = subst (λ (v : RunFound). MayFind p f last v) (sym same) two
 
-  one_run : (epoch generation : ℕ) (h : Follow) (good : Good p f epoch generation h) (ms : List Note) (lines rest : List Line) (epoch_then generation_then : ℕ) (k : Follow) → lines ≡ lines_of_notes ms ++ rest
-      → (more : RunsFrom epoch_then generation_then k rest) → Runs p f all epoch generation h good ms more.y more.z → RunsFrom epoch generation h (L.Open ∷ lines)
-  one_run epoch generation h good ms lines rest epoch_then generation_then k are more run = go run.leaves
+  one_run : (mirrored : Bool) (epoch generation : ℕ) (h : Follow) (good : Good p f epoch generation h) (ms : List Note) (lines rest : List Line) (epoch_then generation_then : ℕ) (k : Follow) → lines ≡ lines_of_notes ms ++ rest
+      → (more : RunsFrom epoch_then generation_then k rest) → Runs p f all mirrored epoch generation h good ms more.y more.z → RunsFrom epoch generation h (L.Open mirrored ∷ lines)
+  one_run mirrored epoch generation h good ms lines rest epoch_then generation_then k are more run = go run.leaves
     where
       this : HistoryRun
-      this = record { found = run.found; steps = run.steps; shown = run.shown }
+      this = record { mirrored = mirrored; found = run.found; steps = run.steps; shown = run.shown }
 
-      all_lines : L.Open ∷ lines ≡ flat_map (run_lines p f) (record { found = run.found; steps = run.steps; shown = run.shown } ∷ more.runs)
-      all_lines = ap (λ (ls : List Line). L.Open ∷ ls) (are ∙ (λ i. lines_of_notes (run.are i) ++ more.are i))
+      all_lines : L.Open mirrored ∷ lines ≡ flat_map (run_lines p f) (record { mirrored = mirrored; found = run.found; steps = run.steps; shown = run.shown } ∷ more.runs)
+      all_lines = ap (λ (ls : List Line). L.Open mirrored ∷ ls) (are ∙ (λ i. lines_of_notes (run.are i) ++ more.are i))
 
-      go : (((is_settled p f run.found run.steps run.shown ≡ true) × (RunLeaves p f run.found run.steps run.shown more.y × RunLeaves p f run.found run.steps run.shown more.z))
-          ⊎ ((is_settled p f run.found run.steps run.shown ≡ false) × (((run.found ≡ more.y) ⊎ (run.found ≡ more.z)) × Behind p f epoch generation h.stands h.newer more.y more.z))) → RunsFrom epoch generation h (L.Open ∷ lines)
+      go : (((is_settled p f mirrored run.found run.steps run.shown ≡ true) × (RunLeaves p f mirrored run.found run.steps run.shown more.y × RunLeaves p f mirrored run.found run.steps run.shown more.z))
+          ⊎ ((is_settled p f mirrored run.found run.steps run.shown ≡ false) × (((run.found ≡ more.y) ⊎ (run.found ≡ more.z)) × Behind p f epoch generation h.stands h.newer more.y more.z))) → RunsFrom epoch generation h (L.Open mirrored ∷ lines)
       go (inl (settled, (one, two))) =
           (let pair = with_found epoch generation h.stands h.newer run.found run.may in record {
             y = pair.0;
             z = pair.1.0;
             behind = pair.1.1.0;
-            runs = record { found = run.found; steps = run.steps; shown = run.shown } ∷ more.runs;
+            runs = record { mirrored = mirrored; found = run.found; steps = run.steps; shown = run.shown } ∷ more.runs;
             are = all_lines;
             found = λ last a b. (
               found_either last run.found pair.0 pair.1.0 pair.1.1.1 a b,
-              subst (λ (c : Bool). AreRunsBehind p f (cond c (Some (record { found = run.found; steps = run.steps; shown = run.shown })) last) more.runs) (sym settled) (more.found (Some (record { found = run.found; steps = run.steps; shown = run.shown })) one two),
+              subst (λ (c : Bool). AreRunsBehind p f (cond c (Some (record { mirrored = mirrored; found = run.found; steps = run.steps; shown = run.shown })) last) more.runs) (sym settled) (more.found (Some (record { mirrored = mirrored; found = run.found; steps = run.steps; shown = run.shown })) one two),
             );
           })
       go (inr (not_yet, (same, behind))) = record {
         y = more.y;
         z = more.z;
         behind = behind;
-        runs = record { found = run.found; steps = run.steps; shown = run.shown } ∷ more.runs;
+        runs = record { mirrored = mirrored; found = run.found; steps = run.steps; shown = run.shown } ∷ more.runs;
         are = all_lines;
         found = λ last a b. (
           found_either last run.found more.y more.z same a b,
-          subst (λ (c : Bool). AreRunsBehind p f (cond c (Some (record { found = run.found; steps = run.steps; shown = run.shown })) last) more.runs) (sym not_yet) (more.found last a b),
+          subst (λ (c : Bool). AreRunsBehind p f (cond c (Some (record { mirrored = mirrored; found = run.found; steps = run.steps; shown = run.shown })) last) more.runs) (sym not_yet) (more.found last a b),
         );
       }
 
@@ -141,12 +141,12 @@ module _ (p : Params) (f : AllFills) (all : AreAllFills p f) where
   runs_from (suc most) epoch generation h (L.Start q ∷ lines) few good stopped taken = absurd stopped
   runs_from (suc most) epoch generation h (L.Note note ∷ lines) few good stopped taken = absurd stopped
   runs_from (suc most) epoch generation h (L.Bad ∷ lines) few good stopped taken = absurd stopped
-  runs_from (suc most) epoch generation h (L.Open ∷ lines) few good stopped taken =
-      let s = split epoch (opened h) lines taken in
-      let result = conv_opening p f all epoch generation h good (suc (length s.notes)) s.notes s.then s.epoch_then (omega arith) s.taken in
+  runs_from (suc most) epoch generation h (L.Open mirrored ∷ lines) few good stopped taken =
+      let s = split epoch (opened mirrored h) lines taken in
+      let result = conv_opening p f all mirrored epoch generation h good (suc (length s.notes)) s.notes s.then s.epoch_then (omega arith) s.taken in
       let fewer : length s.rest < most = omega (arith, few, ap (length {A = Line}) s.are, length-append (lines_of_notes s.notes) s.rest) in
       let more = runs_from most s.epoch_then result.0 s.then s.rest fewer result.1.0 s.stopped s.more in
-      one_run epoch generation h good s.notes lines s.rest s.epoch_then result.0 s.then s.are more (result.1.1 more.y more.z more.behind)
+      one_run mirrored epoch generation h good s.notes lines s.rest s.epoch_then result.0 s.then s.are more (result.1.1 more.y more.z more.behind)
 
   -- ---- a format
 
@@ -177,7 +177,7 @@ module _ (p : Params) (f : AllFills) (all : AreAllFills p f) where
 
   format_lines : (note : Note) (notes : List Note) (lines : List Line) → TakesFilled p f 0 (formatting p false (format_wants (note ∷ notes))) lines → Whole (note ∷ notes) lines ⊎ Cut (note ∷ notes) lines
   format_lines note notes [] taken = inr (cut_here note notes [] tt taken)
-  format_lines note notes (L.Open ∷ lines) taken = inr (cut_here note notes (L.Open ∷ lines) tt taken)
+  format_lines note notes (L.Open mirrored ∷ lines) taken = inr (cut_here note notes (L.Open mirrored ∷ lines) tt taken)
   format_lines note notes (L.Start q ∷ lines) taken = absurd taken
   format_lines note notes (L.Bad ∷ lines) taken = absurd taken
   format_lines note [] (L.Note x ∷ lines) (next, takes, filled, taken) = inl (lines, ((λ i. L.Note (takes.0 i) ∷ lines), subst (λ (g : Follow). TakesFilled p f 0 g lines) takes.1 taken))
@@ -187,7 +187,7 @@ module _ (p : Params) (f : AllFills) (all : AreAllFills p f) where
   -- behind a whole one a run begins
   whole_stopped : (lines : List Line) → TakesFilled p f 0 (formatting p true []) lines → IsStopped lines
   whole_stopped [] taken = tt
-  whole_stopped (L.Open ∷ lines) taken = tt
+  whole_stopped (L.Open mirrored ∷ lines) taken = tt
   whole_stopped (L.Start q ∷ lines) taken = absurd taken
   whole_stopped (L.Note x ∷ lines) (next, takes, filled, taken) = absurd takes
   whole_stopped (L.Bad ∷ lines) taken = absurd taken
@@ -202,31 +202,33 @@ module _ (p : Params) (f : AllFills) (all : AreAllFills p f) where
 
   -- ---- behind a cut one
 
-  still_cut : (k : Follow) → k.formatted ≡ false → (opened k).formatted ≡ false
-  still_cut k cut = ap (λ (g : Follow). g.formatted) (cut_opened k cut k) ∙ cut
+  still_cut : (mirrored : Bool) (k : Follow) → k.formatted ≡ false → (opened mirrored k).formatted ≡ false
+  still_cut mirrored k cut = ap (λ (g : Follow). g.formatted) (cut_opened mirrored k cut) ∙ cut
 
-  head_taken : (k next : Follow) (x : Note) → k.formatted ≡ false → TakesLine (opened k) (L.Note x) next → (x ≡ Read 0) × (next ≡ record k { runs = false; holes = []; wants = [] })
-  head_taken k next x cut takes = subst (λ (g : Follow). TakesLine g (L.Note x) next) (cut_opened k cut k) takes
+  head_taken : (mirrored : Bool) (k next : Follow) (x : Note) → k.formatted ≡ false → TakesLine (opened mirrored k) (L.Note x) next → (x ≡ Read 0) × (next ≡ record k { runs = false; holes = []; wants = [] })
+  head_taken mirrored k next x cut takes = subst (λ (g : Follow). TakesLine g (L.Note x) next) (cut_opened mirrored k cut) takes
 
-  heads_of : (epoch : ℕ) (k : Follow) (lines : List Line) → k.formatted ≡ false → IsStopped lines → TakesFilled p f epoch k lines → (heads : List ℕ) × (lines ≡ flat_map head_lines heads)
+  heads_of : (epoch : ℕ) (k : Follow) (lines : List Line) → k.formatted ≡ false → IsStopped lines → TakesFilled p f epoch k lines → (heads : List HeadRun) × (lines ≡ flat_map head_lines heads)
   heads_of epoch k [] cut stopped taken = ([], refl)
   heads_of epoch k (L.Start q ∷ lines) cut stopped taken = absurd stopped
   heads_of epoch k (L.Note x ∷ lines) cut stopped taken = absurd stopped
   heads_of epoch k (L.Bad ∷ lines) cut stopped taken = absurd stopped
-  heads_of epoch k (L.Open ∷ []) cut stopped taken = (0 ∷ [], refl)
-  heads_of epoch k (L.Open ∷ L.Open ∷ lines) cut stopped taken =
-      let more = heads_of epoch (opened k) (L.Open ∷ lines) (still_cut k cut) tt taken in (0 ∷ more.0, ap (λ (ls : List Line). L.Open ∷ ls) more.1)
-  heads_of epoch k (L.Open ∷ L.Start q ∷ lines) cut stopped taken = absurd taken
-  heads_of epoch k (L.Open ∷ L.Bad ∷ lines) cut stopped taken = absurd taken
-  heads_of epoch k (L.Open ∷ L.Note x ∷ []) cut stopped (next, takes, filled, taken) = (1 ∷ [], ap (λ (n : Note). L.Open ∷ L.Note n ∷ []) (head_taken k next x cut takes).0)
-  heads_of epoch k (L.Open ∷ L.Note x ∷ L.Open ∷ lines) cut stopped (next, takes, filled, taken) =
-      let is = head_taken k next x cut takes in
-      let more = heads_of (epoch_behind (opened k) epoch) next (L.Open ∷ lines) (ap (λ (g : Follow). g.formatted) is.1 ∙ cut) tt taken in
-      (1 ∷ more.0, (λ i. L.Open ∷ L.Note (is.0 i) ∷ more.1 i))
-  heads_of epoch k (L.Open ∷ L.Note x ∷ L.Start q ∷ lines) cut stopped (next, takes, filled, taken) = absurd taken
-  heads_of epoch k (L.Open ∷ L.Note x ∷ L.Bad ∷ lines) cut stopped (next, takes, filled, taken) = absurd taken
-  heads_of epoch k (L.Open ∷ L.Note x ∷ L.Note w ∷ lines) cut stopped (next, takes, filled, (far, takes_then, filled_then, taken)) =
-      let is = head_taken k next x cut takes in absurd (subst (λ (g : Follow). TakesLine g (L.Note w) far) is.1 takes_then)
+  heads_of epoch k (L.Open mirrored ∷ []) cut stopped taken = (record { mirrored = mirrored; shown = 0 } ∷ [], refl)
+  heads_of epoch k (L.Open mirrored ∷ L.Open after ∷ lines) cut stopped taken =
+      let more = heads_of epoch (opened mirrored k) (L.Open after ∷ lines) (still_cut mirrored k cut) tt taken in
+      (record { mirrored = mirrored; shown = 0 } ∷ more.0, ap (λ (ls : List Line). L.Open mirrored ∷ ls) more.1)
+  heads_of epoch k (L.Open mirrored ∷ L.Start q ∷ lines) cut stopped taken = absurd taken
+  heads_of epoch k (L.Open mirrored ∷ L.Bad ∷ lines) cut stopped taken = absurd taken
+  heads_of epoch k (L.Open mirrored ∷ L.Note x ∷ []) cut stopped (next, takes, filled, taken) =
+      (record { mirrored = mirrored; shown = 1 } ∷ [], ap (λ (n : Note). L.Open mirrored ∷ L.Note n ∷ []) (head_taken mirrored k next x cut takes).0)
+  heads_of epoch k (L.Open mirrored ∷ L.Note x ∷ L.Open after ∷ lines) cut stopped (next, takes, filled, taken) =
+      let is = head_taken mirrored k next x cut takes in
+      let more = heads_of (epoch_behind (opened mirrored k) epoch) next (L.Open after ∷ lines) (ap (λ (g : Follow). g.formatted) is.1 ∙ cut) tt taken in
+      (record { mirrored = mirrored; shown = 1 } ∷ more.0, (λ i. L.Open mirrored ∷ L.Note (is.0 i) ∷ more.1 i))
+  heads_of epoch k (L.Open mirrored ∷ L.Note x ∷ L.Start q ∷ lines) cut stopped (next, takes, filled, taken) = absurd taken
+  heads_of epoch k (L.Open mirrored ∷ L.Note x ∷ L.Bad ∷ lines) cut stopped (next, takes, filled, taken) = absurd taken
+  heads_of epoch k (L.Open mirrored ∷ L.Note x ∷ L.Note w ∷ lines) cut stopped (next, takes, filled, (far, takes_then, filled_then, taken)) =
+      let is = head_taken mirrored k next x cut takes in absurd (subst (λ (g : Follow). TakesLine g (L.Note w) far) is.1 takes_then)
 
   -- ---- all of it
 

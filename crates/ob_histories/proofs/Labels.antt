@@ -10,7 +10,7 @@ use Rattle.ob_base.specs.Layout.{GenerationTwin, EpochTwin, LogArea, log_cell, l
 use Rattle.ob_store.specs.declared.watch.Note.{Note}
 use Rattle.ob_store.specs.declared.watch.Note.TheVariants.{Label, Write, Sync}
 use Rattle.ob_schedule.specs.Holes.{Hole}
-use Rattle.ob_schedule.specs.Schedule.{format_notes, head_notes, reads_of, writes_of, check_cells, region_cells, log_gates}
+use Rattle.ob_schedule.specs.Schedule.{first_reads, format_notes, head_notes, reads_of, writes_of, check_cells, region_cells, log_gates}
 use Rattle.ob_schedule.specs.declared.line.Line.{Line}
 use Rattle.ob_schedule.specs.declared.line.Line.TheVariants as L
 use Rattle.ob_schedule.specs.declared.want.Gate.{Gate}
@@ -486,23 +486,23 @@ module _ (p : Params) where
         go [] [] same ok takes = absurd takes
 
   -- a run begins
-  opening_labelled : (leaf : Leaves) (epoch : ℕ) (k : Follow) → Labelled p leaf epoch k → Labelled p leaf epoch (opened k)
-  opening_labelled leaf epoch k is = go k.formatted
+  opening_labelled : (leaf : Leaves) (epoch : ℕ) (mirrored : Bool) (k : Follow) → Labelled p leaf epoch k → Labelled p leaf epoch (opened mirrored k)
+  opening_labelled leaf epoch mirrored k is = go k.formatted
     where
-      all_wants : (o : Option StandingKnown) → WantsOk 0 k.stands.logged (opened_wants k.params k.stands o)
-      all_wants (Some newer) = kept_ok 0 k.stands.logged (head_notes ++ reads_of (region_cells k.params GenerationTwin ++ region_cells k.params EpochTwin)) (Checkpoint ∷ []) refl
-      all_wants None = kept_ok 0 k.stands.logged (head_notes ++ reads_of (region_cells k.params GenerationTwin ++ region_cells k.params EpochTwin)) (found_wants k.params k.stands)
+      all_wants : (o : Option StandingKnown) → WantsOk 0 k.stands.logged (opened_wants k.params mirrored k.stands o)
+      all_wants (Some newer) = kept_ok 0 k.stands.logged (first_reads k.params mirrored ++ reads_of (region_cells k.params GenerationTwin ++ region_cells k.params EpochTwin)) (Checkpoint ∷ []) refl
+      all_wants None = kept_ok 0 k.stands.logged (first_reads k.params mirrored ++ reads_of (region_cells k.params GenerationTwin ++ region_cells k.params EpochTwin)) (found_wants k.params k.stands)
           (kept_ok 0 k.stands.logged (reads_of (check_cells k.params (side_number k.stands.epoch)) ++ reads_of (region_cells k.params (LogArea (side_number (other k.stands.epoch)))))
           (Fixed Sync Settles ∷ sets k.params Generation (other k.stands.generation) k.stands.generation_gate) (generation_plain k.params (other k.stands.generation) k.stands.generation_gate))
 
-      go : (b : Bool) → Labelled p leaf epoch (cond b (record k { runs = true; chosen = false; batch = 0; leaves = []; holes = []; wants = opened_wants k.params k.stands k.newer }) (record k { runs = false; holes = []; wants = kept head_notes }))
+      go : (b : Bool) → Labelled p leaf epoch (cond b (record k { runs = true; chosen = false; batch = 0; leaves = []; holes = []; wants = opened_wants k.params mirrored k.stands k.newer }) (record k { runs = false; holes = []; wants = kept head_notes }))
       go true = record { params = is.params; known = is.known; logged = is.logged; newer = is.newer; wants = all_wants k.newer }
       go false = record { params = is.params; known = is.known; logged = is.logged; newer = is.newer; wants = tt }
 
-  pub opening_stands : (k : Follow) → (opened k).stands ≡ k.stands
-  opening_stands k = go k.formatted
+  pub opening_stands : (mirrored : Bool) (k : Follow) → (opened mirrored k).stands ≡ k.stands
+  opening_stands mirrored k = go k.formatted
     where
-      go : (b : Bool) → (cond b (record k { runs = true; chosen = false; batch = 0; leaves = []; holes = []; wants = opened_wants k.params k.stands k.newer }) (record k { runs = false; holes = []; wants = kept head_notes })).stands ≡ k.stands
+      go : (b : Bool) → (cond b (record k { runs = true; chosen = false; batch = 0; leaves = []; holes = []; wants = opened_wants k.params mirrored k.stands k.newer }) (record k { runs = false; holes = []; wants = kept head_notes })).stands ≡ k.stands
       go true = refl
       go false = refl
 
@@ -525,9 +525,9 @@ module _ (p : Params) where
   pass leaf epoch k [] end none within is takes = record { last = leaf; within = within; agree = (λ e b i low. refl, is.known); labelled = tt }
   pass leaf epoch k (L.Start q ∷ lines) end none within is takes = absurd none
   pass leaf epoch k (L.Bad ∷ lines) end none within is (next, takes, more) = absurd takes
-  pass leaf epoch k (L.Open ∷ lines) end none within is (next, takes, more) =
-      let rest = pass leaf epoch (opened k) lines end none within (opening_labelled leaf epoch k is) (subst (λ (g : Follow). TakesLines g lines end) takes more) in
-      record { last = rest.last; within = rest.within; agree = subst (λ (s : StandingKnown). AgreeLeaves leaf rest.last epoch s) (opening_stands k) rest.agree; labelled = rest.labelled }
+  pass leaf epoch k (L.Open mirrored ∷ lines) end none within is (next, takes, more) =
+      let rest = pass leaf epoch (opened mirrored k) lines end none within (opening_labelled leaf epoch mirrored k is) (subst (λ (g : Follow). TakesLines g lines end) takes more) in
+      record { last = rest.last; within = rest.within; agree = subst (λ (s : StandingKnown). AgreeLeaves leaf rest.last epoch s) (opening_stands mirrored k) rest.agree; labelled = rest.labelled }
   pass leaf epoch k (L.Note note ∷ lines) end none within is (next, takes, more) =
       let s = one_step leaf epoch k within is note next takes in
       let rest = pass s.leaf_then (epoch_behind k epoch) next lines end none s.within s.labelled more in

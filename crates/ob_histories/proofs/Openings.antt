@@ -8,7 +8,7 @@ use Rattle.ob_base.specs.declared.params.Params.{Params}
 use Rattle.ob_base.specs.Layout.{GenerationTwin, EpochTwin, LogArea, check_cell, checkpoint_cells, checkpoint_len}
 use Rattle.ob_store.specs.declared.watch.Note.{Note}
 use Rattle.ob_store.specs.declared.watch.Note.TheVariants.{Read, Sync}
-use Rattle.ob_schedule.specs.Schedule.{check_cells, head_notes, reads_of, region_cells, set_twin}
+use Rattle.ob_schedule.specs.Schedule.{check_cells, first_reads, head_notes, reads_of, region_cells, set_twin}
 use Rattle.ob_schedule.specs.declared.line.Line.TheVariants as L
 use Rattle.ob_schedule.specs.declared.want.Side.{Side}
 use Rattle.ob_schedule.specs.declared.want.Gate.TheVariants.{Open}
@@ -40,14 +40,14 @@ some_checks p = some_parts (checkpoint_len p) (omega arith)
 pub less_one : (n : ℕ) → 0 < n → n ≡ suc (n - 1)
 less_one n some = omega (arith, some)
 
-module _ (p : Params) (f : AllFills) (x : RunFound) (h : Follow) (params : h.params ≡ p) (formatted : h.formatted ≡ true) where
+module _ (p : Params) (f : AllFills) (mirrored : Bool) (x : RunFound) (h : Follow) (params : h.params ≡ p) (formatted : h.formatted ≡ true) where
   -- an opening before its sync
   abbrev pub op : Bool → List Want → Follow
   op chosen wants = record { params = p; formatted = true; runs = true; stands = h.stands; newer = h.newer; chosen = chosen; batch = 0; leaves = []; holes = []; wants = wants }
 
-  pub opened_is : opened h ≡ op false (opened_wants p h.stands h.newer)
+  pub opened_is : opened mirrored h ≡ op false (opened_wants p mirrored h.stands h.newer)
   opened_is = λ i. cond (formatted i)
-      (record { params = params i; formatted = formatted i; runs = true; stands = h.stands; newer = h.newer; chosen = false; batch = 0; leaves = []; holes = []; wants = opened_wants (params i) h.stands h.newer })
+      (record { params = params i; formatted = formatted i; runs = true; stands = h.stands; newer = h.newer; chosen = false; batch = 0; leaves = []; holes = []; wants = opened_wants (params i) mirrored h.stands h.newer })
       (record { params = params i; formatted = formatted i; runs = false; stands = h.stands; newer = h.newer; chosen = h.chosen; batch = h.batch; leaves = h.leaves; holes = []; wants = kept head_notes })
 
   abbrev ends : List Note
@@ -142,10 +142,10 @@ module _ (p : Params) (f : AllFills) (x : RunFound) (h : Follow) (params : h.par
     are_wants = ap (λ (n : ℕ). kept (checks area 0 n ++ logs next_area) ++ Fixed Sync Settles ∷ set_wants) all_checks
 
     abbrev registers : List Note
-    registers = head_notes ++ reads_of (region_cells p GenerationTwin ++ region_cells p EpochTwin)
+    registers = first_reads p mirrored ++ reads_of (region_cells p GenerationTwin ++ region_cells p EpochTwin)
 
     -- the schedule's notes
-    are_notes : registers ++ (found_reads ++ Sync ∷ ends) ≡ opening_step p f x
+    are_notes : registers ++ (found_reads ++ Sync ∷ ends) ≡ opening_step p f mirrored x
     are_notes =
         let reads : List Note = reads_of (region_cells p GenerationTwin ++ region_cells p EpochTwin) in
         let c : List Note = reads_of (check_cells p ((public_at p f x.epoch).epoch % 2)) in
@@ -153,14 +153,15 @@ module _ (p : Params) (f : AllFills) (x : RunFound) (h : Follow) (params : h.par
         let cells : checks area 0 (suc many) ≡ c = ap (λ (n : ℕ). checks area 0 n) (sym all_checks) ∙ ap (λ (a : ℕ). checks a 0 (checkpoint_cells p)) same_area in
         let found_same : found_reads ≡ c ++ l = (λ i. cells i ++ logs (same_next i)) in
         ap (λ (ns : List Note). registers ++ (ns ++ Sync ∷ ends)) found_same
-        ∙ ap (λ (ns : List Note). Read 0 ∷ ns)
+        ∙ append_assoc (first_reads p mirrored) reads ((c ++ l) ++ Sync ∷ ends)
+        ∙ ap (λ (ns : List Note). first_reads p mirrored ++ ns)
         (sym (append_assoc reads (c ++ l) (Sync ∷ ends)) ∙ ap (λ (ns : List Note). ns ++ Sync ∷ ends) (sym (append_assoc reads c l)) ∙ sym (append_assoc ((reads ++ c) ++ l) (Sync ∷ []) ends))
 
     -- what is found is sure
-    walk_sure : h.newer ≡ None → h.stands ≡ z → Walk OpenLeft (opened h) (opening_step p f x) (before p f (first_turn x) found)
+    walk_sure : h.newer ≡ None → h.stands ≡ z → Walk OpenLeft (opened mirrored h) (opening_step p f mirrored x) (before p f (first_turn x) found)
     walk_sure none is =
-        let wants : opened_wants p h.stands h.newer ≡ kept registers ++ (kept found_reads ++ Fixed Sync Settles ∷ set_wants) =
-        (λ i. opened_wants p (is i) (none i)) ∙ ap (λ (ws : List Want). register_wants p ++ ws) are_wants in
+        let wants : opened_wants p mirrored h.stands h.newer ≡ kept registers ++ (kept found_reads ++ Fixed Sync Settles ∷ set_wants) =
+        (λ i. opened_wants p mirrored (is i) (none i)) ∙ ap (λ (ws : List Want). register_wants p mirrored ++ ws) are_wants in
         let mid : Follow = taken_up (op false (kept found_reads ++ Fixed Sync Settles ∷ set_wants)) in
         let start : Follow = taken_up (op false (kept registers ++ (kept found_reads ++ Fixed Sync Settles ∷ set_wants))) in
         let first : Walk (λ k. OpenLeft (k + length (found_reads ++ Sync ∷ ends))) start registers mid =
@@ -174,9 +175,9 @@ module _ (p : Params) (f : AllFills) (x : RunFound) (h : Follow) (params : h.par
 
     walk_tells : (chosen : Bool) (newer : StandingKnown) → h.newer ≡ Some newer → cond chosen (newer_or_same h.stands h.newer) h.stands ≡ z
         → TakesLine (op false (Checkpoint ∷ [])) (L.Note (Read (check_cell p area 0))) (taken_up (op chosen (kept more_reads ++ Fixed Sync Settles ∷ set_wants)))
-        → Walk OpenLeft (opened h) (opening_step p f x) (before p f (first_turn x) found)
+        → Walk OpenLeft (opened mirrored h) (opening_step p f mirrored x) (before p f (first_turn x) found)
     walk_tells chosen newer some is takes =
-        let wants : opened_wants p h.stands h.newer ≡ kept registers ++ Checkpoint ∷ [] = ap (opened_wants p h.stands) some in
+        let wants : opened_wants p mirrored h.stands h.newer ≡ kept registers ++ Checkpoint ∷ [] = ap (opened_wants p mirrored h.stands) some in
         let mid : Follow = op false (Checkpoint ∷ []) in
         let next : Follow = taken_up (op chosen (kept more_reads ++ Fixed Sync Settles ∷ set_wants)) in
         let start : Follow = taken_up (op false (kept registers ++ Checkpoint ∷ [])) in
@@ -188,7 +189,7 @@ module _ (p : Params) (f : AllFills) (x : RunFound) (h : Follow) (params : h.par
         subst₂ (λ (g : Follow) (ns : List Note). Walk OpenLeft g ns (before p f (first_turn x) found)) (sym (opened_is ∙ ap (op false) wants)) are_notes whole
 
   abbrev Opens : Type 0
-  Opens = (s : StandingKnown) × (AtTurn p f (first_turn x) (suc x.generation) s × Walk OpenLeft (opened h) (opening_step p f x) (before p f (first_turn x) s))
+  Opens = (s : StandingKnown) × (AtTurn p f (first_turn x) (suc x.generation) s × Walk OpenLeft (opened mirrored h) (opening_step p f mirrored x) (before p f (first_turn x) s))
 
   opens_by : (newer : Option StandingKnown) → h.newer ≡ newer → Allows p f x h.stands newer → Opens
   opens_by None none stands = (found h.stands stands, (found_at_turn h.stands stands, walk_sure h.stands stands none refl))
@@ -212,5 +213,5 @@ module _ (p : Params) (f : AllFills) (x : RunFound) (h : Follow) (params : h.par
         ),
       )
 
-pub opens : (p : Params) (f : AllFills) (x : RunFound) (h : Follow) → (stops : Stops p (Allows p f x) h) → Opens p f x h stops.0 stops.1.0
-opens p f x h stops = opens_by p f x h stops.0 stops.1.0 h.newer refl stops.1.1
+pub opens : (p : Params) (f : AllFills) (mirrored : Bool) (x : RunFound) (h : Follow) → (stops : Stops p (Allows p f x) h) → Opens p f mirrored x h stops.0 stops.1.0
+opens p f mirrored x h stops = opens_by p f mirrored x h stops.0 stops.1.0 h.newer refl stops.1.1

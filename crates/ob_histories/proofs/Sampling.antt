@@ -2,10 +2,11 @@
 use Rattle.std.specs.Prelude.{◌≡◌, ◌<◌, ℕ, ◌+◌, ◌%◌, ◌==◌, ◌||◌, Bool, true, false, cond, List, [], ◌∷◌, ◌++◌, take, drop, Some, None}
 use Rattle.std.proofs.Common.{zero, suc, arith, refl, sym, ap, ◌∙◌, inl, inr}
 use Rattle.ob_base.specs.declared.params.Params.{Params}
-use Rattle.ob_base.specs.Tree.{buckets}
+use Rattle.ob_base.specs.Tree.{below, buckets}
 use Rattle.ob_base.specs.Layout.{record_cells, checkpoint_len, checkpoint_cells, log_cells, home_cells}
 use Rattle.ob_store.specs.declared.watch.Note.{Note}
 use Rattle.ob_store.specs.declared.watch.Note.TheVariants.{Label, Read}
+use Rattle.ob_schedule.specs.Schedule.{reads_of}
 use Rattle.ob_histories.specs.Fills.{AllFills, AreAllFills}
 use Rattle.ob_histories.specs.Runs.{run_notes}
 use Rattle.ob_histories.specs.Runs.{HistoryTurn}
@@ -89,6 +90,14 @@ found : AreRunsBehind small s.sample_fills None (s.first_run ∷ s.second_run �
 unfolding log_cells record_cells checkpoint_cells checkpoint_len buckets home_cells
 found = (refl, ((refl, refl, (refl, refl, refl)), tt))
 
+mirrored : run_notes small s.sample_fills s.mirrored_run ≡ Read 0 ∷ (Read 5 ∷ Read 6 ∷ Read 7 ∷ Read 8 ∷ reads_of (below 109)) ++ drop 1 s.first_notes
+unfolding log_cells record_cells checkpoint_cells checkpoint_len buckets home_cells
+mirrored = refl
+
+copied : AreRunsBehind small s.sample_fills None (s.copying_run ∷ s.mirrored_run ∷ s.second_run ∷ [])
+unfolding log_cells record_cells checkpoint_cells checkpoint_len buckets home_cells
+copied = (refl, (refl, ((refl, refl, (refl, refl, refl)), tt)))
+
 newer : AreRunsBehind small s.sample_fills None (s.doubtful_run ∷ s.older_seen ∷ s.newer_seen ∷ s.older_seen ∷ s.second_run ∷ [])
 unfolding log_cells record_cells checkpoint_cells checkpoint_len buckets home_cells
 newer = (refl, ((refl, refl, inr (refl, refl, refl)), ((refl, refl, inl (refl, refl, refl)), ((refl, refl, inr (refl, refl, refl)), ((refl, refl, inl (refl, refl, refl)), tt)))))
@@ -152,6 +161,8 @@ sampled = record {
   found = found;
   first = first;
   second = second;
+  mirrored = mirrored;
+  copied = copied;
   newer = newer;
   older = older;
   again = again;

@@ -10,7 +10,7 @@ use Rattle.ob_store.specs.declared.watch.Note.{Note}
 use Rattle.ob_store.specs.declared.watch.Note.TheVariants.{Write, Sync}
 use Rattle.ob_schedule.specs.Holes.{Hole, final_holes}
 use Rattle.ob_schedule.specs.Paths.{by_falling_level}
-use Rattle.ob_schedule.specs.Schedule.{counts_now, is_lifted_by_end, head_notes, reads_of, writes_of, check_cells, region_cells, log_gates}
+use Rattle.ob_schedule.specs.Schedule.{counts_now, is_lifted_by_end, first_reads, head_notes, reads_of, writes_of, check_cells, region_cells, log_gates}
 use Rattle.ob_schedule.specs.declared.want.Side.TheVariants.{Even}
 use Rattle.ob_schedule.specs.declared.want.Gate.TheVariants.{Closed}
 use Rattle.ob_schedule.specs.declared.want.Register.TheVariants.{Generation, Epoch}
@@ -279,17 +279,17 @@ module _ (p : Params) (leaf : Leaves) (within : InRange p leaf) where
   found_at q s epoch = kept_at p bare epoch [] 0 (reads_of (check_cells q (side_number s.epoch)) ++ reads_of (region_cells q (LogArea (side_number (other s.epoch)))))
       (Fixed Sync Settles ∷ sets q Generation (other s.generation) s.generation_gate) (generation_ends p bare epoch (other s.generation) s.generation_gate)
 
-  pub opening_slotted : (slots : Slots) (epoch : ℕ) (k : Follow) → Slotted slots epoch k → Slotted slots epoch (opened k)
-  opening_slotted slots epoch k is = go k.formatted
+  pub opening_slotted : (slots : Slots) (epoch : ℕ) (mirrored : Bool) (k : Follow) → Slotted slots epoch k → Slotted slots epoch (opened mirrored k)
+  opening_slotted slots epoch mirrored k is = go k.formatted
     where
       front : List Note
-      front = head_notes ++ reads_of (region_cells k.params GenerationTwin ++ region_cells k.params EpochTwin)
+      front = first_reads k.params mirrored ++ reads_of (region_cells k.params GenerationTwin ++ region_cells k.params EpochTwin)
 
-      wants : (o : Option StandingKnown) → StandsAt p bare epoch [] 0 (opened_wants k.params k.stands o)
+      wants : (o : Option StandingKnown) → StandsAt p bare epoch [] 0 (opened_wants k.params mirrored k.stands o)
       wants None = kept_at p bare epoch [] 0 front (found_wants k.params k.stands) (found_at k.params k.stands epoch)
       wants (Some newer) = kept_at p bare epoch [] 0 front (Checkpoint ∷ []) refl
 
-      newer_runs : (o : Option StandingKnown) → NewerIs slots epoch k.stands o k.runs k.holes k.wants → NewerIs slots epoch k.stands o true [] (opened_wants k.params k.stands o)
+      newer_runs : (o : Option StandingKnown) → NewerIs slots epoch k.stands o k.runs k.holes k.wants → NewerIs slots epoch k.stands o true [] (opened_wants k.params mirrored k.stands o)
       newer_runs None was = tt
       newer_runs (Some t) was = (was.0, (kept_until front (Checkpoint ∷ []) tt, refl))
 
@@ -297,6 +297,6 @@ module _ (p : Params) (leaf : Leaves) (within : InRange p leaf) where
       newer_idle None was = tt
       newer_idle (Some t) was = (was.0, (tt, refl))
 
-      go : (b : Bool) → Slotted slots epoch (cond b (record k { runs = true; chosen = false; batch = 0; leaves = []; holes = []; wants = opened_wants k.params k.stands k.newer }) (record k { runs = false; holes = []; wants = kept head_notes }))
+      go : (b : Bool) → Slotted slots epoch (cond b (record k { runs = true; chosen = false; batch = 0; leaves = []; holes = []; wants = opened_wants k.params mirrored k.stands k.newer }) (record k { runs = false; holes = []; wants = kept head_notes }))
       go true = record { params = is.params; few = omega arith; holds = is.holds; marked = is.marked; newer = newer_runs k.newer is.newer; holes = tt; wants = wants k.newer }
       go false = record { params = is.params; few = is.few; holds = is.holds; marked = is.marked; newer = newer_idle k.newer is.newer; holes = tt; wants = (tt, tt) }

@@ -35,9 +35,9 @@ module _ (p : Params) (leaf : Leaves) (within : InRange p leaf) where
   pass slots epoch k [] are is labelled = record { last = slots; are = are; agree = record { old = λ u v n few other. refl; present = λ u n used. refl }; filled = tt }
   pass slots epoch k (L.Start q ∷ lines) are is labelled = absurd labelled
   pass slots epoch k (L.Bad ∷ lines) are is labelled = absurd labelled
-  pass slots epoch k (L.Open ∷ lines) are is labelled =
-      let rest = pass slots epoch (opened k) lines are (opening_slotted p leaf within slots epoch k is) labelled in
-      record { last = rest.last; are = rest.are; agree = subst (λ (s : StandingKnown). AgreeSlots p leaf within slots rest.last epoch s) (opening_stands p k) rest.agree; filled = rest.filled }
+  pass slots epoch k (L.Open mirrored ∷ lines) are is labelled =
+      let rest = pass slots epoch (opened mirrored k) lines are (opening_slotted p leaf within slots epoch mirrored k is) labelled in
+      record { last = rest.last; are = rest.are; agree = subst (λ (s : StandingKnown). AgreeSlots p leaf within slots rest.last epoch s) (opening_stands p mirrored k) rest.agree; filled = rest.filled }
   pass slots epoch k (L.Note note ∷ lines) are is (next, (takes, (given, labelled))) =
       let s = one_step p leaf within slots epoch k note next are is given takes in
       let rest = pass s.then (epoch_behind k epoch) next lines s.are s.known labelled in
@@ -83,9 +83,9 @@ record Blocks (known : Follow) (lines : List Line) : Type 0 where
 blocks_of : (known last : Follow) (lines : List Line) → TakesLines known lines last → Blocks known lines
 blocks_of known last [] takes = record { front = []; histories = []; are = refl; none = tt; then = known; takes = refl; told = tt }
 blocks_of known last (L.Bad ∷ lines) (next, takes, more) = absurd takes
-blocks_of known last (L.Open ∷ lines) (next, takes, more) =
+blocks_of known last (L.Open mirrored ∷ lines) (next, takes, more) =
     let rest = blocks_of next last lines more in
-    record { front = L.Open ∷ rest.front; histories = rest.histories; are = ap (λ (ls : List Line). L.Open ∷ ls) rest.are; none = rest.none; then = rest.then; takes = (next, takes, rest.takes); told = rest.told }
+    record { front = L.Open mirrored ∷ rest.front; histories = rest.histories; are = ap (λ (ls : List Line). L.Open mirrored ∷ ls) rest.are; none = rest.none; then = rest.then; takes = (next, takes, rest.takes); told = rest.told }
 blocks_of known last (L.Note note ∷ lines) (next, takes, more) =
     let rest = blocks_of next last lines more in
     record { front = L.Note note ∷ rest.front; histories = rest.histories; are = ap (λ (ls : List Line). L.Note note ∷ ls) rest.are; none = rest.none; then = rest.then; takes = (next, takes, rest.takes); told = rest.told }
@@ -103,7 +103,7 @@ blocks_of known last (L.Start p ∷ lines) (next, takes, more) =
 
 pub admitted_are : AdmittedAreHistories
 admitted_are [] admitted = ([], (refl, tt))
-admitted_are (L.Open ∷ lines) admitted = absurd admitted
+admitted_are (L.Open mirrored ∷ lines) admitted = absurd admitted
 admitted_are (L.Note note ∷ lines) admitted = absurd admitted
 admitted_are (L.Bad ∷ lines) admitted = absurd admitted
 admitted_are (L.Start p ∷ lines) (last, takes) =

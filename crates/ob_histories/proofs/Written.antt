@@ -12,10 +12,10 @@ use Rattle.ob_store.specs.declared.watch.Note.TheVariants as N
 use Rattle.ob_schedule.specs.declared.line.Line.{Line}
 use Rattle.ob_schedule.specs.declared.line.Line.TheVariants as L
 use Rattle.ob_schedule.specs.Follow.{Follow, started}
-use Rattle.ob_audit.specs.Spelling.{numbers_text, note_text, IsLineSpelled, IsLineInRange, IsNoteInRange, SpellsLine, IsLineOf}
+use Rattle.ob_audit.specs.Spelling.{numbers_text, note_text, open_text, IsLineSpelled, IsLineInRange, IsNoteInRange, SpellsLine, IsLineOf}
 use Rattle.ob_audit.specs.Traces.{with_first, lines_in, TakesNext, Admitted}
 use Rattle.ob_audit.proofs.Cuts.{cut_number, some_inner}
-use Rattle.ob_audit.proofs.Lettered.{start_only, label_only, read_only, write_only}
+use Rattle.ob_audit.proofs.Lettered.{mirrored_line, start_only, label_only, read_only, write_only}
 use Rattle.ob_audit.proofs.Numerals.{own}
 use Rattle.ob_audit.proofs.Ranges.{same_params, few_numbers}
 use Rattle.ob_audit.proofs.Written.{are_the_writers}
@@ -54,19 +54,19 @@ cut_free (b ∷ bs) rest free =
 
 abbrev text_of : Line → List ℕ
 text_of (L.Start p) = 80 ∷ 32 ∷ numbers_text p
-text_of L.Open = 79 ∷ []
+text_of (L.Open mirrored) = open_text mirrored
 text_of (L.Note note) = note_text note
 text_of L.Bad = []
 
 abbrev IsWritten : Line → Type 0
 IsWritten (L.Start p) = Unit {0}
-IsWritten L.Open = Unit {0}
+IsWritten (L.Open mirrored) = Unit {0}
 IsWritten (L.Note note) = IsNoteInRange note
 IsWritten L.Bad = ⊥
 
 text_written : (line : Line) → IsWritten line → text_of line ++ 10 ∷ [] ≡ with_feed line
 text_written (L.Start p) is = are_the_writers.starts p (text_of (L.Start p)) refl
-text_written L.Open is = refl
+text_written (L.Open mirrored) is = are_the_writers.opens mirrored (open_text mirrored) refl
 text_written (L.Note note) is = are_the_writers.notes note (note_text note) refl
 text_written L.Bad is = absurd is
 
@@ -78,7 +78,8 @@ numbers_free p =
 
 text_free : (line : Line) → IsWritten line → IsFree (text_of line)
 text_free (L.Start p) is = (λ e. omega (arith, e), (λ e. omega (arith, e), numbers_free p))
-text_free L.Open is = (λ e. omega (arith, e), tt)
+text_free (L.Open false) is = (λ e. omega (arith, e), tt)
+text_free (L.Open true) is = (λ e. omega (arith, e), (λ e. omega (arith, e), (λ e. omega (arith, e), tt)))
 text_free (L.Note (N.Label x)) is = (λ e. omega (arith, e), (λ e. omega (arith, e), number_free x is))
 text_free (L.Note (N.Read x)) is = (λ e. omega (arith, e), (λ e. omega (arith, e), number_free x is))
 text_free (L.Note (N.Write x)) is = (λ e. omega (arith, e), (λ e. omega (arith, e), number_free x is))
@@ -112,9 +113,10 @@ head_is a b xs ys e = cc
 one_item : (a b c : ℕ) (xs : List ℕ) → a ∷ [] ≡ b ∷ c ∷ xs → ⊥
 one_item a b c xs e = cc
 
-open_alone : (line : Line) → IsLineSpelled line (79 ∷ []) → line ≡ L.Open
+open_alone : (line : Line) → IsLineSpelled line (79 ∷ []) → line ≡ L.Open false
 open_alone (L.Start p) is = absurd (one_item 79 80 32 (numbers_text p) is)
-open_alone L.Open is = refl
+open_alone (L.Open false) is = refl
+open_alone (L.Open true) is = absurd (one_item 79 79 32 (77 ∷ []) is)
 open_alone (L.Note (N.Label x)) is = absurd (one_item 79 76 32 (decimal x) is)
 open_alone (L.Note (N.Read x)) is = absurd (one_item 79 82 32 (decimal x) is)
 open_alone (L.Note (N.Write x)) is = absurd (one_item 79 87 32 (decimal x) is)
@@ -123,7 +125,8 @@ open_alone L.Bad is = absurd is
 
 sync_alone : (line : Line) → IsLineSpelled line (83 ∷ []) → line ≡ L.Note N.Sync
 sync_alone (L.Start p) is = absurd (one_item 83 80 32 (numbers_text p) is)
-sync_alone L.Open is = absurd (let e : 83 ≡ 79 = head_is 83 79 [] [] is in omega (arith, e))
+sync_alone (L.Open false) is = absurd (let e : 83 ≡ 79 = head_is 83 79 [] [] is in omega (arith, e))
+sync_alone (L.Open true) is = absurd (one_item 83 79 32 (77 ∷ []) is)
 sync_alone (L.Note (N.Label x)) is = absurd (one_item 83 76 32 (decimal x) is)
 sync_alone (L.Note (N.Read x)) is = absurd (one_item 83 82 32 (decimal x) is)
 sync_alone (L.Note (N.Write x)) is = absurd (one_item 83 87 32 (decimal x) is)
@@ -136,7 +139,8 @@ numbers_told x small m few same = ap {A = ℕ} {B = Option ℕ} (λ (n : ℕ). S
 text_alone : (line other : Line) → IsWritten line → IsLineInRange other → IsLineSpelled other (text_of line) → other ≡ line
 text_alone (L.Start p) other is range spelled =
     sym (some_inner {A = Line} (L.Start p) other (start_only 80 (numbers_text p) (Some p) refl (λ q same. ap {A = Params} {B = Option Params} (λ (r : Params). Some r) (same_numbers p q same)) other spelled))
-text_alone L.Open other is range spelled = open_alone other spelled
+text_alone (L.Open false) other is range spelled = open_alone other spelled
+text_alone (L.Open true) other is range spelled = (mirrored_line (77 ∷ []) other spelled).0
 text_alone (L.Note (N.Label x)) other is range spelled = sym (some_inner {A = Line} (L.Note (N.Label x)) other (label_only 76 x (decimal x) refl (numbers_told x is) other range spelled))
 text_alone (L.Note (N.Read x)) other is range spelled = sym (some_inner {A = Line} (L.Note (N.Read x)) other (read_only 82 x (decimal x) refl (numbers_told x is) other range spelled))
 text_alone (L.Note (N.Write x)) other is range spelled = sym (some_inner {A = Line} (L.Note (N.Write x)) other (write_only 87 x (decimal x) refl (numbers_told x is) other range spelled))
@@ -160,7 +164,8 @@ numbers_short p =
 
 text_spells : (line : Line) → IsWritten line → SpellsLine (text_of line) line
 text_spells (L.Start p) is = record { spelled = refl; in_range = tt; short = omega (arith, numbers_short p) }
-text_spells L.Open is = record { spelled = refl; in_range = tt; short = omega arith }
+text_spells (L.Open false) is = record { spelled = refl; in_range = tt; short = omega arith }
+text_spells (L.Open true) is = record { spelled = refl; in_range = tt; short = omega arith }
 text_spells (L.Note (N.Label x)) is = record { spelled = refl; in_range = is; short = omega (arith, number_short x is) }
 text_spells (L.Note (N.Read x)) is = record { spelled = refl; in_range = is; short = omega (arith, number_short x is) }
 text_spells (L.Note (N.Write x)) is = record { spelled = refl; in_range = is; short = omega (arith, number_short x is) }
@@ -175,7 +180,7 @@ line_alone line other is (inr (bad, none)) = absurd (none line (text_spells line
 
 written_parts : (line : Line) (lines : List Line) → HaveTexts (line ∷ lines) → IsWritten line × HaveTexts lines
 written_parts (L.Start p) lines are = (tt, are)
-written_parts L.Open lines are = (tt, are)
+written_parts (L.Open mirrored) lines are = (tt, are)
 written_parts (L.Note note) lines are = are
 written_parts L.Bad lines are = absurd are
 
@@ -207,7 +212,7 @@ behind_takes known last (line ∷ lines) (next, took, more) = (next, took, behin
 start_takes : (lines : List Line) → AreAdmitted lines → (last : Option Follow) × TakesAll None lines last
 start_takes [] are = (None, refl)
 start_takes (L.Start p ∷ lines) (last, takes) = (Some last, (started p, refl, behind_takes (started p) last lines takes))
-start_takes (L.Open ∷ lines) are = absurd are
+start_takes (L.Open mirrored ∷ lines) are = absurd are
 start_takes (L.Note note ∷ lines) are = absurd are
 start_takes (L.Bad ∷ lines) are = absurd are
 

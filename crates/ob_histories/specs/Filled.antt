@@ -44,7 +44,7 @@ abbrev pub TakesFilled : Params → AllFills → ℕ → Follow → List Line �
 TakesFilled p f epoch known [] = Unit {0}
 TakesFilled p f epoch known (L.Note note ∷ lines) =
     (next : Follow) × TakesLine known (L.Note note) next × IsOfFills p f epoch known.stands known.holes known.wants note × TakesFilled p f (epoch_behind known epoch) next lines
-TakesFilled p f epoch known (L.Open ∷ lines) = TakesFilled p f epoch (opened known) lines
+TakesFilled p f epoch known (L.Open mirrored ∷ lines) = TakesFilled p f epoch (opened mirrored known) lines
 TakesFilled p f epoch known (L.Start q ∷ lines) = ⊥
 TakesFilled p f epoch known (L.Bad ∷ lines) = ⊥
 
@@ -65,7 +65,7 @@ abbrev pub TakesLabelled : ((epoch batch place : ℕ) → ℕ) → ℕ → Follo
 TakesLabelled leaf epoch known [] = Unit {0}
 TakesLabelled leaf epoch known (L.Note note ∷ lines) =
     (next : Follow) × (TakesLine known (L.Note note) next × (IsOfLeaves leaf epoch known.holes known.wants note × TakesLabelled leaf (epoch_behind known epoch) next lines))
-TakesLabelled leaf epoch known (L.Open ∷ lines) = TakesLabelled leaf epoch (opened known) lines
+TakesLabelled leaf epoch known (L.Open mirrored ∷ lines) = TakesLabelled leaf epoch (opened mirrored known) lines
 TakesLabelled leaf epoch known (L.Start q ∷ lines) = ⊥
 TakesLabelled leaf epoch known (L.Bad ∷ lines) = ⊥
 
@@ -73,6 +73,6 @@ TakesLabelled leaf epoch known (L.Bad ∷ lines) = ⊥
 abbrev pub HasNoStart : List Line → Type 0
 HasNoStart [] = Unit {0}
 HasNoStart (L.Start q ∷ lines) = ⊥
-HasNoStart (L.Open ∷ lines) = HasNoStart lines
+HasNoStart (L.Open mirrored ∷ lines) = HasNoStart lines
 HasNoStart (L.Note note ∷ lines) = HasNoStart lines
 HasNoStart (L.Bad ∷ lines) = HasNoStart lines

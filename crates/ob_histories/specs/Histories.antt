@@ -8,7 +8,7 @@ use Rattle.ob_schedule.specs.Schedule.{format_notes, head_notes, record_notes}
 use Rattle.ob_schedule.specs.declared.line.Line.{Line}
 use Rattle.ob_schedule.specs.declared.line.Line.TheVariants as L
 use Rattle.ob_histories.specs.Fills.{AllFills, AreAllFills}
-use Rattle.ob_histories.specs.Runs.{RunFound, HistoryRun, HistoryTurn, first_turn, turn_behind, notes_of_turn, opening_step, run_notes, is_settled}
+use Rattle.ob_histories.specs.Runs.{RunFound, HistoryRun, HeadRun, HistoryTurn, first_turn, turn_behind, notes_of_turn, opening_step, run_notes, is_settled}
 
 -- ---- what a stop leaves, by how many notes its step lacks
 
@@ -55,9 +55,9 @@ abbrev pub IsTurnLeft : Params → AllFills → HistoryTurn → ℕ → RunFound
 IsTurnLeft p f t shown next = cond (nat_lt t.batch p.batches) (IsBatchLeft p t shown next) (IsEndLeft p t (length (notes_of_turn p f t) - shown) next)
 
 -- what a run that found this, and came so far, leaves to be found
-abbrev pub RunLeaves : Params → AllFills → RunFound → ℕ → ℕ → RunFound → Type 0
-RunLeaves p f found zero shown next = IsOpeningLeft found (length (opening_step p f found) - shown) next
-RunLeaves p f found (suc steps) shown next =
+abbrev pub RunLeaves : Params → AllFills → Bool → RunFound → ℕ → ℕ → RunFound → Type 0
+RunLeaves p f mirrored found zero shown next = IsOpeningLeft found (length (opening_step p f mirrored found) - shown) next
+RunLeaves p f mirrored found (suc steps) shown next =
     (next.generation ≡ suc found.generation) × (next.generation_gate ≡ true) × IsTurnLeft p f (turn_behind p (first_turn found) steps) shown next
 
 -- ---- a history
@@ -68,12 +68,12 @@ found_formatted = record { epoch = 0; generation = 1; records = 0; generation_ga
 -- Behind a format, or a run that showed its first sync. A run that stopped before left things as they were.
 abbrev pub MayFind : Params → AllFills → Option HistoryRun → RunFound → Type 0
 MayFind p f None found = found ≡ found_formatted
-MayFind p f (Some run) found = RunLeaves p f run.found run.steps run.shown found
+MayFind p f (Some run) found = RunLeaves p f run.mirrored run.found run.steps run.shown found
 
 abbrev pub AreRunsBehind : Params → AllFills → Option HistoryRun → List HistoryRun → Type 0
 AreRunsBehind p f last [] = Unit {0}
 AreRunsBehind p f last (run ∷ runs) =
-    MayFind p f last run.found × AreRunsBehind p f (cond (is_settled p f run.found run.steps run.shown) (Some run) last) runs
+    MayFind p f last run.found × AreRunsBehind p f (cond (is_settled p f run.mirrored run.found run.steps run.shown) (Some run) last) runs
 
 -- ---- its lines
 
@@ -81,7 +81,10 @@ abbrev pub lines_of_notes : List Note → List Line
 lines_of_notes notes = map (λ note. L.Note note) notes
 
 abbrev pub run_lines : Params → AllFills → HistoryRun → List Line
-run_lines p f run = L.Open ∷ lines_of_notes (run_notes p f run)
+run_lines p f run = L.Open run.mirrored ∷ lines_of_notes (run_notes p f run)
+
+abbrev pub head_lines : HeadRun → List Line
+head_lines run = L.Open run.mirrored ∷ lines_of_notes (take run.shown head_notes)
 
 -- a whole format, and runs behind it
 pub record IsHistory (p : Params) (lines : List Line) : Type 0 where
@@ -94,9 +97,9 @@ pub record IsHistory (p : Params) (lines : List Line) : Type 0 where
 -- a format that was cut short, and runs that read the head at most
 pub record IsCutHistory (p : Params) (lines : List Line) : Type 0 where
   pub shown : ℕ
-  pub heads : List ℕ
+  pub heads : List HeadRun
   pub short : shown < length (format_notes p)
-  pub are : lines ≡ L.Start p ∷ lines_of_notes (take shown (format_notes p)) ++ flat_map (λ head. L.Open ∷ lines_of_notes (take head head_notes)) heads
+  pub are : lines ≡ L.Start p ∷ lines_of_notes (take shown (format_notes p)) ++ flat_map head_lines heads
 
 -- histories, one behind the other, each from its format on
 abbrev pub AreHistories : List (List Line) → Type 0

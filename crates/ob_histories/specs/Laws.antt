@@ -18,7 +18,7 @@ TakesLines known (line ∷ lines) last = (next : Follow) × TakesLine known line
 abbrev pub AreAdmitted : List Line → Type 0
 AreAdmitted [] = Unit {0}
 AreAdmitted (L.Start p ∷ lines) = (last : Follow) × TakesLines (started p) lines last
-AreAdmitted (L.Open ∷ lines) = ⊥
+AreAdmitted (L.Open mirrored ∷ lines) = ⊥
 AreAdmitted (L.Note note ∷ lines) = ⊥
 AreAdmitted (L.Bad ∷ lines) = ⊥
 

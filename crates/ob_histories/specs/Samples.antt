@@ -1,8 +1,10 @@
 -- Histories of a small store, and what is none.
 use Rattle.std.specs.Prelude.{◌≡◌, ℕ, ◌+◌, ◌%◌, ◌==◌, ◌||◌, true, false, cond, List, [], ◌∷◌, ◌++◌, take, drop, Some, None}
 use Rattle.ob_base.specs.declared.params.Params.{Params}
+use Rattle.ob_base.specs.Tree.{below}
 use Rattle.ob_store.specs.declared.watch.Note.{Note}
 use Rattle.ob_store.specs.declared.watch.Note.TheVariants.{Label, Read, Write, Sync}
+use Rattle.ob_schedule.specs.Schedule.{reads_of}
 use Rattle.ob_histories.specs.Fills.{AllFills, AreAllFills}
 use Rattle.ob_histories.specs.Runs.{RunFound, HistoryRun, run_notes}
 use Rattle.ob_histories.specs.Histories.{found_formatted, MayFind, AreRunsBehind}
@@ -20,10 +22,10 @@ abbrev pub found_then : RunFound
 found_then = record { epoch = 1; generation = 2; records = 0; generation_gate = true; epoch_gate = true }
 
 abbrev pub first_run : HistoryRun
-first_run = record { found = found_formatted; steps = 4; shown = 0 }
+first_run = record { mirrored = false; found = found_formatted; steps = 4; shown = 0 }
 
 abbrev pub second_run : HistoryRun
-second_run = record { found = found_then; steps = 4; shown = 0 }
+second_run = record { mirrored = false; found = found_then; steps = 4; shown = 0 }
 
 abbrev pub first_notes : List Note
 first_notes =
@@ -48,25 +50,34 @@ second_notes =
     Write 20 ∷ Write 21 ∷ Write 22 ∷ Write 23 ∷ Write 24 ∷ Write 25 ∷ Write 26 ∷ Write 27 ∷ Write 14 ∷ Write 16 ∷ Sync ∷ Write 6 ∷ Sync ∷ Write 5 ∷
     Sync ∷ Write 6 ∷ Sync ∷ []
 
+-- ---- runs with a mirror
+
+abbrev pub mirrored_run : HistoryRun
+mirrored_run = record first_run { mirrored = true }
+
+-- it stops in the copy
+abbrev pub copying_run : HistoryRun
+copying_run = record { mirrored = true; found = found_formatted; steps = 0; shown = 50 }
+
 -- ---- an end in doubt, and openings behind it that stop before their first sync
 
 -- all but its last sync is shown, so its epoch may have ended
 abbrev pub doubtful_run : HistoryRun
-doubtful_run = record { found = found_formatted; steps = 3; shown = 46 }
+doubtful_run = record { mirrored = false; found = found_formatted; steps = 3; shown = 46 }
 
 abbrev pub found_still : RunFound
 found_still = record { epoch = 0; generation = 2; records = 2; generation_gate = true; epoch_gate = false }
 
 -- the first cell of a checkpoint is read: the newer one's, or the older one's
 abbrev pub newer_seen : HistoryRun
-newer_seen = record { found = found_then; steps = 0; shown = 10 }
+newer_seen = record { mirrored = false; found = found_then; steps = 0; shown = 10 }
 
 abbrev pub older_seen : HistoryRun
-older_seen = record { found = found_still; steps = 0; shown = 10 }
+older_seen = record { mirrored = false; found = found_still; steps = 0; shown = 10 }
 
 -- the epoch is shown again
 abbrev pub older_run : HistoryRun
-older_run = record { found = found_still; steps = 4; shown = 0 }
+older_run = record { mirrored = false; found = found_still; steps = 4; shown = 0 }
 
 abbrev pub older_notes : List Note
 older_notes =
@@ -80,7 +91,7 @@ older_notes =
 
 -- its first label and the slot behind it
 abbrev pub older_home_run : HistoryRun
-older_home_run = record { found = found_still; steps = 1; shown = 2 }
+older_home_run = record { mirrored = false; found = found_still; steps = 1; shown = 2 }
 
 -- a run that stops before its sync, and what it would find
 abbrev pub third_found : RunFound
@@ -88,23 +99,23 @@ third_found = record { epoch = 0; generation = 2; records = 3; generation_gate =
 
 -- a run that repeats a batch, of which its first place is shown
 abbrev pub batch_run : HistoryRun
-batch_run = record { found = found_formatted; steps = 1; shown = 5 }
+batch_run = record { mirrored = false; found = found_formatted; steps = 1; shown = 5 }
 
 abbrev pub found_batch : RunFound
 found_batch = record { epoch = 0; generation = 2; records = 1; generation_gate = true; epoch_gate = false }
 
 abbrev pub again_run : HistoryRun
-again_run = record { found = found_batch; steps = 1; shown = 1 }
+again_run = record { mirrored = false; found = found_batch; steps = 1; shown = 1 }
 
 -- each epoch's first place shows leaf 1, whose path has buckets 0, 1 and 4
 abbrev pub one_leaf : (ℕ → ℕ → ℕ → ℕ) → AllFills
 one_leaf slot = record { leaf = λ epoch batch place. cond (batch + place == 0) 1 0; slot = slot }
 
 abbrev pub slot_run : HistoryRun
-slot_run = record { found = found_formatted; steps = 1; shown = 8 }
+slot_run = record { mirrored = false; found = found_formatted; steps = 1; shown = 8 }
 
 abbrev pub next_slot_run : HistoryRun
-next_slot_run = record { found = found_then; steps = 1; shown = 8 }
+next_slot_run = record { mirrored = false; found = found_then; steps = 1; shown = 8 }
 
 pub record Sampled : Type 0 where
   pub p : Params
@@ -114,6 +125,9 @@ pub record Sampled : Type 0 where
   pub found : AreRunsBehind p sample_fills None (first_run ∷ second_run ∷ [])
   pub first : run_notes p sample_fills first_run ≡ first_notes
   pub second : run_notes p sample_fills second_run ≡ second_notes
+  -- one with a mirror reads the epoch's register and the 109 cells behind the head; a stop among these leaves what a run finds
+  pub mirrored : run_notes p sample_fills mirrored_run ≡ Read 0 ∷ (Read 5 ∷ Read 6 ∷ Read 7 ∷ Read 8 ∷ reads_of (below 109)) ++ drop 1 first_notes
+  pub copied : AreRunsBehind p sample_fills None (copying_run ∷ mirrored_run ∷ second_run ∷ [])
   -- the end in doubt: each opening may find either epoch, until one has its sync
   pub newer : AreRunsBehind p sample_fills None (doubtful_run ∷ older_seen ∷ newer_seen ∷ older_seen ∷ second_run ∷ [])
   pub older : AreRunsBehind p sample_fills None (doubtful_run ∷ newer_seen ∷ older_seen ∷ newer_seen ∷ older_run ∷ [])

@@ -1,5 +1,5 @@
 -- Lines and the texts that whoever shows them writes.
-use Rattle.std.specs.Prelude.{◌≡◌, ◌≤◌, ◌↔◌, ℕ, ◌^◌, false, List, [], ◌∷◌, length, Option, Some}
+use Rattle.std.specs.Prelude.{◌≡◌, ◌≤◌, ◌↔◌, ℕ, ◌^◌, List, [], ◌∷◌, length, Option, Some}
 use Rattle.std.specs.List.{flat_map}
 use Rattle.ob_store.specs.Lines.{line_of, start_line, open_line}
 use Rattle.ob_schedule.specs.declared.line.Line.{Line}
@@ -12,7 +12,7 @@ use Rattle.ob_histories.specs.Laws.{AreAdmitted}
 -- a line's text and its line feed
 abbrev pub with_feed : Line → List ℕ
 with_feed (L.Start p) = start_line p
-with_feed L.Open = open_line false
+with_feed (L.Open mirrored) = open_line mirrored
 with_feed (L.Note note) = line_of note
 with_feed L.Bad = []
 
@@ -20,7 +20,7 @@ with_feed L.Bad = []
 abbrev pub HaveTexts : List Line → Type 0
 HaveTexts [] = Unit {0}
 HaveTexts (L.Start p ∷ lines) = HaveTexts lines
-HaveTexts (L.Open ∷ lines) = HaveTexts lines
+HaveTexts (L.Open mirrored ∷ lines) = HaveTexts lines
 HaveTexts (L.Note note ∷ lines) = IsNoteInRange note × HaveTexts lines
 HaveTexts (L.Bad ∷ lines) = ⊥
 
