@@ -1,5 +1,5 @@
 -- A run that was cut off shows a history's.
-use Rattle.std.specs.Prelude.{◌≡◌, ◌<◌, ◌≤◌, ℕ, ◌+◌, ◌%◌, Bool, cond, map, List, [], ◌∷◌, ◌++◌, take, length, Option}
+use Rattle.std.specs.Prelude.{◌≡◌, ◌<◌, ◌≤◌, ℕ, ◌+◌, ◌%◌, Bool, false, cond, map, List, [], ◌∷◌, ◌++◌, take, length, Option}
 use Rattle.std.proofs.Common.{suc, arith, sym, ap, ◌∙◌, subst, length-append}
 use Rattle.std.proofs.lemmas.Bool.{le-ltb, lt-ltb}
 use Rattle.std.proofs.lemmas.List.{length-map, length-take-le, take-append-le, take_all}
@@ -73,7 +73,7 @@ pub cut_openings_show : CutOpeningsShowHistories
 cut_openings_show p word_of slot before f ranked life ends whole filled c found gates count kept is =
     let s : LifeState = reached p word_of (formatted_life slot) before in
     let front = fronts_are p f (found_of_life p s found) (suc (length s.log + 0)) count in
-    (front.run, (front.finds, ap (λ (ns : List Note). take count ns) (runs_show p word_of slot before f ranked life ends whole filled c found gates [] [] [] kept is) ∙ sym front.shows))
+    (front.run, (front.alone, front.finds, ap (λ (ns : List Note). take count ns) (runs_show p word_of slot before f ranked life ends whole filled c found gates [] [] [] kept is) ∙ sym front.shows))
 
 -- ---- a record alone
 
@@ -132,7 +132,7 @@ rows_many p word_of slot before f ranked life ends whole filled c found gates ca
     let row : List Note = ring_notes p (public_of_calls p word_of s gates steps) (shape_of call) d in
     let turn : List Note = notes_of_turn p f (turn_of_run p s found steps) in
     let run : List Note = notes_of_run p word_of s c found gates steps in
-    let opened : List Note = opening_step p f (found_of_life p s found) in
+    let opened : List Note = opening_step p f false (found_of_life p s found) in
     let shown : ℕ → List Note = (λ k. notes_from p f (first_turn (found_of_life p s found)) (length s.log + length steps) k) in
     let same : (k : ℕ) → length run + length (take k row) ≡ length opened + length (shown k) =
     (λ k. sym (length-append run (take k row)) ∙ ap (λ (ns : List Note). length ns) (cut_runs_show p word_of slot before f ranked life ends whole filled c found gates calls steps acts kept is call d k cut) ∙ length-append opened (shown k)) in

@@ -62,7 +62,7 @@ module _ (p : Params) (word_of : WordId → ℕ) (f : AllFills) (s : LifeState) 
 
   -- behind all that it repeats
   all_again : (m whole shown : ℕ) → whole ≡ length s.log + 0 → shown ≡ 0 → (Found (again_acts m)).generation_gate ≡ true → (Found (again_acts m)).epoch_gate ≡ x.epoch_gate
-      → MayFind p f (Some (record { found = x; steps = suc whole; shown = shown })) (Found (again_acts m))
+      → MayFind p f (Some (record { mirrored = false; found = x; steps = suc whole; shown = shown })) (Found (again_acts m))
   all_again m whole shown all none stays gate =
       let n : ℕ = length s.log in
       let same : Found (again_acts m) ≡ Found (again_acts n) = same_found m n in
@@ -70,12 +70,12 @@ module _ (p : Params) (word_of : WordId → ℕ) (f : AllFills) (s : LifeState) 
       let leaves : MayFind p f (Some (record (run_of_life p s found []) { shown = 0 })) (Found (again_acts n)) =
       runs_leave p word_of f s found gates [] [] [] room tt refl None 0 [] tt refl (ap (λ (y : RunFound). y.generation_gate) (sym same) ∙ stays)
       (refl, ap (λ (y : RunFound). y.epoch_gate) (sym same) ∙ gate ∙ sym turn) in
-      subst (λ (y : RunFound). MayFind p f (Some (record { found = x; steps = suc whole; shown = shown })) y) (sym same)
-      (subst (λ (k : ℕ). MayFind p f (Some (record { found = x; steps = suc whole; shown = k })) (Found (again_acts n))) (sym none)
-      (subst (λ (k : ℕ). MayFind p f (Some (record { found = x; steps = suc k; shown = 0 })) (Found (again_acts n))) (sym all) leaves))
+      subst (λ (y : RunFound). MayFind p f (Some (record { mirrored = false; found = x; steps = suc whole; shown = shown })) y) (sym same)
+      (subst (λ (k : ℕ). MayFind p f (Some (record { mirrored = false; found = x; steps = suc whole; shown = k })) (Found (again_acts n))) (sym none)
+      (subst (λ (k : ℕ). MayFind p f (Some (record { mirrored = false; found = x; steps = suc k; shown = 0 })) (Found (again_acts n))) (sym all) leaves))
 
   leaves_again : (m whole shown : ℕ) → (whole < length s.log + 0) ⊎ ((whole ≡ length s.log + 0) × (shown ≡ 0)) → (Found (again_acts m)).generation_gate ≡ true → (Found (again_acts m)).epoch_gate ≡ x.epoch_gate
-      → MayFind p f (Some (record { found = x; steps = suc whole; shown = shown })) (Found (again_acts m))
+      → MayFind p f (Some (record { mirrored = false; found = x; steps = suc whole; shown = shown })) (Found (again_acts m))
   leaves_again m whole shown (inl few) stays gate = repeats_leave p word_of f s found gates whole shown m (omega (arith, few)) room stays gate
   leaves_again m whole shown (inr (all, none)) stays gate = all_again m whole shown all none stays gate
 
@@ -94,14 +94,15 @@ module _ (p : Params) (word_of : WordId → ℕ) (slot : ℕ → ℕ → ℕ) (f
   stopped : (before : List LifeAct) (found : ℕ → Bool) (notes : List Note) → IsLifeFilled p word_of slot f before → (is : IsStoppedRun p word_of f (At before) found notes) → Shown before found notes (λ acts next. IsStoppedLeft p word_of f (At before) found is.count acts next)
   stopped before found notes here is =
       let x : RunFound = found_of_life p (At before) found in
-      let run : HistoryRun = record { found = x; steps = 0; shown = is.count } in (
+      let run : HistoryRun = record { mirrored = false; found = x; steps = 0; shown = is.count } in (
         record {
           run = run;
+          alone = refl;
           finds = refl;
           shows = is.shown ∙ ap (λ (ns : List Note). take is.count ns) (runs_show p word_of slot before f ranked here.life here.ends here.whole here.filled is.opening found is.gates [] [] [] is.kept is.filled)
-              ∙ take_front is.count (opening_step p f x) (notes_from p f (first_turn x) (length (At before).log + 0) 0) is.short;
+              ∙ take_front is.count (opening_step p f false x) (notes_from p f (first_turn x) (length (At before).log + 0) 0) is.short;
         },
-        λ acts next left. by_settled (is_settled p f x 0 is.count) run x (found_of_life p (reached p word_of (At before) acts) next) (λ shown. openings_leave p word_of f (At before) found next is.count acts left.first shown) left.as_shown,
+        λ acts next left. by_settled (is_settled p f false x 0 is.count) run x (found_of_life p (reached p word_of (At before) acts) next) (λ shown. openings_leave p word_of f (At before) found next is.count acts left.first shown) left.as_shown,
       )
 
   room_at : (before : List LifeAct) → IsLifeFilled p word_of slot f before → length (At before).log ≤ p.batches
@@ -118,7 +119,7 @@ module _ (p : Params) (word_of : WordId → ℕ) (slot : ℕ → ℕ → ℕ) (f
     start = found_of_life p s found
 
     abbrev opening : List Note
-    opening = opening_step p f start
+    opening = opening_step p f false start
 
     abbrev turns : List Note
     turns = notes_from p f (first_turn start) (length s.log + 0) 0
@@ -137,8 +138,8 @@ module _ (p : Params) (word_of : WordId → ℕ) (slot : ℕ → ℕ → ℕ) (f
     within : (m : ℕ) → take is.count (opening ++ turns) ≡ opening ++ take m turns → Shown before found notes Left
     within m same =
         let w : Front p f (length s.log + 0) (first_turn start) (take m turns) = front_turns p f (length s.log + 0) (first_turn start) m in
-        let run : HistoryRun = record { found = start; steps = suc w.0; shown = w.1 } in (
-          record { run = run; finds = refl; shows = all ∙ same ∙ ap (λ (ns : List Note). opening ++ ns) (sym w.2) },
+        let run : HistoryRun = record { mirrored = false; found = start; steps = suc w.0; shown = w.1 } in (
+          record { run = run; alone = refl; finds = refl; shows = all ∙ same ∙ ap (λ (ns : List Note). opening ++ ns) (sym w.2) },
           λ acts next left.
               subst (λ (xs : List LifeAct). MayFind p f (Some run) (found_of_life p (reached p word_of s xs) next)) (sym left.acts_are)
               (leaves_again p word_of f s found next (room_at before here) left.again w.0 w.1 w.3

@@ -1,5 +1,5 @@
 -- An opening that was refused is a run as a history's.
-use Rattle.std.specs.Prelude.{◌≡◌, ◌<◌, ◌≤◌, ◌⊎◌, ℕ, ◌+◌, ◌%◌, Bool, true, cond, List, [], ◌++◌, length, take}
+use Rattle.std.specs.Prelude.{◌≡◌, ◌<◌, ◌≤◌, ◌⊎◌, ℕ, ◌+◌, ◌%◌, Bool, true, false, cond, List, [], ◌++◌, length, take}
 use Rattle.std.proofs.Common.{zero, suc, arith, refl, sym, ap, ◌∙◌, subst, inl, inr}
 use Rattle.std.proofs.lemmas.Bool.{cases_lt}
 use Rattle.std.proofs.lemmas.List.{append-nil, length-map}
@@ -104,12 +104,12 @@ module _ (keys : Keys) (p : Params) (word_of : WordId → ℕ) (f : AllFills) (s
       fills = record { leaves = λ l h. filled.leaves l (subst (λ (ls : List LabelFill). Has ls l) (planned_again begun (length s.log)) h); slots_are = λ x h. absurd h };
     }
 
-    by_length : (is.count < length (opening_step p f (found_of_life p s found))) ⊎ (length (opening_step p f (found_of_life p s found)) ≤ is.count) → IsStoppedRun p word_of f s found notes ⊎ IsRepeatedRun p word_of f s found notes
+    by_length : (is.count < length (opening_step p f false (found_of_life p s found))) ⊎ (length (opening_step p f false (found_of_life p s found)) ≤ is.count) → IsStoppedRun p word_of f s found notes ⊎ IsRepeatedRun p word_of f s found notes
     by_length (inl few) = inl (record { opening = fills; gates = found; count = is.count; kept = kept; filled = run_filled; short = omega (arith, few); shown = all_notes })
     by_length (inr many) = inr (record { opening = fills; gates = found; count = is.count; kept = kept; filled = run_filled; begun = many; shown = all_notes })
 
     pub opening_is_run : IsStoppedRun p word_of f s found notes ⊎ IsRepeatedRun p word_of f s found notes
-    opening_is_run = by_length (cases_lt is.count (length (opening_step p f (found_of_life p s found))))
+    opening_is_run = by_length (cases_lt is.count (length (opening_step p f false (found_of_life p s found))))
 
 pub openings_are : OpeningsAreRuns
 openings_are keys p word_of f s image notes is filled = opening_is_run keys p word_of f s image notes is filled

@@ -19,7 +19,7 @@ use Rattle.ob_admitted.specs.Rows.{AreBarelyOpened, AreRunsShown, LeavesFound, R
 use Rattle.ob_admitted.specs.Wholes.{found_of_life}
 
 abbrev lines_of_row : List Note → List Line
-lines_of_row notes = L.Open ∷ lines_of_notes notes
+lines_of_row notes = L.Open false ∷ lines_of_notes notes
 
 module _ (p : Params) (word_of : WordId → ℕ) (f : AllFills) where
   -- what the next run finds goes on behind the last one that settled
@@ -35,20 +35,20 @@ module _ (p : Params) (word_of : WordId → ℕ) (f : AllFills) where
   barely_go run last may [] are rows later = later
   barely_go run last may (notes ∷ more) ((x, leaves, is), rest) rows later =
       let behind = barely_go run last may more rest rows later in
-      let one : HistoryRun = record { found = x; steps = 0; shown = is.count } in
-      let unsettled : is_settled p f x 0 is.count ≡ false = le-ltb (length (opening_reads p f x)) is.count is.few in
+      let one : HistoryRun = record { mirrored = false; found = x; steps = 0; shown = is.count } in
+      let unsettled : is_settled p f false x 0 is.count ≡ false = le-ltb (length (opening_reads p f false x)) is.count is.few in
       (one ∷ behind.0, ((may x leaves, subst (λ (b : Bool). AreRunsBehind p f (cond b (Some one) last) behind.0) (sym unsettled) behind.1.0), (λ i. lines_of_row (is.shows i) ++ behind.1.1 i)))
 
   rows_go : (runs : List RunNotes) (s : LifeState) (found : ℕ → Bool) (last : Option HistoryRun) → MayFind p f last (found_of_life p s found) → AreRunsShown p word_of f s found runs → Row last (rows_of runs)
   rows_go [] s found last may shown = ([], (tt, refl))
   rows_go (notes ∷ runs) s found last may (one, barely, behind) =
       let here : MayFind p f last one.run.found = subst (λ (x : RunFound). MayFind p f last x) (sym one.finds) may in
-      let settled : Bool = is_settled p f one.run.found one.run.steps one.run.shown in
+      let settled : Bool = is_settled p f one.run.mirrored one.run.found one.run.steps one.run.shown in
       let after : Option HistoryRun = cond settled (Some one.run) last in
       let may_then : (x : RunFound) → LeavesFound p f one.run x → MayFind p f after x = (λ x left. goes_on one.run last x settled here left) in
       let later : Row after (rows_of runs) = rows_then after may_then (λ u gates begins rest. rows_go runs u gates after begins rest) behind in
       let all = barely_go one.run after may_then notes.1 barely (rows_of runs) later in
-      (one.run ∷ all.0, ((here, all.1.0), (λ i. lines_of_row (one.shows i) ++ all.1.1 i)))
+      (one.run ∷ all.0, ((here, all.1.0), (λ i. (L.Open (sym one.alone i) ∷ lines_of_notes (one.shows i)) ++ all.1.1 i)))
     where
       rows_then : (after : Option HistoryRun) → ((x : RunFound) → LeavesFound p f one.run x → MayFind p f after x)
           → ((u : LifeState) (gates : ℕ → Bool) → MayFind p f after (found_of_life p u gates) → AreRunsShown p word_of f u gates runs → Row after (rows_of runs))

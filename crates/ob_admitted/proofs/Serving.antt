@@ -34,7 +34,7 @@ served p word_of slot before f ranked life ends whole filled found notes is =
     let s : LifeState = reached p word_of (formatted_life slot) before in
     let goes : GoesBy p word_of f s = goes_along p word_of f some (formatted_life slot) before life ends whole (open_formatted p word_of some slot ranked) (formatted_goes p word_of f slot) filled.leaves in
     let run : HistoryRun = record (run_of_life p s found is.steps) { shown = is.count } in (
-      record { run = run; finds = refl; shows = shows is.refused is.cut is.shown },
+      record { run = run; alone = refl; finds = refl; shows = shows is.refused is.cut is.shown },
       λ acts next left. leaves goes.room acts next left,
     )
   where

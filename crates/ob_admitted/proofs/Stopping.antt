@@ -1,5 +1,5 @@
 -- What is found behind an opening that stopped.
-use Rattle.std.specs.Prelude.{◌≡◌, ◌<◌, ◌≤◌, ◌⊎◌, ℕ, ◌+◌, ◌-◌, Bool, true, cond, List, ◌∷◌, length}
+use Rattle.std.specs.Prelude.{◌≡◌, ◌<◌, ◌≤◌, ◌⊎◌, ℕ, ◌+◌, ◌-◌, Bool, true, false, cond, List, ◌∷◌, length}
 use Rattle.std.proofs.Common.{zero, suc, arith, refl, sym, ap, ◌∙◌, subst, inl, inr}
 use Rattle.std.proofs.lemmas.Bool.{lt-ltb}
 use Rattle.ob_base.specs.declared.params.Params.{Params}
@@ -41,8 +41,8 @@ module _ (p : Params) (word_of : WordId → ℕ) (f : AllFills) (s : LifeState) 
   stays made (inl none) = subst (λ (xs : List LifeAct). Stays xs) (sym none) (record { epoch = refl; records = refl; generation = inl refl })
   stays made (inr (n, are)) = subst (λ (xs : List LifeAct). Stays xs) (sym are) (record { epoch = (on n).epoch; records = ap length (on n).log; generation = inr (on n).generation })
 
-  stopped : (count : ℕ) (made : List LifeAct) → AreOpeningActs s made → (is : IsOpeningFoundAsShown p f x count (Found made)) → IsGenerationLeft x (length (opening_step p f x) - count) (Found made)
-  stopped count made acts is = generation_left x (Found made) (length (opening_step p f x) - count) (stays made acts).generation
+  stopped : (count : ℕ) (made : List LifeAct) → AreOpeningActs s made → (is : IsOpeningFoundAsShown p f x count (Found made)) → IsGenerationLeft x (length (opening_step p f false x) - count) (Found made)
+  stopped count made acts is = generation_left x (Found made) (length (opening_step p f false x) - count) (stays made acts).generation
       (λ set. (let few = (is.shown set).0 in omega (arith, few), (is.shown set).1)) (λ all. is.surely (omega (arith, all))) is.gate
 
   repeating : (whole count repeats : ℕ) → whole < length s.log → length s.log ≤ p.batches → (Found (Open (suc s.generation) ∷ repeated repeats)).epoch_gate ≡ x.epoch_gate

@@ -1,5 +1,5 @@
 -- A whole run of a life is a run of a history.
-use Rattle.std.specs.Prelude.{◌≡◌, ◌<◌, ◌≤◌, ℕ, ◌+◌, Bool, true, cond, List, [], ◌++◌, length}
+use Rattle.std.specs.Prelude.{◌≡◌, ◌<◌, ◌≤◌, ℕ, ◌+◌, Bool, true, false, cond, List, [], ◌++◌, length}
 use Rattle.std.specs.List.{flat_map, range_with_len}
 use Rattle.std.proofs.Common.{zero, suc, arith, refl, sym, ap, ◌∙◌, add-one, append_assoc}
 use Rattle.std.proofs.lemmas.Bool.{lt-ltb}
@@ -114,7 +114,7 @@ runs_go p word_of slot before f some Q more count k ranked life ends whole fille
     ∙ (λ i. head_notes ++ ((opening i ++ again i) ++ (served ∙ ap (λ (u : HistoryTurn). notes_from p f u (length steps) count) there) i))
     ∙ ap (λ (ns : List Note). head_notes ++ ns) (append_assoc all_notes (flat_map (phase_of_fills p f s.epoch) (below n)) (notes_from p f (turn_at p f s.epoch n x.epoch_gate n) (length steps) count))
     ∙ sym (append_assoc head_notes all_notes (flat_map (phase_of_fills p f s.epoch) (below n) ++ notes_from p f (turn_at p f s.epoch n x.epoch_gate n) (length steps) count))
-    ∙ ap (λ (ns : List Note). opening_step p f x ++ ns) (sym turns)
+    ∙ ap (λ (ns : List Note). opening_step p f false x ++ ns) (sym turns)
 
 pub runs_show : RunsShowHistories
 runs_show p word_of slot before f ranked life ends whole filled c found gates calls steps acts kept is =

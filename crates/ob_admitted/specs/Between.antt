@@ -1,5 +1,5 @@
 -- What a run of a life leaves to be found is what a history's run leaves.
-use Rattle.std.specs.Prelude.{◌≡◌, ◌≤◌, ◌<◌, ◌⊎◌, ℕ, ◌+◌, ◌-◌, Bool, true, List, [], ◌∷◌, Option, Some, None, length}
+use Rattle.std.specs.Prelude.{◌≡◌, ◌≤◌, ◌<◌, ◌⊎◌, ℕ, ◌+◌, ◌-◌, Bool, true, false, List, [], ◌∷◌, Option, Some, None, length}
 use Rattle.std.proofs.Common.{suc}
 use Rattle.ob_base.specs.declared.params.Params.{Params}
 use Rattle.ob_schedule.specs.Schedule.{Fills, record_notes}
@@ -61,20 +61,20 @@ AreOpeningActs s made = (made ≡ []) ⊎ ((repeats : ℕ) × (made ≡ Open (su
 -- An opening showed so many notes. Its generation is found just where the sync behind the write that opens its gate was shown; until then that
 -- gate is found as closing and opening it leave it. The other register's gate stays.
 pub record IsOpeningFoundAsShown (p : Params) (f : AllFills) (found : RunFound) (count : ℕ) (next : RunFound) : Type 0 where
-  pub surely : length (opening_step p f found) ≤ count → next.generation ≡ suc found.generation
-  pub shown : next.generation ≡ suc found.generation → (length (opening_step p f found) ≤ count) × (next.generation_gate ≡ true)
-  pub gate : next.generation ≡ found.generation → IsGateLeft found.generation_gate (length (opening_step p f found) - count) next.generation_gate
+  pub surely : length (opening_step p f false found) ≤ count → next.generation ≡ suc found.generation
+  pub shown : next.generation ≡ suc found.generation → (length (opening_step p f false found) ≤ count) × (next.generation_gate ≡ true)
+  pub gate : next.generation ≡ found.generation → IsGateLeft found.generation_gate (length (opening_step p f false found) - count) next.generation_gate
   pub epoch_gate : next.epoch_gate ≡ found.epoch_gate
 
 -- an opening that stopped before its repeats
 abbrev pub OpeningsLeaveHistories : Type 0
 OpeningsLeaveHistories = (p : Params) (word_of : WordId → ℕ) (f : AllFills) (s : LifeState) (found next : ℕ → Bool) (count : ℕ) (made : List LifeAct) → AreOpeningActs s made
     → IsOpeningFoundAsShown p f (found_of_life p s found) count (found_of_life p (reached p word_of s made) next)
-    → MayFind p f (Some (record { found = found_of_life p s found; steps = 0; shown = count })) (found_of_life p (reached p word_of s made) next)
+    → MayFind p f (Some (record { mirrored = false; found = found_of_life p s found; steps = 0; shown = count })) (found_of_life p (reached p word_of s made) next)
 
 -- and one that stopped within them, behind whole ones: its generation's gate stays open, and the other register's stays
 abbrev pub RepeatsLeaveHistories : Type 0
 RepeatsLeaveHistories = (p : Params) (word_of : WordId → ℕ) (f : AllFills) (s : LifeState) (found next : ℕ → Bool) (whole count repeats : ℕ) → whole < length s.log → length s.log ≤ p.batches
     → (found_of_life p (reached p word_of s (Open (suc s.generation) ∷ repeated repeats)) next).generation_gate ≡ true
     → (found_of_life p (reached p word_of s (Open (suc s.generation) ∷ repeated repeats)) next).epoch_gate ≡ (found_of_life p s found).epoch_gate
-    → MayFind p f (Some (record { found = found_of_life p s found; steps = suc whole; shown = count })) (found_of_life p (reached p word_of s (Open (suc s.generation) ∷ repeated repeats)) next)
+    → MayFind p f (Some (record { mirrored = false; found = found_of_life p s found; steps = suc whole; shown = count })) (found_of_life p (reached p word_of s (Open (suc s.generation) ∷ repeated repeats)) next)

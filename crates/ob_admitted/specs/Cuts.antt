@@ -1,5 +1,5 @@
 -- What a run of a life has shown that was cut off is what a run of a history has shown.
-use Rattle.std.specs.Prelude.{◌≡◌, ℕ, Bool, List, [], ◌++◌, take}
+use Rattle.std.specs.Prelude.{◌≡◌, ℕ, Bool, false, List, [], ◌++◌, take}
 use Rattle.std.proofs.Common.{suc}
 use Rattle.ob_base.specs.Tree.{width}
 use Rattle.ob_base.specs.declared.params.Params.{Params}
@@ -52,5 +52,5 @@ CutOpeningsShowHistories = (p : Params) (word_of : WordId → ℕ) (slot : ℕ �
     → AreEndsShown p word_of (formatted_life slot) before → AreRecordsWhole p before → FillsAll p word_of f (planned_labels p word_of (reached p word_of (formatted_life slot) before)) []
     → (c : Fills) (found gates : ℕ → Bool) (count : ℕ) → AreGatesKept p (reached p word_of (formatted_life slot) before).epoch found gates
     → IsRunFilled p word_of f (reached p word_of (formatted_life slot) before) c [] [] []
-    → (run : HistoryRun) × ((run.found ≡ found_of_life p (reached p word_of (formatted_life slot) before) found)
+    → (run : HistoryRun) × ((run.mirrored ≡ false) × (run.found ≡ found_of_life p (reached p word_of (formatted_life slot) before) found)
     × (take count (notes_of_run p word_of (reached p word_of (formatted_life slot) before) c found gates []) ≡ run_notes p f run))

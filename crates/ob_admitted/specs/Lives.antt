@@ -28,13 +28,13 @@ pub record IsStoppedRun (p : Params) (word_of : WordId → ℕ) (f : AllFills) (
   pub count : ℕ
   pub kept : AreGatesKept p s.epoch found gates
   pub filled : IsRunFilled p word_of f s opening [] [] []
-  pub short : count ≤ length (opening_step p f (found_of_life p s found))
+  pub short : count ≤ length (opening_step p f false (found_of_life p s found))
   pub shown : notes ≡ take count (notes_of_run p word_of s opening found gates [])
 
 -- Behind its acts a run finds these gates, and what the notes tell; or just what this one found, if it stopped before its first sync.
 pub record IsStoppedLeft (p : Params) (word_of : WordId → ℕ) (f : AllFills) (s : LifeState) (found : ℕ → Bool) (count : ℕ) (acts : List LifeAct) (next : ℕ → Bool) : Type 0 where
   pub first : AreOpeningActs s acts
-  pub as_shown : cond (is_settled p f (found_of_life p s found) 0 count) (IsOpeningFoundAsShown p f (found_of_life p s found) count (found_of_life p (reached p word_of s acts) next))
+  pub as_shown : cond (is_settled p f false (found_of_life p s found) 0 count) (IsOpeningFoundAsShown p f (found_of_life p s found) count (found_of_life p (reached p word_of s acts) next))
       (found_of_life p (reached p word_of s acts) next ≡ found_of_life p s found)
 
 -- A run stopped behind its opening, within the batches that it repeats or behind them, and has made none of its calls.
@@ -44,7 +44,7 @@ pub record IsRepeatedRun (p : Params) (word_of : WordId → ℕ) (f : AllFills) 
   pub count : ℕ
   pub kept : AreGatesKept p s.epoch found gates
   pub filled : IsRunFilled p word_of f s opening [] [] []
-  pub begun : length (opening_step p f (found_of_life p s found)) ≤ count
+  pub begun : length (opening_step p f false (found_of_life p s found)) ≤ count
   pub shown : notes ≡ take count (notes_of_run p word_of s opening found gates [])
 
 -- It has begun its generation, whose gate stays open, and the other register's stays.

@@ -15,19 +15,20 @@ use Rattle.ob_admitted.specs.Wholes.{found_of_life}
 
 -- What is found behind a run of a history that showed its first sync is what it leaves; behind one that stopped before, what that found.
 abbrev pub LeavesFound : Params → AllFills → HistoryRun → RunFound → Type 0
-LeavesFound p f run next = cond (is_settled p f run.found run.steps run.shown) (MayFind p f (Some run) next) (next ≡ run.found)
+LeavesFound p f run next = cond (is_settled p f run.mirrored run.found run.steps run.shown) (MayFind p f (Some run) next) (next ≡ run.found)
 
--- a run's notes, where a life is and these gates are found: a run of a history shows them, which finds the life there
+-- a run's notes, where a life is and these gates are found: a run of a history without a mirror shows them, which finds the life there
 pub record IsRunShown (p : Params) (f : AllFills) (s : LifeState) (found : ℕ → Bool) (notes : List Note) : Type 0 where
   pub run : HistoryRun
+  pub alone : run.mirrored ≡ false
   pub finds : run.found ≡ found_of_life p s found
   pub shows : notes ≡ run_notes p f run
 
 -- An opening that found this stopped before its first sync: it showed some of its reads.
 pub record IsBarelyOpened (p : Params) (f : AllFills) (x : RunFound) (notes : List Note) : Type 0 where
   pub count : ℕ
-  pub few : count ≤ length (opening_reads p f x)
-  pub shows : notes ≡ take count (opening_step p f x)
+  pub few : count ≤ length (opening_reads p f false x)
+  pub shows : notes ≡ take count (opening_step p f false x)
 
 -- So did some behind a run, each of which found something that the run leaves.
 abbrev pub AreBarelyOpened : Params → AllFills → HistoryRun → List (List Note) → Type 0
@@ -50,7 +51,7 @@ AreRunsShown p word_of f s found (notes ∷ rest) = (one : IsRunShown p f s foun
 
 -- a format's line and notes, and those of runs behind it
 abbrev pub lines_of_runs : Params → List (List Note) → List Line
-lines_of_runs p rows = L.Start p ∷ lines_of_notes (format_notes p) ++ flat_map (λ notes. L.Open ∷ lines_of_notes notes) rows
+lines_of_runs p rows = L.Start p ∷ lines_of_notes (format_notes p) ++ flat_map (λ notes. L.Open false ∷ lines_of_notes notes) rows
 
 -- behind a format, whose registers' next gates are closed
 abbrev pub RowsAreAdmitted : Type 0

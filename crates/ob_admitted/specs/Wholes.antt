@@ -1,5 +1,5 @@
 -- A whole run of a life is a run of a history.
-use Rattle.std.specs.Prelude.{◌≡◌, ℕ, ◌+◌, Bool, true, List, [], ◌++◌, length}
+use Rattle.std.specs.Prelude.{◌≡◌, ℕ, ◌+◌, Bool, true, false, List, [], ◌++◌, length}
 use Rattle.std.proofs.Common.{suc}
 use Rattle.ob_base.specs.Layout.{EpochTwin, GenerationTwin}
 use Rattle.ob_base.specs.Tree.{width}
@@ -29,7 +29,7 @@ found_of_life p s found =
 
 -- the opening, the batches that it repeats, and the calls that were answered
 abbrev pub run_of_life : Params → LifeState → (ℕ → Bool) → List (Shape × Fills) → HistoryRun
-run_of_life p s found steps = record { found = found_of_life p s found; steps = suc (length s.log + length steps); shown = 0 }
+run_of_life p s found steps = record { mirrored = false; found = found_of_life p s found; steps = suc (length s.log + length steps); shown = 0 }
 
 -- of the gates known behind the opening, that of the durable epoch is open, and that of the next one as it was found
 pub record AreGatesKept (p : Params) (epoch : ℕ) (found gates : ℕ → Bool) : Type 0 where
