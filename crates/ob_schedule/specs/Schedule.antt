@@ -107,7 +107,7 @@ opens_gate q c = record q { gates = λ d. (d == c) || q.gates d }
 abbrev pub head_notes : List Note
 head_notes = Read 0 ∷ []
 
--- Behind it a run with a mirror reads the epoch's register, to know how many cells there are, and then copies each.
+-- Behind it a run with a mirror reads the epoch's register, and then copies each cell.
 abbrev pub copy_notes : Params → List Note
 copy_notes p = reads_of (region_cells p EpochTwin ++ below (ring_cells p))
 
