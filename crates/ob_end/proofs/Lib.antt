@@ -22,4 +22,5 @@ pub mod ScheduledEnds
 pub mod StandEnds
 pub mod StashLaws
 pub mod ToldEnds
+pub mod Stops
 pub mod Products

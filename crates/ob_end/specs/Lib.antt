@@ -5,4 +5,5 @@ pub mod Closings
 pub mod EndRuns
 pub mod Moments
 pub mod Shown
+pub mod Stops
 pub mod Sealing

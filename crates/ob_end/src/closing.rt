@@ -18,6 +18,7 @@ ghost use Rattle.ob_twin.specs.Opening.{GatesAre, gates_set, is_closed_first};
 ghost use Rattle.ob_twin.specs.Refused.{IsSetFault};
 ghost use Rattle.ob_twin.specs.Register.{place_of};
 ghost use Rattle.ob_end.specs.Closings.{ClosesEnd, CloseDoes, IfWritten, SameGeneration};
+ghost use Rattle.ob_end.specs.Stops.{CloseStops};
 
 use crate::writing::write_end;
 use ob_base::Params;
@@ -91,6 +92,10 @@ pub fn close_epoch<R: Threads + Sync, S: Store, W: Watch>(
     ensures does { CloseDoes (end_write_notes ring.old epoch)
         (is_closed_first gates.old.epoch (place_of epoch)) epoch (S.disk store.old).seen
         (S.disk store.new).seen (W.trace watch.old) (W.trace watch.new) result }
+    // Refused, it leaves the register's gates by how many of its notes weren't shown.
+    ensures stops { CloseStops sealer.old.keys (end_write_notes ring.old epoch)
+        (is_closed_first gates.old.epoch (place_of epoch)) epoch (S.disk store.old)
+        (S.disk store.new) (W.trace watch.old) (W.trace watch.new) result }
 {
     match write_end(rt, store, sealer, p, epoch, ring, sheet, bench, watch) {
         Ok(()) => {}

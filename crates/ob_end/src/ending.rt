@@ -31,6 +31,7 @@ ghost use Rattle.ob_end.specs.Closings.{SameGeneration};
 ghost use Rattle.ob_end.specs.EndRuns.{EndAnswered, EndRunCounts, EndDoes, EndDraws, EndStands, EndTables, IfEnded, IsEndReady, LeadsOn, end_err_of, end_writes, seals_for_end};
 ghost use Rattle.ob_end.specs.Moments.{EndMoments};
 ghost use Rattle.ob_end.specs.Shown.{EndShows};
+ghost use Rattle.ob_end.specs.Stops.{EndStops};
 
 use crate::closing::close_epoch;
 use crate::making::make_end;
@@ -144,7 +145,8 @@ pub fn end<S: Lanes, R: Threads + Sync, T: Tape, W: Watch>(
     ensures gates { OnOk result (run.new.gates ≡ gates_ended run.old.gates run.old.epoch) }
     // It shows the schedule's end of what the store knows of the epoch, whose lifts are dealt to
     // the crew's lanes, and refused what its answer says of it: up to the gate's write, or what
-    // comes before that, or the lifts alone.
+    // comes before that, or the lifts alone; and by how many of these notes weren't shown it leaves
+    // the register's gates.
     ensures scheduled { (notes : List Note) × Shows notes (W.trace watch.old) (W.trace watch.new)
         × ((c : Content) (rs : List BatchRecord)
         → PlansFrom run.old.params run.old.sealer.generation run.old.gates run.old.ring c rs
@@ -155,7 +157,11 @@ pub fn end<S: Lanes, R: Threads + Sync, T: Tape, W: Watch>(
         (fills_with_lifts run.old.params c rs)) (end_notes run.old.params
         (public_of_kept run.old.params c rs run.old.epoch run.old.gates)
         (fills_with_lifts run.old.params c rs)) notes (S.disk store.old).seen
-        (S.disk store.new).seen result) }
+        (S.disk store.new).seen result
+        × EndStops run.old.sealer.keys run.old.gates run.old.epoch (S.disk store.old)
+        (S.disk store.new) (end_notes run.old.params
+        (public_of_kept run.old.params c rs run.old.epoch run.old.gates)
+        (fills_with_lifts run.old.params c rs)) notes result) }
     // Behind it the store knows of the next epoch what the schedule's end leaves.
     ensures onward { (c : Content) (rs : List BatchRecord)
         → PlansFrom run.old.params run.old.sealer.generation run.old.gates run.old.ring c rs

@@ -6,3 +6,4 @@ pub mod Tags
 pub mod Clear
 pub mod Sets
 pub mod Frames
+pub mod Stops

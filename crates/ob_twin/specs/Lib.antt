@@ -4,6 +4,7 @@ pub mod Reading
 pub mod Opening
 pub mod Clear
 pub mod Orders
+pub mod Stops
 pub mod Refused
 pub mod Got
 pub mod Keyed

@@ -10,7 +10,8 @@ ghost use Rattle.ob_twin.specs.Clear.{IsClosing, IsLaying, SetLeft};
 ghost use Rattle.ob_twin.specs.Register.{first_of, body_at, gate_at, place_of, IsOpen, IsUnder, StandsAt, KeepsAt, IsPrepared, IsPut, SameOutside, SameTwo, IsTornOnly};
 ghost use Rattle.ob_twin.specs.Opening.{known_of, gates_set, is_closed_first, GatesAre};
 ghost use Rattle.ob_twin.specs.Refused.{IsSetFault, SetLeaves};
-ghost use Rattle.ob_twin.specs.Orders.{through_notes, prepare_notes, SetDoes, unsure_of};
+ghost use Rattle.ob_twin.specs.Orders.{through_notes, prepare_notes, set_notes, SetDoes, WriteDoes, unsure_of};
+ghost use Rattle.ob_twin.specs.Stops.{IsSettingLeft, SetStops, StopsShort};
 
 use crate::bytes::{closed_gate, open_gate, plain_of};
 use crate::known::{is_closed_first, known_of, set_known, with_mark};
@@ -47,6 +48,8 @@ fn close<S: Store, W: Watch>(
     ensures passes { Passes (SameBut gate) (S.disk store.old) (S.disk store.new) }
     ensures does { Does (if closes then through_notes gate else []) (S.disk store.old).seen
         (S.disk store.new).seen (W.trace watch.old) (W.trace watch.new) result }
+    ensures shown { OnErr result (IsTrue closes × WriteDoes gate (S.disk store.old).seen
+        (S.disk store.new).seen (W.trace watch.old) (W.trace watch.new) result) }
 {
     if closes {
         return write_out(store, gate, &closed_gate(), watch);
@@ -91,6 +94,10 @@ fn lay_body<S: Store, T: Stamper, W: Watch>(
         (KeepsAt (T.tag stamper.now) first (S.disk store.old).cells m) }
     ensures does { Does (prepare_notes closes first n) (S.disk store.old).seen
         (S.disk store.new).seen (W.trace watch.old) (W.trace watch.new) result }
+    ensures stops { OnErr result (StopsShort (set_notes closes first n)
+        (prepare_notes closes first n)
+        (IsSettingLeft (T.tag stamper.now) closes first n (S.disk store.old)) (S.disk store.old)
+        (S.disk store.new) (W.trace watch.old) (W.trace watch.new)) }
 {
     let body = first + 2 * (n % 2);
     close(store, closes, body + 1, watch)?;
@@ -168,6 +175,10 @@ impl Twin {
         ensures does { SetDoes (is_closed_first (known_of self gates.old) (place_of n))
             (first_of self) n (S.disk store.old).seen (S.disk store.new).seen (W.trace watch.old)
             (W.trace watch.new) result }
+        // Refused, it leaves its gate by how many of its notes weren't shown, and the other gate.
+        ensures stops { SetStops (T.tag stamper.now)
+            (is_closed_first (known_of self gates.old) (place_of n)) (first_of self) n
+            (S.disk store.old) (S.disk store.new) (W.trace watch.old) (W.trace watch.new) result }
     {
         let known = known_of(self, gates);
         let place = n % 2;

@@ -16,6 +16,9 @@ use Rattle.ob_twin.specs.declared.set_err.SetErr.TheVariants.{Before}
 use Rattle.ob_twin.specs.declared.twin.Twin.TheVariants.{EPOCH}
 use Rattle.ob_end.proofs.ActLaws.{set_moments, set_sealed, written_moments}
 use Rattle.ob_end.proofs.CloseLaws.{close_tells, closed, gates_kept, if_written, is_ending, mid_stands, seals_all, set_fault, written_leaves}
+use Rattle.ob_end.proofs.Stops.{set_stops, written_stops}
+use Rattle.ob_twin.proofs.Gating.{closed_of}
+use Rattle.ob_twin.specs.Stops.{SetStops}
 use Rattle.ob_end.proofs.closing.close_epoch.Goals as goal
 
 pub returns-in-Err-clause-faults : goal.returns-in-Err-clause-faults
@@ -179,3 +182,25 @@ returns-clause-clear g c = λ tells.
     by_then (tagging keys) old mid new.cells (none_clear (tagging keys) old mid (λ cell low. c.write_end.ensures.first here cell (omega (arith, low)))) new.seen c.set.result
     (subst (λ (x : Keys). InClearBy (tagging x) new.seen mid new.cells c.set.result) c.in-Ok.ensures.seals.some.keys
     (set_clear (tagging c.write_end.new.sealer.keys) EPOCH c.args.epoch (is_closed_first c.args.gates.now.epoch (place_of c.args.epoch)) new.seen mid new.cells c.requires.epoch c.set.result (c.set.ensures.done there) (c.set.ensures.refused tells)))
+
+-- ---- what is left of the register, by the notes
+
+pub returns-in-Err-clause-stops : goal.returns-in-Err-clause-stops
+returns-in-Err-clause-stops g c =
+    let old = g.S.Store.disk c.args.store.now in
+    written_stops c.args.sealer.now.keys (end_write_notes c.args.ring.now c.args.epoch) (is_closed_first c.args.gates.now.epoch (place_of c.args.epoch)) c.args.epoch old (g.S.Store.disk c.write_end.new.store)
+    (g.W.Watch.trace c.args.watch.now) (g.W.Watch.trace c.write_end.new.watch) c.in-Err.ensures.does.first c.write_end.ensures.moments
+    (λ tells. closed_of c.args.gates.now.epoch 5 c.args.epoch old.cells (c.requires.told tells))
+
+pub returns-clause-stops : goal.returns-clause-stops
+returns-clause-stops g c =
+    let keys = c.args.sealer.now.keys in
+    let closes = is_closed_first c.args.gates.now.epoch (place_of c.args.epoch) in
+    let old = g.S.Store.disk c.args.store.now in
+    let mid = g.S.Store.disk c.write_end.new.store in
+    let new = g.S.Store.disk c.set.new.store in
+    let between = g.W.Watch.trace c.write_end.new.watch in
+    let after = g.W.Watch.trace c.set.new.watch in
+    set_stops keys (end_write_notes c.args.ring.now c.args.epoch) closes c.args.epoch old mid new (g.W.Watch.trace c.args.watch.now) between after c.in-Ok.ensures.does.all c.in-Ok.ensures.serves.tells
+    (λ tells settled. c.in-Ok.ensures.durable tells) c.write_end.ensures.first c.set.result
+    (subst (λ (x : Keys). SetStops (tagging x) closes 5 c.args.epoch mid new between after c.set.result) c.in-Ok.ensures.seals.some.keys c.set.ensures.stops)

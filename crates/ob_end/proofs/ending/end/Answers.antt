@@ -1,4 +1,4 @@
-use Rattle.std.proofs.Common.{◌≡◌, ◌≤◌, ◌+◌, ℕ, ◌∙◌, inl, suc, false, true, Ok, Err, ap, arith, refl, subst, sym}
+use Rattle.std.proofs.Common.{◌≡◌, ◌≤◌, ◌+◌, ◌-◌, ℕ, ◌∙◌, inl, length, suc, false, true, Ok, Err, ap, arith, refl, subst, sym}
 use Rattle.ob_base.specs.Planned.{most_jobs}
 use Rattle.ob_cells.specs.Jobs.{Manned}
 use Rattle.ob_end.specs.Lifts.{lift_cells, lift_jobs, lift_notes}
@@ -32,7 +32,11 @@ use Rattle.ob_end.proofs.EndStage as stage
 use Rattle.ob_end.proofs.Moments.{ends_in_stages, made_but, moments_before, moments_closed, moments_ended}
 use Rattle.ob_end.specs.Moments.{EndMoments, end_setting}
 use Rattle.ob_end.proofs.ScheduledEnds.{front_at, lifts_scheduled}
-use Rattle.ob_end.proofs.ToldEnds.{cells_are, closed_told, cut_short, has_written, lifts_as, made_told, reads_are, refused_as}
+use Rattle.ob_end.proofs.Stops.{left_onto, lifts_lack, read_left, settled_on, stops_as}
+use Rattle.ob_end.proofs.ToldEnds.{cells_are, closed_told, cut_short, has_written, lifts_as, made_told, reads_are, refused_as, short_of}
+use Rattle.ob_end.specs.Stops.{IsEpochLeft}
+use Rattle.ob_store.specs.Disk.{Image}
+use Rattle.ob_twin.proofs.Gating.{closed_of}
 use Rattle.ob_store.proofs.Serving.{serves_err}
 use Rattle.ob_end.proofs.ending.end.Goals as goal
 
@@ -456,8 +460,13 @@ returns-in-Err-clause-scheduled g c =
       λ content rs from.
           let row = end_notes run.params (public_of_kept run.params content rs run.epoch run.gates) (fills_with_lifts run.params content rs) in
           let phases = end_phases run.params (public_of_kept run.params content rs run.epoch run.gates) (fills_with_lifts run.params content rs) in
-          lifts_as c.args.crew.now.lanes notes _ phases row told.0 old.seen mids.seen (Err (end.Before c.in-Err.fault)) (lifts_scheduled run.params run.sealer.generation run.ring fit.table content rs run.epoch run.gates fit.stands from)
-          (told.2 phases row (front_at run.params run.sealer.generation run.ring fit.table content rs run.epoch run.gates fit.stands from)),
+          let same = lifts_scheduled run.params run.sealer.generation run.ring fit.table content rs run.epoch run.gates fit.stands from in (
+            lifts_as c.args.crew.now.lanes notes _ phases row told.0 old.seen mids.seen (Err (end.Before c.in-Err.fault)) same
+                (told.2 phases row (front_at run.params run.sealer.generation run.ring fit.table content rs run.epoch run.gates fit.stands from)),
+            read_left run.sealer.keys (is_closed_first run.gates.epoch (place_of (suc run.epoch))) (suc run.epoch) (length row - length told.0) old mids c.make_end.ensures.passes
+                (lifts_lack run.params content rs run.epoch run.gates (fills_with_lifts run.params content rs) from.gate told.0 notes told.3 same)
+                (λ tells. closed_of run.gates.epoch 5 (suc run.epoch) old.cells (c.requires.told tells)),
+          ),
     )
 
 pub returns-in-Err-close_epoch-clause-scheduled : goal.returns-in-Err-close_epoch-clause-scheduled
@@ -483,18 +492,27 @@ returns-in-Err-close_epoch-clause-scheduled g c =
     let closes = is_closed_first run.gates.epoch (place_of (suc run.epoch)) in
     let one : mid.epoch + 1 ≡ suc run.epoch = (let same : mid.epoch ≡ run.epoch = ap (λ (m : Run). m.epoch) kept in omega (arith, same)) in
     let same_closes : is_closed_first mid.gates.epoch (place_of (mid.epoch + 1)) ≡ closes = ap (λ (m : Run). is_closed_first m.gates.epoch (place_of (m.epoch + 1))) kept ∙ ap (λ n. is_closed_first run.gates.epoch (place_of n)) (one_more run.epoch) in
+    let lifts_told = c.in-Ok.ensures.told run.ring.metas fit.table (seals_none run.ring.metas) fit.stands in
     let told = cut_short c.args.crew.now.lanes cells notes (reads_are jobs) (cells_are jobs) (end_write_notes mid.ring (suc run.epoch)) (has_written c.args.crew.now.lanes mid.ring (suc run.epoch)) closes (suc run.epoch) old.seen mids.seen new.seen
-    (g.W.Watch.trace c.args.watch.now) (g.W.Watch.trace c.make_end.new.watch) (g.W.Watch.trace c.close_epoch.new.watch) (c.in-Ok.ensures.told run.ring.metas fit.table (seals_none run.ring.metas) fit.stands) (mid.epoch + 1) c.in-Err-close_epoch.refused c.in-Err-close_epoch.ensures.faults
-    (does_as mid.ring mid.ring (mid.epoch + 1) (suc run.epoch) _ closes _ _ _ _ (Err c.in-Err-close_epoch.refused) refl one same_closes c.in-Err-close_epoch.ensures.does) in (
+    (g.W.Watch.trace c.args.watch.now) (g.W.Watch.trace c.make_end.new.watch) (g.W.Watch.trace c.close_epoch.new.watch) lifts_told
+    (λ lacking. (i : Image) → new.may_leave i → IsEpochLeft run.sealer.keys closes (suc run.epoch) mids lacking i) (mid.epoch + 1) c.in-Err-close_epoch.refused c.in-Err-close_epoch.ensures.faults
+    (short_of c.args.crew.now.lanes cells notes (reads_are jobs) (cells_are jobs) run.sealer.keys (end_write_notes mid.ring (suc run.epoch)) (has_written c.args.crew.now.lanes mid.ring (suc run.epoch)) closes (suc run.epoch) old.seen mids new
+    (g.W.Watch.trace c.args.watch.now) (g.W.Watch.trace c.make_end.new.watch) (g.W.Watch.trace c.close_epoch.new.watch) lifts_told c.in-Err-close_epoch.refused
+    (does_as mid.ring mid.ring (mid.epoch + 1) (suc run.epoch) _ closes _ _ _ _ (Err c.in-Err-close_epoch.refused) refl one same_closes c.in-Err-close_epoch.ensures.does)
+    (stops_as mid.ring _ _ (mid.epoch + 1) (suc run.epoch) _ closes mids new _ _ (Err c.in-Err-close_epoch.refused) (ap (λ (m : Run). m.sealer.keys) kept) one same_closes c.in-Err-close_epoch.ensures.stops)) in (
       told.0,
       told.1,
       λ content rs from.
           let row = end_notes run.params (public_of_kept run.params content rs run.epoch run.gates) (fills_with_lifts run.params content rs) in
           let phases = end_phases run.params (public_of_kept run.params content rs run.epoch run.gates) (fills_with_lifts run.params content rs) in
           let lifts = end_lifts run.params (public_of_kept run.params content rs run.epoch run.gates) (fills_with_lifts run.params content rs) in
-          refused_as c.args.crew.now.lanes lifts phases row told.0 old.seen new.seen (end_err_of c.in-Err-close_epoch.refused) c.end_err.result (sym c.end_err.ensures)
-          (lifts_as c.args.crew.now.lanes notes _ phases row told.0 old.seen new.seen (Err (end_err_of c.in-Err-close_epoch.refused)) (lifts_scheduled run.params run.sealer.generation run.ring fit.table content rs run.epoch run.gates fit.stands from)
-          (told.2 phases row (stage.whole run1 mid old writes words kept ready made low short may content rs from))),
+          let whole = stage.whole run1 mid old writes words kept ready made low short may content rs from in (
+            refused_as c.args.crew.now.lanes lifts phases row told.0 old.seen new.seen (end_err_of c.in-Err-close_epoch.refused) c.end_err.result (sym c.end_err.ensures)
+                (lifts_as c.args.crew.now.lanes notes _ phases row told.0 old.seen new.seen (Err (end_err_of c.in-Err-close_epoch.refused)) (lifts_scheduled run.params run.sealer.generation run.ring fit.table content rs run.epoch run.gates fit.stands from)
+                (told.2 phases row whole)),
+            λ i left. left_onto run.sealer.keys closes (suc run.epoch) (length row - length told.0) old mids c.make_end.ensures.keeps.tells (settled_on old mids c.make_end.ensures.passes c.make_end.ensures.keeps)
+                (λ tells k lt. c.make_end.ensures.keeps.cells tells k) i (told.3 row whole.0 i left),
+          ),
     )
 
 pub returns-clause-scheduled : goal.returns-clause-scheduled
@@ -523,7 +541,7 @@ returns-clause-scheduled g c =
     let told = closed_told c.args.crew.now.lanes cells notes (reads_are jobs) (cells_are jobs) (end_write_notes mid.ring (suc run.epoch)) (has_written c.args.crew.now.lanes mid.ring (suc run.epoch)) closes (suc run.epoch) old.seen mids.seen new.seen
     (g.W.Watch.trace c.args.watch.now) (g.W.Watch.trace c.make_end.new.watch) (g.W.Watch.trace c.close_epoch.new.watch) (c.in-Ok.ensures.told run.ring.metas fit.table (seals_none run.ring.metas) fit.stands)
     (does_as mid.ring mid.ring (mid.epoch + 1) (suc run.epoch) _ closes _ _ _ _ (Ok tt) refl one same_closes c.in-Ok-close_epoch.ensures.does) in
-    (told.0, told.1, λ content rs from. told.2 _ _ (stage.whole run1 mid old writes words kept ready made low short may content rs from))
+    (told.0, told.1, λ content rs from. (told.2 _ _ (stage.whole run1 mid old writes words kept ready made low short may content rs from), tt))
 
 pub returns-clause-gates : goal.returns-clause-gates
 returns-clause-gates g c =

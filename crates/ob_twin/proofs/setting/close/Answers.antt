@@ -11,6 +11,7 @@ use Rattle.ob_twin.specs.Clear.{IsWritten}
 use Rattle.ob_twin.specs.Register.{IsTornOnly}
 use Rattle.ob_twin.specs.Orders.{through_notes}
 use Rattle.ob_twin.proofs.Moves.{closed-isnt-open}
+use Rattle.ob_twin.proofs.Stops.{if_refused}
 use Rattle.ob_twin.proofs.setting.close.Goals as goal
 
 pub returns-then-closes-clause-shut : goal.returns-then-closes-clause-shut
@@ -68,3 +69,9 @@ returns-then-closes-clause-refused g c = λ tells.
       rest = c.write_out.ensures.rest (c.write_out.ensures.serves.goes.told tells);
     })
     (c.write_out.ensures.refused tells)
+
+-- ---- what it showed
+
+pub returns-then-closes-clause-shown : goal.returns-then-closes-clause-shown
+returns-then-closes-clause-shown g c =
+    if_refused c.args.gate c.args.closes (g.S.Store.disk c.args.store.now) (g.S.Store.disk c.write_out.new.store) (g.W.Watch.trace c.args.watch.now) (g.W.Watch.trace c.write_out.new.watch) c.write_out.result c.if-closes.true c.write_out.ensures.told

@@ -8,6 +8,7 @@ use Rattle.std.proofs.lemmas.Result.{IfOk-from_err}
 use Rattle.ob_store.specs.Calls.{IsFailed}
 use Rattle.ob_store.proofs.Serving.{serves_then, on_ok, on_err, if_err}
 use Rattle.ob_store.proofs.Keeping.{serves_failed}
+use Rattle.ob_twin.proofs.Stops.{closing_left, closing_stops, laying_left, laying_stops}
 use Rattle.ob_twin.proofs.setting.lay_body.Goals as goal
 
 pub returns-in_err-close-clause-any_moment : goal.returns-in_err-close-clause-any_moment
@@ -92,3 +93,26 @@ returns-clause-refused g c = λ tells.
       rest = λ k off on. c.write_out.ensures.rest there k off ∙ c.close.ensures.rest here k on;
     }))
     (c.write_out.ensures.refused tells)
+
+-- ---- what that leaves
+
+pub returns-in_err-close-clause-stops : goal.returns-in_err-close-clause-stops
+returns-in_err-close-clause-stops g c =
+    let tag = g.T.Stamper.tag c.args.stamper.now in
+    let old = g.S.Store.disk c.args.store.now in
+    let new = g.S.Store.disk c.close.new.store in
+    let before = g.W.Watch.trace c.args.watch.now in
+    let after = g.W.Watch.trace c.close.new.watch in
+    let shown = c.in_err-close.ensures.shown in
+    if_err _ c.from_residual.result
+    (closing_stops tag c.args.first c.args.n old old new before before after c.args.closes _ shown.0 shown.1 (closing_left tag c.args.first c.args.n c.args.closes old new shown.0 c.close.ensures.passes))
+
+pub returns-clause-stops : goal.returns-clause-stops
+returns-clause-stops g c =
+    let tag = g.T.Stamper.tag c.args.stamper.now in
+    let old = g.S.Store.disk c.args.store.now in
+    let mid = g.S.Store.disk c.close.new.store in
+    let new = g.S.Store.disk c.write_out.new.store in
+    laying_stops tag c.args.first c.args.n old mid new (g.W.Watch.trace c.args.watch.now) (g.W.Watch.trace c.close.new.watch) (g.W.Watch.trace c.write_out.new.watch) c.args.closes c.write_out.result
+    c.in_ok-close.ensures.does.all c.write_out.ensures.told
+    (laying_left tag c.args.first c.args.n c.args.closes old mid new c.in_ok-close.ensures.durable c.in_ok-close.ensures.shut c.close.ensures.rest c.write_out.ensures.passes)

@@ -16,6 +16,8 @@ use Rattle.ob_twin.proofs.Sets.{set_done, set_unsure, put_at, put_everywhere, le
 use Rattle.ob_twin.proofs.Gating.{are_marked, known_again, closed_of, open_of}
 use Rattle.ob_store.specs.Calls.{IsFailed}
 use Rattle.ob_store.proofs.Serving.{serves_err, serves_ok, serves_then}
+use Rattle.ob_twin.specs.Stops.{SetStops}
+use Rattle.ob_twin.proofs.Stops.{opening_left}
 use Rattle.ob_twin.proofs.twin.Twin.set.Goals as goal
 
 -- whether the gate is closed first, from what is known of the register
@@ -235,3 +237,33 @@ returns-in-Err-write_out-clause-refused g c = λ tells.
       gate_is = subst (λ (l : List ℕ). IsWritten (gate_at first place) l new.seen new.cells) c.open_gate.ensures (c.in-Err-write_out.ensures.refused tells);
       rest = λ k off on. c.write_out.ensures.rest there k on ∙ laid.rest k off on;
     })
+
+-- ---- what is left, by the notes
+
+pub returns-in-Err-clause-stops : goal.returns-in-Err-clause-stops
+returns-in-Err-clause-stops g c =
+    let tag = g.T.Stamper.tag c.args.stamper.now in
+    let old = g.S.Store.disk c.args.store.now in
+    let new = g.S.Store.disk c.lay_body.new.store in
+    let before = g.W.Watch.trace c.args.watch.now in
+    let after = g.W.Watch.trace c.lay_body.new.watch in
+    let closes_is = closed_by c.args.self c.args.gates.now c.known_of-known.result c.is_closed_first-closes.result c.args.n c.known_of-known.ensures c.is_closed_first-closes.ensures in
+    subst (λ b. SetStops tag b (first_of c.args.self) c.args.n old new before after (Err (Before (StoreFault None)))) closes_is
+    (subst (λ f. SetStops tag c.is_closed_first-closes.result f c.args.n old new before after (Err (Before (StoreFault None)))) c.first-first.ensures c.in-Err.ensures.stops)
+
+pub returns-in-Err-write_out-clause-stops : goal.returns-in-Err-write_out-clause-stops
+returns-in-Err-write_out-clause-stops g c =
+    let tag = g.T.Stamper.tag c.args.stamper.now in
+    let old = g.S.Store.disk c.args.store.now in
+    let mid = g.S.Store.disk c.lay_body.new.store in
+    let new = g.S.Store.disk c.write_out.new.store in
+    let before = g.W.Watch.trace c.args.watch.now in
+    let after = g.W.Watch.trace c.write_out.new.watch in
+    let fault = StoreFault c.unsure_of.result in
+    let closes_is = closed_by c.args.self c.args.gates.now c.known_of-known.result c.is_closed_first-closes.result c.args.n c.known_of-known.ensures c.is_closed_first-closes.ensures in
+    subst (λ b. SetStops tag b (first_of c.args.self) c.args.n old new before after (Err (Unsure fault))) closes_is
+    (subst (λ f. SetStops tag c.is_closed_first-closes.result f c.args.n old new before after (Err (Unsure fault))) c.first-first.ensures
+    (opening_left tag c.first-first.result c.args.n c.is_closed_first-closes.result old mid new c.in-Ok.ensures.durable c.in-Ok.ensures.done c.write_out.ensures.passes))
+
+pub returns-clause-stops : goal.returns-clause-stops
+returns-clause-stops g c = tt
