@@ -1,7 +1,6 @@
 //! The desk, over the running epoch and a closed one.
 
-#[cfg(test)]
-mod may;
+pub mod seen;
 
 ghost use Rattle.std.specs.Prelude.{◌≡◌, ℕ, ◌+◌, ◌-◌, ◌<◌, ◌≤◌, length, true, IfOk, OnOk, OnErr, Some, None, [], map, vec_capacity, is_some};
 ghost use Rattle.std.specs.Option.{option_and_then, option_map, option_or, unwrap_or};

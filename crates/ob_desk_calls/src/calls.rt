@@ -1,27 +1,31 @@
 //! Calls of clients, each as far as it may be made: None where it may not.
 
-use crate::{Begun, Desk, Done, Got, Txn};
+use crate::may::{may_abort, may_access, may_begin, may_commit, may_poll, may_settle};
 use ob_base::{Key, Memory, Value};
+use ob_desk::{Begun, Desk, Done, Got, Txn};
 use ob_serial::{Outcome, Why};
 
+/// A transaction of the client begins.
 pub fn begin(desk: &mut Desk, client: u32) -> Result<Option<Begun>, Memory> {
-    if !desk.may_begin(client) {
+    if !may_begin(desk, client) {
         return Ok(None);
     }
     Ok(Some(desk.begin(client)?))
 }
 
+/// A get.
 pub fn get(desk: &mut Desk, txn: &Txn, key: Key) -> Result<Option<Got>, Memory> {
     // The prover has to see this type named here.
     let _told: Option<Value> = None;
-    if !desk.may_access(txn, key) {
+    if !may_access(desk, txn, key) {
         return Ok(None);
     }
     Ok(Some(desk.get(txn, key)?))
 }
 
+/// The get that waits, once more.
 pub fn poll(desk: &mut Desk, txn: &Txn) -> Option<Got> {
-    if !desk.may_poll(txn) {
+    if !may_poll(desk, txn) {
         return None;
     }
     Some(desk.poll(txn))
@@ -34,7 +38,7 @@ pub fn write(
     key: Key,
     value: &Option<Value>,
 ) -> Result<Option<Done>, Memory> {
-    if !desk.may_access(txn, key) {
+    if !may_access(desk, txn, key) {
         return Ok(None);
     }
     match *value {
@@ -43,15 +47,17 @@ pub fn write(
     }
 }
 
+/// A request to commit.
 pub fn commit(desk: &mut Desk, txn: &Txn) -> Option<Done> {
-    if !desk.may_commit(txn) {
+    if !may_commit(desk, txn) {
         return None;
     }
     Some(desk.commit(txn))
 }
 
+/// The transaction's client aborts it: why it is aborted.
 pub fn abort(desk: &mut Desk, txn: &Txn) -> Option<Why<Key>> {
-    if !desk.may_abort(txn) {
+    if !may_abort(desk, txn) {
         return None;
     }
     Some(desk.abort(txn))
@@ -59,7 +65,7 @@ pub fn abort(desk: &mut Desk, txn: &Txn) -> Option<Why<Key>> {
 
 /// How the transaction ended, if it has.
 pub fn settled(desk: &Desk, txn: &Txn) -> Option<Option<Outcome<Key>>> {
-    if !desk.may_settle(txn) {
+    if !may_settle(desk, txn) {
         return None;
     }
     Some(desk.settled(txn))

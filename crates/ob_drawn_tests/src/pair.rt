@@ -2,11 +2,12 @@
 
 ghost use Rattle.std.specs.Prelude.{◌≡◌, ℕ, ◌*◌, ◌<◌, ◌≤◌, true, Some};
 
-use super::calls;
-use super::plain_desk::PlainDesk;
-use super::told::{are_writes, is_done, is_got, is_look, is_told};
-use crate::{Begun, Desk, Done, Got, Txn};
+use crate::plain_desk::PlainDesk;
+use crate::told::{are_writes, is_done, is_got, is_look, is_told};
 use ob_base::{Key, Params, Value};
+use ob_desk::{Begun, Desk, Done, Got, Txn};
+use ob_desk_calls as calls;
+use ob_desk_calls::{may_close, may_look, may_publish, may_take};
 use ob_serial::{Outcome, Why};
 use ob_shares::Shares;
 use std::alloc::Global;
@@ -45,15 +46,31 @@ pub struct Setup {
 /// How many clients there are.
 pub const CLIENTS: u32 = 8;
 
-/// Both desks, the numbers that decide what is called, and how many calls were answered with each
-/// cause of an abort but a stop.
+/// The numbers that decide what is called, and how many calls were answered with each cause of an
+/// abort but a stop.
+#[derive(Clone, Copy)]
+pub struct Drawn {
+    pub random: Random,
+    pub causes: [u64; 8],
+}
+
+impl Drawn {
+    /// Numbers that begin so, before any call.
+    pub fn new(state: u64) -> Drawn {
+        Drawn {
+            random: Random { state },
+            causes: [0; 8],
+        }
+    }
+}
+
+/// Both desks.
 #[derive(Drop)]
 pub struct Pair {
     pub alloc: Global,
     pub desk: Desk,
     pub plain: PlainDesk,
-    pub random: Random,
-    pub causes: [u64; 8],
+    pub drawn: Drawn,
 }
 
 // Whether all clients' shares have places.
@@ -74,15 +91,9 @@ fn open(rt: &impl Abort, alloc: Global, params: &Params, shares: Shares, left: u
     Desk::new(alloc, params, 1, left, &[1, 2, 3, 4, 5, 6, 7, 8], shares).expect(rt, "memory")
 }
 
-/// Two desks of eight clients, whose first epoch has so many batches left.
-pub fn open_both(
-    rt: &impl Abort,
-    alloc: Global,
-    setup: &Setup,
-    left: u32,
-    random: Random,
-    causes: [u64; 8],
-) -> Pair {
+/// Two desks of eight clients, whose first epoch has as many batches left as is drawn.
+pub fn open_both(rt: &impl Abort, alloc: Global, setup: &Setup, mut drawn: Drawn) -> Pair {
+    let left = drawn.random.below(u64::from(setup.batches) + 1) as u32;
     let Setup {
         keys,
         batches,
@@ -100,8 +111,7 @@ pub fn open_both(
         alloc,
         desk,
         plain,
-        random,
-        causes,
+        drawn,
     }
 }
 
@@ -172,35 +182,35 @@ pub fn begin(rt: &impl Abort, pair: &mut Pair, client: u32) -> bool {
 pub fn get(rt: &impl Abort, pair: &mut Pair, txn: &Txn, key: Key) -> bool {
     let got = calls::get(&mut pair.desk, txn, key).expect(rt, "memory");
     let wanted = pair.plain.get(rt, txn, key);
-    same_got(&mut pair.causes, &got, &wanted)
+    same_got(&mut pair.drawn.causes, &got, &wanted)
 }
 
 /// A poll.
 pub fn poll(rt: &impl Abort, pair: &mut Pair, txn: &Txn) -> bool {
     let got = calls::poll(&mut pair.desk, txn);
     let wanted = pair.plain.poll(rt, txn);
-    same_got(&mut pair.causes, &got, &wanted)
+    same_got(&mut pair.drawn.causes, &got, &wanted)
 }
 
 /// A put, or a delete where there is no value.
 pub fn write(rt: &impl Abort, pair: &mut Pair, txn: &Txn, key: Key, value: &Option<Value>) -> bool {
     let done = calls::write(&mut pair.desk, txn, key, value).expect(rt, "memory");
     let wanted = pair.plain.write(rt, txn, key, value);
-    same_done(&mut pair.causes, &done, &wanted)
+    same_done(&mut pair.drawn.causes, &done, &wanted)
 }
 
 /// A request to commit.
 pub fn commit(pair: &mut Pair, txn: &Txn) -> bool {
     let done = calls::commit(&mut pair.desk, txn);
     let wanted = pair.plain.commit(txn);
-    same_done(&mut pair.causes, &done, &wanted)
+    same_done(&mut pair.drawn.causes, &done, &wanted)
 }
 
 /// The client aborts its transaction.
 pub fn abort(pair: &mut Pair, txn: &Txn) -> bool {
     let why = calls::abort(&mut pair.desk, txn);
     if let Some(why) = why {
-        count(&mut pair.causes, &why);
+        count(&mut pair.drawn.causes, &why);
     }
     why == pair.plain.abort(txn)
 }
@@ -209,14 +219,14 @@ pub fn abort(pair: &mut Pair, txn: &Txn) -> bool {
 pub fn settled(pair: &mut Pair, txn: &Txn) -> bool {
     let outcome = calls::settled(&pair.desk, txn);
     if let Some(Some(Outcome::Aborted { why })) = outcome {
-        count(&mut pair.causes, &why);
+        count(&mut pair.drawn.causes, &why);
     }
     outcome == pair.plain.settled(txn)
 }
 
 /// The driver looks.
 pub fn look(pair: &Pair) -> bool {
-    if !pair.desk.may_look() {
+    if !may_look(&pair.desk) {
         return pair.plain.look().is_none();
     }
     let seen = pair.desk.look();
@@ -246,7 +256,7 @@ fn take<const N: usize>(
     plain: &mut PlainDesk,
 ) -> bool {
     let mut keys = [None; N];
-    if !desk.may_take() || desk.params().places as usize != N {
+    if !may_take(desk) || desk.params().places as usize != N {
         return !plain.may_take();
     }
     desk.take_batch(&mut keys);
@@ -272,7 +282,7 @@ pub fn close(rt: &impl Abort, pair: &mut Pair) -> bool {
         rt, "memory",
     );
     let wanted = pair.plain.close(rt, alloc);
-    if !pair.desk.may_close() {
+    if !may_close(&pair.desk) {
         return wanted.is_none();
     }
     pair.desk.close(&mut out);
@@ -287,7 +297,7 @@ pub fn publish(rt: &impl Abort, pair: &mut Pair) -> bool {
     let alloc = pair.alloc;
     let epoch = pair.plain.running.number;
     let left = pair.plain.params.batches;
-    if !pair.desk.may_publish(epoch, left) {
+    if !may_publish(&pair.desk, epoch, left) {
         return !pair.plain.is_closed;
     }
     let told = pair.desk.publish(epoch, left);

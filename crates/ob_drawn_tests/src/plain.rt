@@ -109,6 +109,18 @@ impl PlainEpoch {
         }
     }
 
+    /// Another epoch begins in its place.
+    pub fn restart(&mut self, number: u64, left: u64) {
+        self.number = number;
+        self.left = left;
+        self.txns.clear();
+        self.deeds.clear();
+        self.queue.clear();
+        self.bases.clear();
+        self.read.clear();
+        self.changed.clear();
+    }
+
     /// The transaction of this ticket.
     pub fn txn(&self, ticket: u64) -> Option<PlainTxn> {
         for txn in &self.txns {

@@ -1,8 +1,8 @@
 //! Whether two answers are the same, and whether a record tells what a plain epoch's lists have.
 
-use super::plain::{PlainEpoch, PlainTxn};
-use crate::{Done, Got, Look};
+use crate::plain::{PlainEpoch, PlainTxn};
 use ob_base::{Key, Op, Value, Write};
+use ob_desk::{Done, Got, Look};
 use ob_serial::{EpochRecord, Outcome, TxnRecord};
 
 /// Whether two gets or polls are answered alike.

@@ -1,9 +1,9 @@
 //! Worked cases of client shares: two clients, who may name one key each by gets, and one each by puts
 //! and deletes.
 
-use super::{Answer, Call, EPOCH_END, first_wrong};
+use crate::desks::{Answer, Call, Row, expect_all};
+use crate::rows::EPOCH_END;
 use ob_serial::Why;
-use std::test::Fail;
 
 const ASKED: Answer = Answer::Aborted(Why::Asked);
 
@@ -39,7 +39,7 @@ const SEEN: Answer = Answer::Seen {
     clients: 2,
 };
 
-const SHARED: [(Call, Answer); 47] = [
+const SHARED: &[Row] = &[
     // With no batch left a get has no place, and names its key all the same.
     (Call::Shared(0), Answer::Yes),
     (Call::Get(1, 5), NO_BATCH),
@@ -96,7 +96,6 @@ const SHARED: [(Call, Answer); 47] = [
 ];
 
 #[test]
-fn calls_with_shares_are_answered_so(rt: HostRuntime) -> Result<(), Fail> {
-    assert_eq!(rt; first_wrong(rt.alloc(), &SHARED)?, None);
-    Ok(())
+fn calls_with_shares_are_answered_so(rt: HostRuntime) {
+    expect_all(&rt, rt.alloc(), SHARED);
 }

@@ -1,9 +1,9 @@
 //! A plain desk: each call goes by the rules of docs/TRANSACTIONS.md, over lists. A call that may
 //! not be made is answered None.
 
-use super::plain::{Found, PlainEpoch, PlainTxn, note, past};
-use crate::{Done, Got, Look, Txn};
+use crate::plain::{Found, PlainEpoch, PlainTxn, note, past};
 use ob_base::{Key, Op, Params, Value, Write};
+use ob_desk::{Done, Got, Look, Txn};
 use ob_serial::{Outcome, Why};
 use ob_shares::Shares;
 use std::alloc::Global;
@@ -377,8 +377,8 @@ impl PlainDesk {
         }
         self.running.end();
         let number = self.running.number.saturating_add(1);
-        let next = PlainEpoch::new(alloc, number, u64::from(self.params.batches));
-        self.closed = mem::replace(&mut self.running, next);
+        mem::swap(&mut self.running, &mut self.closed);
+        self.running.restart(number, u64::from(self.params.batches));
         self.is_closed = true;
         Some(self.closed.last_set(rt, alloc, self.params.keys))
     }

@@ -1,12 +1,13 @@
 //! Histories that are drawn, of eight clients, with shares and without: a desk answers each call as a
 //! plain desk does.
 
-use super::pair::{
-    CLIENTS, Pair, Random, Setup, abort, begin, close, commit, get, look, open_both, poll, publish,
+use crate::pair::{
+    CLIENTS, Drawn, Pair, Random, Setup, abort, begin, close, commit, get, look, poll, publish,
     round, settled, write,
 };
-use crate::Txn;
+use crate::playing::{Run, play};
 use ob_base::{Key, Value};
+use ob_desk::Txn;
 use ob_shares::{NO_SHARES, Shares};
 use std::alloc::Global;
 use std::process::Abort;
@@ -84,7 +85,7 @@ fn value_of(random: &mut Random) -> Option<Value> {
 
 // Which kind of call it is, of 16: most often one that the transaction may make.
 fn kind_of(pair: &mut Pair, txn: &Txn) -> u64 {
-    let kind = pair.random.below(16);
+    let kind = pair.drawn.random.below(16);
     if kind < 12 && pair.plain.outcome(txn).is_some() {
         return 15;
     }
@@ -99,11 +100,11 @@ pub fn call(rt: &impl Abort, pair: &mut Pair, setup: &Setup, client: u32) -> boo
     let Some(txn) = pair.plain.last(client) else {
         return begin(rt, pair, client);
     };
-    let key = key_of(&mut pair.random, setup);
+    let key = key_of(&mut pair.drawn.random, setup);
     match kind_of(pair, &txn) {
         0..=4 => get(rt, pair, &txn, key),
         5..=9 => {
-            let value = value_of(&mut pair.random);
+            let value = value_of(&mut pair.drawn.random);
             write(rt, pair, &txn, key, &value)
         }
         10 | 11 => commit(pair, &txn),
@@ -116,7 +117,7 @@ pub fn call(rt: &impl Abort, pair: &mut Pair, setup: &Setup, client: u32) -> boo
 
 // A call of the driver. Whether it is answered alike.
 fn drive(rt: &impl Abort, pair: &mut Pair) -> bool {
-    match pair.random.below(8) {
+    match pair.drawn.random.below(8) {
         0 | 1 => round(rt, pair),
         2..=4 => close(rt, pair),
         5 | 6 => publish(rt, pair),
@@ -124,11 +125,11 @@ fn drive(rt: &impl Abort, pair: &mut Pair) -> bool {
     }
 }
 
-// So many calls: whether all are answered alike.
-fn are_alike(rt: &impl Abort, pair: &mut Pair, setup: &Setup, calls: u32) -> bool {
+/// So many calls that are drawn: whether all are answered alike.
+pub fn are_alike(rt: &impl Abort, pair: &mut Pair, setup: &Setup, calls: u32) -> bool {
     for _ in 0..calls {
-        let client = client_of(&mut pair.random);
-        let alike = if pair.random.below(8) == 0 {
+        let client = client_of(&mut pair.drawn.random);
+        let alike = if pair.drawn.random.below(8) == 0 {
             drive(rt, pair)
         } else {
             call(rt, pair, setup, client)
@@ -140,34 +141,31 @@ fn are_alike(rt: &impl Abort, pair: &mut Pair, setup: &Setup, calls: u32) -> boo
     true
 }
 
-// A history that the numbers draw, which go on behind it, as the counts of causes do. Whether each call
-// is answered alike.
-fn history(
-    rt: &impl Abort,
-    alloc: Global,
-    setup: &Setup,
-    random: &mut Random,
-    causes: &mut [u64; 8],
-) -> bool {
-    let left = random.below(u64::from(setup.batches) + 1) as u32;
-    let mut drawn = open_both(rt, alloc, setup, left, *random, *causes);
-    let alike = are_alike(rt, &mut drawn, setup, 120);
-    *random = drawn.random;
-    *causes = drawn.causes;
-    alike
+// Histories of 120 calls: whether each call is answered alike.
+fn histories(rt: &impl Abort, alloc: Global, drawn: &mut Drawn) -> bool {
+    let mut none = Vec::new(alloc);
+    for _ in 0..800 {
+        for setup in SETUPS {
+            if !play(rt, alloc, setup, drawn, &Run::Drawn(120), &mut none) {
+                return false;
+            }
+        }
+    }
+    true
+}
+
+// Whether each cause of an abort but a stop came often.
+fn came_often(causes: &[u64; 8]) -> bool {
+    for many in causes {
+        if *many < 300 {
+            return false;
+        }
+    }
+    true
 }
 
 #[test]
 fn drawn_histories_are_answered_as_by_a_plain_desk(rt: HostRuntime) {
-    let mut random = Random { state: 1 };
-    let mut causes: [u64; 8] = [0; 8];
-    for _ in 0..800 {
-        for setup in SETUPS {
-            assert!(rt; history(&rt, rt.alloc(), setup, &mut random, &mut causes));
-        }
-    }
-    // Each cause of an abort but a stop came often.
-    for many in &causes {
-        assert!(rt; *many >= 300);
-    }
+    let mut drawn = Drawn::new(1);
+    assert!(rt; histories(&rt, rt.alloc(), &mut drawn) && came_often(&drawn.causes));
 }

@@ -1,9 +1,9 @@
 //! Worked cases of an epoch that runs while the one before it is closed, and not ended yet.
 
-use super::{Answer, Call, DOUBT, NO_WRITE_PLACE, Wrote, first_wrong};
+use crate::desks::{Answer, Call, Row, Wrote, expect_all};
+use crate::rows::{DOUBT, NO_WRITE_PLACE};
 use ob_base::Fault;
 use ob_serial::{Outcome, Why};
-use std::test::Fail;
 
 const FIRST: Answer = Answer::Began {
     epoch: 2,
@@ -34,7 +34,9 @@ const FIFTH: Answer = Answer::Began {
 const ONE_TOLD: Answer = Answer::Told {
     epoch: 1,
     txns: 1,
-    ended: [Some(Outcome::Committed), None, None],
+    first: Some(Outcome::Committed),
+    second: None,
+    third: None,
 };
 
 const STARVED: Answer = Answer::Aborted(Why::Stopped {
@@ -47,7 +49,7 @@ const STORE_FAILED: Answer = Answer::Aborted(Why::Stopped { fault: FAILED });
 
 const DOUBTED: Answer = Answer::Aborted(Why::Stopped { fault: DOUBT });
 
-const BESIDE_AN_END: [(Call, Answer); 82] = [
+const BESIDE_AN_END: &[Row] = &[
     // It is above none of the closed one's versions, and its own transactions aren't told.
     (Call::Anew(1), Answer::Yes),
     (Call::Put(1, 5), Answer::Yes),
@@ -145,7 +147,6 @@ const BESIDE_AN_END: [(Call, Answer); 82] = [
 ];
 
 #[test]
-fn calls_beside_an_end_are_answered_so(rt: HostRuntime) -> Result<(), Fail> {
-    assert_eq!(rt; first_wrong(rt.alloc(), &BESIDE_AN_END)?, None);
-    Ok(())
+fn calls_beside_an_end_are_answered_so(rt: HostRuntime) {
+    expect_all(&rt, rt.alloc(), BESIDE_AN_END);
 }

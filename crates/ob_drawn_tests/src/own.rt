@@ -1,18 +1,19 @@
 //! One client's calls beside two different sets of others' calls: its shares refuse the same ones.
 
-use super::calls;
-use super::drawn::{SETUPS, call, key_of};
-use super::pair::{Pair, Random, Setup, begin, get, open_both, poll, round, write};
-use super::plain::{note, past};
-use crate::{Desk, Txn};
+use crate::drawn::{SETUPS, call, key_of};
+use crate::pair::{Drawn, Pair, Random, Setup, begin, get, poll, round, write};
+use crate::plain::{note, past};
+use crate::playing::{Run, play};
 use ob_base::{Key, Value};
+use ob_desk::{Desk, Txn};
+use ob_desk_calls as calls;
 use ob_serial::{Outcome, Why};
 use std::alloc::Global;
 use std::process::Abort;
 
-// What the client of whom it is asked does: a get of a key, or a put.
+/// What the client of whom it is asked does: a get of a key, or a put.
 #[derive(Clone, Copy)]
-struct Access {
+pub struct Access {
     key: Key,
     puts: bool,
 }
@@ -75,9 +76,9 @@ fn ready(rt: &impl Abort, pair: &mut Pair) -> Option<Txn> {
 
 // Some calls of others, and batches: whether they are answered alike.
 fn others(rt: &impl Abort, pair: &mut Pair, setup: &Setup) -> bool {
-    for _ in 0..pair.random.below(6) {
-        let client = (pair.random.below(7) as u32).saturating_add(2);
-        let alike = if pair.random.below(9) == 0 {
+    for _ in 0..pair.drawn.random.below(6) {
+        let client = (pair.drawn.random.below(7) as u32).saturating_add(2);
+        let alike = if pair.drawn.random.below(9) == 0 {
             round(rt, pair)
         } else {
             call(rt, pair, setup, client)
@@ -117,31 +118,44 @@ fn make_access(rt: &impl Abort, pair: &mut Pair, setup: &Setup, access: &Access)
     Some(is_refused(&pair.desk, &txn))
 }
 
-// Which of these calls of the first client are refused by a share, beside others' calls that the
-// numbers draw.
-fn refused(
+/// Makes these calls of the first client, each behind some calls of others that are drawn, and notes
+/// which of them a share refuses. Whether each call is answered alike.
+pub fn make_all(
+    rt: &impl Abort,
+    pair: &mut Pair,
+    setup: &Setup,
+    own: &[Access],
+    refused: &mut Vec<bool>,
+) -> bool {
+    for one in own {
+        match make_access(rt, pair, setup, one) {
+            Some(so) => refused.push(so).expect(rt, "memory"),
+            None => return false,
+        }
+    }
+    true
+}
+
+// Whether just those are refused that are wanted, beside calls of others that are drawn.
+fn are_refused(
     rt: &impl Abort,
     alloc: Global,
     setup: &Setup,
     own: &[Access],
-    random: Random,
-) -> Vec<bool> {
-    let mut random = random;
-    let left = random.below(u64::from(setup.batches) + 1) as u32;
-    let mut beside = open_both(rt, alloc, setup, left, random, [0; 8]);
-    let mut list = Vec::new(alloc);
-    for one in own {
-        if let Some(refused) = make_access(rt, &mut beside, setup, one) {
-            list.push(refused).expect(rt, "memory");
-        }
-    }
-    list
-}
-
-fn another(random: &mut Random) -> Random {
-    Random {
-        state: random.below(1 << 31),
-    }
+    wanted: &[bool],
+    random: &mut Random,
+) -> bool {
+    let mut drawn = Drawn::new(random.below(1 << 31));
+    let mut refused = Vec::new(alloc);
+    let alike = play(
+        rt,
+        alloc,
+        setup,
+        &mut drawn,
+        &Run::Beside(own),
+        &mut refused,
+    );
+    alike && refused.as_slice() == wanted
 }
 
 fn count(list: &[bool]) -> u64 {
@@ -152,20 +166,23 @@ fn count(list: &[bool]) -> u64 {
     many
 }
 
+// How many of some calls of the first client are refused: the same beside two sets of others' calls.
+fn refusals(rt: &impl Abort, alloc: Global, setup: &Setup, random: &mut Random) -> u64 {
+    let own = accesses(rt, alloc, random, setup);
+    let wanted = wanted(rt, alloc, setup, &own);
+    for _ in 0..2 {
+        assert!(rt; are_refused(rt, alloc, setup, &own, &wanted, random));
+    }
+    count(&wanted)
+}
+
 #[test]
 fn shares_refuse_the_same_calls_beside_other_calls_of_others(rt: HostRuntime) {
-    let alloc = rt.alloc();
     let mut random = Random { state: 2 };
     let mut many: u64 = 0;
     for _ in 0..400 {
         for setup in SETUPS {
-            let own = accesses(&rt, alloc, &mut random, setup);
-            let wanted = wanted(&rt, alloc, setup, &own);
-            let one = refused(&rt, alloc, setup, &own, another(&mut random));
-            let other = refused(&rt, alloc, setup, &own, another(&mut random));
-            assert!(rt; one.as_slice() == other.as_slice());
-            assert!(rt; one.as_slice() == wanted.as_slice());
-            many = many.saturating_add(count(&wanted));
+            many = many.saturating_add(refusals(&rt, rt.alloc(), setup, &mut random));
         }
     }
     assert!(rt; many >= 1000);
