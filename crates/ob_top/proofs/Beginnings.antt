@@ -8,7 +8,7 @@ use Rattle.ob_base.specs.declared.params.Params.{Params}
 use Rattle.ob_io.specs.Streams.{Flow}
 use Rattle.ob_pads.specs.Lives.{IsFormattedStore}
 use Rattle.ob_vault.proofs.Formatting.{ring_formats}
-use Rattle.ob_vault.proofs.Opening.{opened_notes, opens_or_not, ring_leaves_standing, ring_opens, ring_opens_at}
+use Rattle.ob_vault.proofs.Opening.{goes_on, opened_notes, opens_or_not, ring_leaves_standing, ring_opens, ring_opens_at}
 use Rattle.ob_vault.proofs.Refusing.{ring_refuses}
 use Rattle.ob_vault.specs.RingLaws.{ReadsHead, found_ring}
 use Rattle.ob_vault.specs.RingKind.{ring_kind}
@@ -47,7 +47,7 @@ use Rattle.ob_start.specs.Orders.{registers_notes}
 use Rattle.ob_opening.specs.Openings.{IsOpenFault, IsOpenRefusal, IsStandingRefusal, OpensWhatStood}
 use Rattle.ob_opening.specs.declared.opening.Opening.{Opening}
 use Rattle.ob_top.proofs.Running.{IsQuiet}
-use Rattle.ob_top.specs.Begun.{IsBegun, MayServe}
+use Rattle.ob_top.specs.Begun.{IsBegun, MayGoOn, MayServe}
 use Rattle.ob_top.specs.Formats.{FormatEnds, IsFormatted}
 use Rattle.ob_top.specs.Runs.{BreaksAtHead, BreaksAtOpening, EndsEarly}
 use Rattle.ob_top.specs.Parts.{CameIn, SharesFit}
@@ -97,9 +97,6 @@ module _ {S : Type 0} (disk : S → Disk) (keys : Keys) (most : ℕ) (some : 1 �
   begun {L} first shown later o is told stands head_shown whole =
       let so = ring_opens L disk keys most p old mid new shown later o some read is in
       record {
-        found = is.found;
-        goes_on = so.goes_on;
-        planned = opened_plans disk keys most p mid new shown later o is;
         start = (is.found).gates;
         opened = record { head = head; came = came; finds = so.finds; starts = so.starts };
         seen = so.seen;
@@ -135,6 +132,15 @@ module _ {S : Type 0} (disk : S → Disk) (keys : Keys) (most : ℕ) (some : 1 �
         opens = either;
         stops_life = λ tells word_of s pending here each. stops_in_life keys most p (disk old) (disk mid) (disk new) shown later false read word_of s pending (λ at. acts word_of s pending (read.keeps.tells tells) at) tells here each;
       }))
+
+-- a run goes on from what an opening found
+pub may_go_on : {S L : Type 0} (disk : S → Disk) (keys : Keys) (most : ℕ) (p : Params) (old new : S) (before later : Trace) (o : Opening L) (is : IsRingOpened disk keys most p old new before later o) → MayGoOn keys p o (found_ring is.found o)
+may_go_on disk keys most p old new before later o is = record {
+  run = refl;
+  found = is.found;
+  goes_on = goes_on keys p (disk old) (disk old) (disk new) is.found o is.is;
+  planned = opened_plans disk keys most p old new before later o is;
+}
 
 -- a vault may be made of an opening
 pub may_serve : {S L : Type 0} (disk : S → Disk) (keys : Keys) (most : ℕ) (p : Params) (mid new : S) (shown later : Trace) (present : ℕ) (drawn : List ℕ) (o : Opening L) (is : IsRingOpened disk keys most p mid new shown later o) → ((disk new).tells → (disk mid).tells)

@@ -1,39 +1,77 @@
 -- Private: what a run over a ring store is begun with.
-use Rattle.std.specs.Prelude.{ℕ, ◌≡◌, ◌≤◌, List, length}
+use Rattle.std.specs.Prelude.{ℕ, ◌≡◌, ◌≤◌, false, List, [], ◌∷◌, length}
 use Rattle.ob_base.specs.declared.params.Params.{Params}
 use Rattle.ob_io.specs.Streams.{Flow}
-use Rattle.ob_vault.specs.Kinds.{IsOpenedAt, Stands}
+use Rattle.ob_vault.specs.Kinds.{AllStand, IsOpenedAt, Stands, StandsAsBefore}
 use Rattle.ob_recover.specs.Fits.{IsPlannerFit}
 use Rattle.ob_recover.specs.Telling.{ArePhasesMade}
 use Rattle.ob_recover.specs.declared.found.Found.{Found}
 use Rattle.ob_vault.specs.RingKind.{GoesOnFrom, RingFound, ring_kind}
-use Rattle.ob_vault.specs.RingVaults.{HasPlanned}
+use Rattle.ob_vault.specs.RingVaults.{HasPlanned, run_over}
 use Rattle.ob_script.specs.Script.{Scripts}
+use Rattle.ob_seal.specs.Sealing.{Sealing}
 use Rattle.ob_seal.specs.declared.keys.Keys.{Keys}
 use Rattle.ob_serial.specs.Vaults.{Standing}
+use Rattle.ob_shares.specs.declared.shares.Shares.{Shares}
+use Rattle.ob_conduct.specs.declared.run_err.RunErr.{RunErr}
+use Rattle.ob_store.specs.Calls.{GoesOn, Keeps, Notes}
 use Rattle.ob_store.specs.Disk.{Disk}
+use Rattle.ob_store.specs.Images.{IsSynced, LeavesOnly, Passes, Same}
+use Rattle.ob_store.specs.declared.event.Event.TheVariants as event
+use Rattle.ob_store.specs.declared.watch.Note.TheVariants as note
 use Rattle.ob_twin.specs.Opening.{GatesAre}
 use Rattle.ob_twin.specs.declared.gates.Gates.{Gates}
 use Rattle.ob_opening.specs.declared.opening.Opening.{Opening}
-use Rattle.ob_store.specs.Lines.{Trace}
-use Rattle.ob_top.specs.Runs.{ShownBehindHead}
+use Rattle.ob_store.specs.Lines.{Shows, Trace}
+use Rattle.ob_vault.specs.RingLives.{ring_lives}
+use Rattle.ob_top.specs.Runs.{EndsEarly, IsReadAndOpened, LivesUnserved, ShownBehindHead}
+use Rattle.ob_top.specs.Staged.{OpensInStages}
 use Rattle.ob_top.specs.Parts.{IsOpened, begin_phases}
 
 -- as many lanes as a run may have
 abbrev pub AreFewLanes : ℕ → Type 0
 AreFewLanes most = (1 ≤ most) × (most ≤ 16)
 
--- This was found: the run goes on from it, with a planner that has shown its batches; the head's read and the opening were seen, by so many
--- lanes, and shown to the watch, which was whole between them; and where the store stood it stands on.
+-- This was found; the head's read and the opening were seen, by so many lanes, and shown to the watch, which was whole between them; and where
+-- the store stood it stands on.
 pub record IsBegun (keys : Keys) (most : ℕ) (p : Params) (script : Scripts) (old new : Disk) (t u : Trace) (before : Flow) (f : RingFound) : Type 0 where
-  pub found : Found
-  pub goes_on : GoesOnFrom keys p found f
-  pub planned : HasPlanned f.run f.content f.records
   pub start : Gates
   pub opened : IsOpened ring_kind keys old before p script f start
   pub seen : ArePhasesMade most (begin_phases ring_kind p f start) old.seen new.seen
   pub shown : ShownBehindHead (ring_kind.open_notes p f start) t u
   pub stood : (at : Standing) → old.tells → Stands ring_kind keys p old.cells at → IsOpenedAt ring_kind keys p at f new
+
+-- The run of an opening goes on from this, with a planner that has shown its batches.
+pub record MayGoOn {L : Type 0} (keys : Keys) (p : Params) (o : Opening L) (f : RingFound) : Type 0 where
+  pub run : f.run ≡ run_over o
+  pub found : Found
+  pub goes_on : GoesOnFrom keys p found f
+  pub planned : HasPlanned f.run f.content f.records
+
+-- The head was read, which is that of a store with these parameters, and nothing else was done. That was shown to the watch, which is whole behind it.
+pub record HasReadHead (keys : Keys) (p : Params) (old new : Disk) (t u : Trace) : Type 0 where
+  pub goes : GoesOn old new
+  pub head : old.tells → ring_kind.is_head keys p (old.cells 0)
+  pub keeps : Keeps old new
+  -- a crash leaves what it might have left before
+  pub passes : Passes Same old new
+  pub seen : Notes (event.Read 0 ∷ []) old.seen new.seen
+  pub shown : Shows (note.Read 0 ∷ []) t u
+  pub whole : u.broken ≡ false
+
+-- Of a store whose head was read first, all that was found is begun with: from there on it was opened in stages, with this sealer, and what it
+-- stood for it stands for, whatever crashes.
+pub record BegunBehindHead {S : Type 0} (disk : S → Disk) (keys : Keys) (most : ℕ) (p : Params) (script : Scripts) (sealing : Sealing) (old new : S) (t u : Trace) (before : Flow) (f : RingFound) : Type 0 where
+  pub is_begun : IsBegun keys most p script (disk old) (disk new) t u before f
+  pub durable : (disk old).tells → (disk new).tells × IsSynced (disk new)
+  pub left : (at : Standing) → (disk old).tells → Stands ring_kind keys p (disk old).cells at → AllStand ring_kind keys p (disk old) → LeavesOnly (disk old) (disk new) (StandsAsBefore ring_kind keys p (disk old))
+  pub since : OpensInStages ring_kind ring_lives disk keys p old new
+  pub opens : IsReadAndOpened disk keys old new sealing
+
+-- Nothing is begun with, for this cause, and no vault's call is in the store's life.
+pub record NotBegun {S : Type 0} (disk : S → Disk) (keys : Keys) (most : ℕ) (shares : Shares) (old new : S) (t u : Trace) (before after : Flow) (err : RunErr) : Type 0 where
+  pub early : EndsEarly ring_kind ring_lives keys most shares (disk old) (disk new) t u disk before after err
+  pub lives : (disk new).tells → LivesUnserved disk keys old new
 
 -- A vault with so many lanes may be made of the opening, over the store and the tape as they are.
 pub record MayServe {L : Type 0} (most : ℕ) (p : Params) (disk : Disk) (present : ℕ) (drawn : List ℕ) (o : Opening L) : Type 0 where

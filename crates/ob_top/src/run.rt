@@ -2,7 +2,7 @@
 
 ghost use Rattle.std.specs.Prelude.{◌≡◌, ◌≤◌, ℕ, List, IfOk, IfErr, OnOk, OnErr, MatchBool, MatchResult, None, suc, false, length, map, All, []};
 ghost use Rattle.ob_base.specs.declared.params.Params.{Params};
-ghost use Rattle.ob_io.specs.Streams.{inflow, outflow};
+ghost use Rattle.ob_io.specs.Streams.{Flow, inflow, outflow};
 ghost use Rattle.ob_store.specs.Calls.{GoesOn};
 ghost use Rattle.ob_store.specs.Images.{IsSynced, LeavesOnly};
 ghost use Rattle.ob_serial.specs.Vaults.{Standing};
@@ -11,7 +11,7 @@ ghost use Rattle.ob_recover.specs.declared.found.Found.{Found};
 ghost use Rattle.ob_vault.specs.RingKind.{GoesOnFrom, RingFound, ring_kind};
 ghost use Rattle.ob_vault.specs.RingLives.{ring_lives};
 ghost use Rattle.ob_vault.specs.RingVaults.{HasPlanned, run_over};
-ghost use Rattle.ob_top.specs.Begun.{AreFewLanes, IsBegun, MayServe};
+ghost use Rattle.ob_top.specs.Begun.{AreFewLanes, BegunBehindHead, HasReadHead, MayGoOn, MayServe, NotBegun};
 ghost use Rattle.ob_desk.specs.Desk.{DeskState, MayOpen, new_desk, setup_with};
 ghost use Rattle.ob_desk.specs.Beats.{beat_kind};
 ghost use Rattle.ob_script.specs.Script.{AreSound};
@@ -21,10 +21,11 @@ ghost use Rattle.ob_runner.specs.Turns.{IsScriptTurn};
 ghost use Rattle.ob_conduct.specs.Scenes.{scene, run_state, runner_kind};
 ghost use Rattle.ob_run.specs.Threaded.{RunsBy};
 ghost use Rattle.ob_serial.specs.VaultKinds.{kind_of};
-ghost use Rattle.ob_top.specs.Runs.{IsInputRefused, EndsEarly, IsReadAndOpened, LivesUnserved, ServedOver, RunOn};
+ghost use Rattle.ob_top.specs.Runs.{IsInputRefused, ServedOver, RunOn};
+ghost use Rattle.ob_shares.specs.declared.shares.Shares.{Shares};
 ghost use Rattle.ob_shares.specs.Shares.{AreFitting};
+ghost use Rattle.ob_store.specs.Lines.{Trace};
 ghost use Rattle.ob_top.specs.Parts.{manner, CameIn, ShareFits, SharesFit, IsShareRefused};
-ghost use Rattle.ob_top.specs.Staged.{OpensInStages};
 ghost use Rattle.ob_top.specs.Endings.{err_of};
 ghost use Rattle.ob_top.specs.Outside.{words_given, outside};
 
@@ -112,14 +113,43 @@ fn read_script<I: Source>(alloc: Global, input: &mut I, keys: u32) -> Result<Scr
     parse(alloc, &bytes, keys)
 }
 
-// Reads the head, then the script, and then opens the store, for so many lanes and clients with
-// these shares. Behind a head at which the watch broke nothing is done.
-fn begin<R: Threads + Sync, S: Lanes, T: Tape, I: Source, W: Watch>(
+/// Reads the head of a store, and what it says of it. The watch is whole behind that.
+///
+/// # Errors
+/// The head was refused, or the watch broke. The store was only read.
+pub fn head_on<S: Lanes, W: Watch>(
+    store: &mut S,
+    keys: &Keys,
+    watch: &mut W,
+) -> Result<Params, RunErr>
+    ensures out { (S.disk store.new).out ≤ (S.disk store.old).out }
+    ensures goes { GoesOn (S.disk store.old) (S.disk store.new) }
+    ensures read { IfOk result (λ params. HasReadHead keys.now params (S.disk store.old)
+        (S.disk store.new) (W.trace watch.old) (W.trace watch.new)) }
+    ensures refused { IfErr result (λ err. (most : ℕ) (shares : Shares) (input : Flow)
+        → NotBegun S.disk keys.now most shares store.old store.new (W.trace watch.old)
+        (W.trace watch.new) input input err) }
+{
+    let params = match head(store, keys, watch) {
+        Ok(params) => params,
+        Err(fault) => return Err(RunErr::Fault(fault)),
+    };
+    match still_watched(watch) {
+        Ok(()) => Ok(params),
+        Err(err) => Err(err),
+    }
+}
+
+// Reads the script, and then opens the store of which the head was read, for so many lanes and
+// clients with these shares. Whatever the store and the watch were before the head was read: what
+// is told of that and of this together is what is told of a run's beginning.
+fn open_on<R: Threads + Sync, S: Lanes, T: Tape, I: Source, W: Watch>(
     rt: &R,
     alloc: Global,
     store: &mut S,
     tape: &mut T,
     keys: &Keys,
+    params: Params,
     input: &mut I,
     means: &Means,
     watch: &mut W,
@@ -127,48 +157,26 @@ fn begin<R: Threads + Sync, S: Lanes, T: Tape, I: Source, W: Watch>(
     requires none_out { (S.disk store.old).out ≡ 0 }
     requires unstarted { T.present tape.old ≡ 0 }
     requires lanes { AreFewLanes means.now.lanes }
-    requires whole { (W.trace watch.old).broken ≡ false }
     ensures none_out { (S.disk store.new).out ≡ 0 }
     ensures goes { GoesOn (S.disk store.old) (S.disk store.new) }
     ensures serves { IfOk result (λ begun. MayServe means.now.lanes begun.params (S.disk store.new)
         (T.present tape.new) (T.drawn tape.new) begun.opening) }
-    ensures sealer { IfOk result (λ begun. begun.opening.sealer.next ≡ 0) }
     ensures sound { IfOk result (λ begun. AreSound begun.scripts) }
     ensures fits { IfOk result
         (λ begun. SharesFit begun.params begun.scripts means.now.shares) }
     ensures runners { IfOk result (λ begun. AreRunners begun.scripts begun.runners.items) }
     ensures keys { IfOk result (λ begun. begun.scripts.keys ≡ begun.params.keys) }
-    ensures durable { (S.disk store.old).tells
-        → OnOk result ((S.disk store.new).tells × IsSynced (S.disk store.new)) }
-    ensures left { (at : Standing) → (S.disk store.old).tells
-        → IfOk result (λ begun. Stands ring_kind keys.now begun.params (S.disk store.old).cells at
-        → AllStand ring_kind keys.now begun.params (S.disk store.old)
-        → LeavesOnly (S.disk store.old) (S.disk store.new)
-        (StandsAsBefore ring_kind keys.now begun.params (S.disk store.old))) }
-    ensures since { IfOk result
-        (λ begun. OpensInStages ring_kind ring_lives S.disk keys.now begun.params store.old
-        store.new) }
-    ensures begun { IfOk result (λ begun. (f : RingFound) × (f.run ≡ run_over begun.opening)
-        × IsBegun keys.now means.now.lanes begun.params begun.scripts (S.disk store.old)
-        (S.disk store.new) (W.trace watch.old) (W.trace watch.new) (inflow I.Source input.old)
-        f) }
-    ensures refused { IfErr result
-        (λ err. EndsEarly ring_kind ring_lives keys.now means.now.lanes means.now.shares
-        (S.disk store.old) (S.disk store.new) (W.trace watch.old) (W.trace watch.new) S.disk
-        (inflow I.Source input.old) (inflow I.Source input.new) err) }
-    ensures opens { IfOk result (λ begun. IsReadAndOpened S.disk keys.now store.old store.new
-        begun.opening.sealer) }
-    ensures lives { (S.disk store.new).tells
-        → OnErr result (LivesUnserved S.disk keys.now store.old store.new) }
+    ensures begun { IfOk result (λ begun. (f : RingFound)
+        × MayGoOn keys.now begun.params begun.opening f × ((first : S) (before : Trace)
+        → HasReadHead keys.now params (S.disk first) (S.disk store.old) before (W.trace watch.old)
+        → BegunBehindHead S.disk keys.now means.now.lanes begun.params begun.scripts
+        begun.opening.sealer first store.new before (W.trace watch.new)
+        (inflow I.Source input.old) f)) }
+    ensures refused { IfErr result (λ err. (first : S) (before : Trace)
+        → HasReadHead keys.now params (S.disk first) (S.disk store.old) before (W.trace watch.old)
+        → NotBegun S.disk keys.now means.now.lanes means.now.shares first store.new before
+        (W.trace watch.new) (inflow I.Source input.old) (inflow I.Source input.new) err) }
 {
-    let params = match head(store, keys, watch) {
-        Ok(params) => params,
-        Err(fault) => return Err(RunErr::Fault(fault)),
-    };
-    match still_watched(watch) {
-        Ok(()) => {}
-        Err(err) => return Err(err),
-    }
     let scripts = match read_script(alloc, input, params.keys) {
         Ok(scripts) => scripts,
         Err(fault) => return Err(RunErr::Fault(fault)),
@@ -318,6 +326,62 @@ fn serve_on<R: Threads + Wait + Sync, S: Lanes, T: Tape, O: Sink, B: Beat, W: Wa
     ended
 }
 
+/// Runs the script that comes in over a store of which the head was read, and reports each epoch
+/// once it has ended. Without `threads` its clients' calls are made by hand, and else in threads of
+/// their own. A watch, which is whole, is shown all that the store sees. Whatever the store and the
+/// watch were before the head was read: what is told of that and of this together is what is told
+/// of a run.
+///
+/// # Errors
+/// In this order: the input, the shares of what came in, the opening; then what the run met. Where
+/// the watch broke nothing more is begun.
+pub fn run_behind_head<
+    R: Threads + Wait + Sync,
+    S: Lanes,
+    T: Tape,
+    I: Source,
+    O: Sink,
+    B: Beat,
+    W: Watch,
+>(
+    rt: &R,
+    alloc: Global,
+    store: &mut S,
+    tape: &mut T,
+    keys: &Keys,
+    params: Params,
+    input: &mut I,
+    output: &mut O,
+    beat: &mut B,
+    means: Means,
+    watch: &mut W,
+) -> Result<(), RunErr>
+    requires none_out { (S.disk store.old).out ≡ 0 }
+    requires unstarted { T.present tape.old ≡ 0 }
+    requires lanes { AreFewLanes means.lanes }
+    ensures goes { GoesOn (S.disk store.old) (S.disk store.new) }
+    ensures none_out { (S.disk store.new).out ≡ 0 }
+    ensures done { (first : S) (before : Trace) → HasReadHead keys.now params (S.disk first)
+        (S.disk store.old) before (W.trace watch.old) → RunOn ring_kind ring_lives S.disk
+        (manner (beat_kind B.passes B.exact) means.threads means.lanes means.shares)
+        (words_given (T.present tape.new) (T.drawn tape.new)) keys.now first store.new
+        (outside (inflow I.Source input.old) (outflow O.Sink output.old))
+        (outside (inflow I.Source input.new) (outflow O.Sink output.new))
+        before (W.trace watch.new) (err_of result) }
+{
+    let begun = match open_on(rt, alloc, store, tape, keys, params, input, &means, watch) {
+        Ok(begun) => begun,
+        Err(err) => return Err(err),
+    };
+    match still_watched(watch) {
+        Ok(()) => {}
+        Err(err) => return Err(err),
+    }
+    serve_on(
+        rt, alloc, store, tape, keys, begun, output, beat, means, watch,
+    )
+}
+
 /// Runs the script that comes in over a store, and reports each epoch once it has ended. Without
 /// `threads` its clients' calls are made by hand, and else in threads of their own. A watch, which
 /// is whole, is shown all that the store sees.
@@ -351,15 +415,11 @@ pub fn run_on<R: Threads + Wait + Sync, S: Lanes, T: Tape, I: Source, O: Sink, B
         (outside (inflow I.Source input.new) (outflow O.Sink output.new))
         (W.trace watch.old) (W.trace watch.new) (err_of result) }
 {
-    let begun = match begin(rt, alloc, store, tape, keys, input, &means, watch) {
-        Ok(begun) => begun,
+    let params = match head_on(store, keys, watch) {
+        Ok(params) => params,
         Err(err) => return Err(err),
     };
-    match still_watched(watch) {
-        Ok(()) => {}
-        Err(err) => return Err(err),
-    }
-    serve_on(
-        rt, alloc, store, tape, keys, begun, output, beat, means, watch,
+    run_behind_head(
+        rt, alloc, store, tape, keys, params, input, output, beat, means, watch,
     )
 }

@@ -1,98 +1,41 @@
+use Rattle.std.proofs.Common.{arith}
 use Rattle.ob_store.proofs.Serving.{goes_then}
 use Rattle.ob_vault.specs.RingKind.{ring_kind}
-use Rattle.ob_vault.proofs.OpenedLife.{opened_lives}
 use Rattle.ob_vault.proofs.Standing.{ring_keeps}
 use Rattle.ob_vault.specs.RingLives.{ring_lives}
-use Rattle.std.proofs.Common.{inr}
-use Rattle.ob_top.proofs.Beginnings.{broke_early, ring_quiet}
-use Rattle.ob_top.proofs.Living.{open_lives}
-use Rattle.ob_top.proofs.Running.{ended_early, ran}
+use Rattle.ob_top.proofs.Beginnings.{ring_quiet}
+use Rattle.ob_top.proofs.Running.{ended_early}
 use Rattle.ob_top.proofs.run.run_on.Goals as goal
 
-pub returns-in-Err-clause-done : goal.returns-in-Err-clause-done
-returns-in-Err-clause-done g c = ended_early ring_kind ring_quiet ring_lives ring_keeps (λ s. g.S.Store.disk s) (λ x t image at left. g.met.S.Store.counts_now x t image at left) _ _ c.args.keys.now _ _ _ _ _ _ _ c.in-Err.err c.in-Err.ensures.refused c.in-Err.ensures.lives
-
-pub returns-in-Err-still_watched-clause-done : goal.returns-in-Err-still_watched-clause-done
-returns-in-Err-still_watched-clause-done g c =
-    let (f, same, b) = c.in-Ok.ensures.begun in
-    ended_early ring_kind ring_quiet ring_lives ring_keeps (λ s. g.S.Store.disk s) (λ x t image at left. g.met.S.Store.counts_now x t image at left) _ _ c.args.keys.now _ _ _ _ _ _ _ c.in-Err-still_watched.err
-    (broke_early (λ s. g.S.Store.disk s) _ _ _ _ _ _ _ _ _ c.in-Err-still_watched.err c.in-Err-still_watched.ensures (λ broken. inr (record {
-      p = c.in-Ok.begun.params;
-      script = c.in-Ok.begun.scripts;
-      found = f;
-      start = b.start;
-      opened = b.opened;
-      fits = c.in-Ok.ensures.fits;
-      seen = b.seen;
-      shown = b.shown;
-      broken = broken;
-      stood = b.stood;
-      left = c.in-Ok.ensures.left;
-      opens = c.in-Ok.ensures.since.standing;
-      opens_life = λ tells word_of s here small. opened_lives c.args.keys.now c.in-Ok.begun.params word_of s (g.S.Store.disk c.args.store.now).cells f (b.opened.finds tells) here small;
-    })))
-    (open_lives (λ s. g.S.Store.disk s) c.args.keys.now _ _ c.in-Ok.begun.opening.sealer c.in-Ok.ensures.opens)
-
-pub returns-clause-done : goal.returns-clause-done
-returns-clause-done g c =
-    let (f, same, b) = c.in-Ok.ensures.begun in
-    ran ring_kind ring_quiet ring_lives ring_keeps (λ s. g.S.Store.disk s) (λ x t image at left. g.met.S.Store.counts_now x t image at left) _ _ c.args.keys.now _ c.begin.new.store _ _ _ _ _
-    c.in-Ok.begun.params c.in-Ok.begun.scripts f b.start c.in-Ok.begun.opening.sealer _ _ _ _ b.shown c.in-Ok-still_watched.ensures
-    c.in-Ok.ensures.goes.faults b.opened c.in-Ok.ensures.fits b.seen c.in-Ok.ensures.durable b.stood c.in-Ok.ensures.left c.in-Ok.ensures.since c.in-Ok.ensures.opens
-    (λ tells word_of s here small. opened_lives c.args.keys.now c.in-Ok.begun.params word_of s (g.S.Store.disk c.args.store.now).cells f (b.opened.finds tells) here small) (c.serve_on.ensures.serves f b.found same b.goes_on b.planned)
-
-pub returns-in-Err-still_watched-clause-goes : goal.returns-in-Err-still_watched-clause-goes
-returns-in-Err-still_watched-clause-goes g c = c.in-Ok.ensures.goes
-
-pub returns-in-Err-still_watched-clause-none_out : goal.returns-in-Err-still_watched-clause-none_out
-returns-in-Err-still_watched-clause-none_out g c = c.in-Ok.ensures.none_out
-
-pub begin-requires-clause-whole : goal.begin-requires-clause-whole
-begin-requires-clause-whole g c κs within = c.requires.whole
-
-pub serve_on-requires-clause-whole : goal.serve_on-requires-clause-whole
-serve_on-requires-clause-whole g c κs within = c.in-Ok-still_watched.ensures
-
-pub returns-clause-goes : goal.returns-clause-goes
-returns-clause-goes g c =
-    let (f, same, b) = c.in-Ok.ensures.begun in
-    goes_then _ _ _ c.in-Ok.ensures.goes (c.serve_on.ensures.serves f b.found same b.goes_on b.planned).goes
-
-pub returns-clause-none_out : goal.returns-clause-none_out
-returns-clause-none_out g c = c.serve_on.ensures.none_out
-
-pub begin-requires-clause-none_out : goal.begin-requires-clause-none_out
-begin-requires-clause-none_out g c κs within = c.requires.none_out
-
-pub begin-requires-clause-unstarted : goal.begin-requires-clause-unstarted
-begin-requires-clause-unstarted g c κs within = c.requires.unstarted
+-- ---- the head was refused, or the watch broke
 
 pub returns-in-Err-clause-goes : goal.returns-in-Err-clause-goes
 returns-in-Err-clause-goes g c = c.in-Err.ensures.goes
 
 pub returns-in-Err-clause-none_out : goal.returns-in-Err-clause-none_out
-returns-in-Err-clause-none_out g c = c.in-Err.ensures.none_out
+returns-in-Err-clause-none_out g c = omega (arith, c.in-Err.ensures.out, c.requires.none_out)
 
-pub serve_on-requires-clause-none_out : goal.serve_on-requires-clause-none_out
-serve_on-requires-clause-none_out g c κs within = c.in-Ok.ensures.none_out
+pub returns-in-Err-clause-done : goal.returns-in-Err-clause-done
+returns-in-Err-clause-done g c =
+    let not = c.in-Err.ensures.refused c.args.means.lanes c.args.means.shares _ in
+    ended_early ring_kind ring_quiet ring_lives ring_keeps (λ s. g.S.Store.disk s) (λ x t image at left. g.met.S.Store.counts_now x t image at left) _ _ c.args.keys.now _ _ _ _ _ _ _ c.in-Err.err not.early not.lives
 
-pub serve_on-requires-clause-serves : goal.serve_on-requires-clause-serves
-serve_on-requires-clause-serves g c κs within = c.in-Ok.ensures.serves
+-- ---- the rest of the run
 
-pub serve_on-requires-clause-sound : goal.serve_on-requires-clause-sound
-serve_on-requires-clause-sound g c κs within = c.in-Ok.ensures.sound
+pub run_behind_head-requires-clause-none_out : goal.run_behind_head-requires-clause-none_out
+run_behind_head-requires-clause-none_out g c κs within = omega (arith, c.in-Ok.ensures.out, c.requires.none_out)
 
-pub serve_on-requires-clause-runners : goal.serve_on-requires-clause-runners
-serve_on-requires-clause-runners g c κs within = c.in-Ok.ensures.runners
+pub run_behind_head-requires-clause-unstarted : goal.run_behind_head-requires-clause-unstarted
+run_behind_head-requires-clause-unstarted g c κs within = c.requires.unstarted
 
-pub serve_on-requires-clause-keys : goal.serve_on-requires-clause-keys
-serve_on-requires-clause-keys g c κs within = c.in-Ok.ensures.keys
+pub run_behind_head-requires-clause-lanes : goal.run_behind_head-requires-clause-lanes
+run_behind_head-requires-clause-lanes g c κs within = c.requires.lanes
 
-pub begin-requires-clause-lanes : goal.begin-requires-clause-lanes
-begin-requires-clause-lanes g c κs within = c.requires.lanes
+pub returns-clause-goes : goal.returns-clause-goes
+returns-clause-goes g c = goes_then _ _ _ c.in-Ok.ensures.goes c.run_behind_head.ensures.goes
 
-pub serve_on-requires-clause-lanes : goal.serve_on-requires-clause-lanes
-serve_on-requires-clause-lanes g c κs within = c.requires.lanes
+pub returns-clause-none_out : goal.returns-clause-none_out
+returns-clause-none_out g c = c.run_behind_head.ensures.none_out
 
-pub serve_on-requires-clause-fits : goal.serve_on-requires-clause-fits
-serve_on-requires-clause-fits g c κs within = c.in-Ok.ensures.fits
+pub returns-clause-done : goal.returns-clause-done
+returns-clause-done g c = c.run_behind_head.ensures.done c.args.store.now _ c.in-Ok.ensures.read
