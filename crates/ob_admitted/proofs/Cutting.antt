@@ -72,8 +72,8 @@ cut_runs_show p word_of slot before f ranked life ends whole filled c found gate
 pub cut_openings_show : CutOpeningsShowHistories
 cut_openings_show p word_of slot before f ranked life ends whole filled c found gates count kept is =
     let s : LifeState = reached p word_of (formatted_life slot) before in
-    let front = fronts_are p f (found_of_life p s found) (suc (length s.log + 0)) count in
-    (front.run, (front.alone, front.finds, ap (λ (ns : List Note). take count ns) (runs_show p word_of slot before f ranked life ends whole filled c found gates [] [] [] kept is) ∙ sym front.shows))
+    let front = fronts_are p f false (found_of_life p s found) (suc (length s.log + 0)) count in
+    (front.run, (front.has, front.finds, ap (λ (ns : List Note). take count ns) (runs_show p word_of slot before f ranked life ends whole filled c found gates [] [] [] kept is) ∙ sym front.shows))
 
 -- ---- a record alone
 

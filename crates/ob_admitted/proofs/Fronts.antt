@@ -1,5 +1,5 @@
 -- A front of a history's run is one, of fewer steps.
-use Rattle.std.specs.Prelude.{◌≡◌, ◌<◌, ◌≤◌, ◌⊎◌, ℕ, false, ◌+◌, List, [], ◌++◌, take, length}
+use Rattle.std.specs.Prelude.{◌≡◌, ◌<◌, ◌≤◌, ◌⊎◌, ℕ, Bool, ◌+◌, List, [], ◌++◌, take, length}
 use Rattle.std.proofs.Common.{zero, suc, arith, refl, sym, ap, ◌∙◌, inl, inr}
 use Rattle.ob_base.specs.declared.params.Params.{Params}
 use Rattle.ob_store.specs.declared.watch.Note.{Note}
@@ -31,17 +31,17 @@ module _ (p : Params) (f : AllFills) where
       go (inl (few, same)) later = (0, count, sym same, inl (omega arith))
       go (inr (m, (is, same))) later = (let rest = later m in (suc rest.0, rest.1, ap (λ (ns : List Note). notes_of_turn p f t ++ ns) rest.2 ∙ sym same, one_more rest.0 rest.1 rest.3))
 
-  front_run : (found : RunFound) (steps count : ℕ) → (n : ℕ) × ((shown : ℕ) × (notes_shown p f false found n shown ≡ take count (notes_shown p f false found steps 0)))
-  front_run found zero count = (0, (0, sym (none_shown count)))
-  front_run found (suc steps) count = go (front_cases count (opening_step p f false found) (notes_from p f (first_turn found) steps 0))
+  front_run : (mirrored : Bool) (found : RunFound) (steps count : ℕ) → (n : ℕ) × ((shown : ℕ) × (notes_shown p f mirrored found n shown ≡ take count (notes_shown p f mirrored found steps 0)))
+  front_run mirrored found zero count = (0, (0, sym (none_shown count)))
+  front_run mirrored found (suc steps) count = go (front_cases count (opening_step p f mirrored found) (notes_from p f (first_turn found) steps 0))
     where
-      go : ((count ≤ length (opening_step p f false found)) × (take count (opening_step p f false found ++ notes_from p f (first_turn found) steps 0) ≡ take count (opening_step p f false found)))
-          ⊎ ((m : ℕ) × ((count ≡ length (opening_step p f false found) + m) × (take count (opening_step p f false found ++ notes_from p f (first_turn found) steps 0) ≡ opening_step p f false found ++ take m (notes_from p f (first_turn found) steps 0))))
-          → (n : ℕ) × ((shown : ℕ) × (notes_shown p f false found n shown ≡ take count (opening_step p f false found ++ notes_from p f (first_turn found) steps 0)))
+      go : ((count ≤ length (opening_step p f mirrored found)) × (take count (opening_step p f mirrored found ++ notes_from p f (first_turn found) steps 0) ≡ take count (opening_step p f mirrored found)))
+          ⊎ ((m : ℕ) × ((count ≡ length (opening_step p f mirrored found) + m) × (take count (opening_step p f mirrored found ++ notes_from p f (first_turn found) steps 0) ≡ opening_step p f mirrored found ++ take m (notes_from p f (first_turn found) steps 0))))
+          → (n : ℕ) × ((shown : ℕ) × (notes_shown p f mirrored found n shown ≡ take count (opening_step p f mirrored found ++ notes_from p f (first_turn found) steps 0)))
       go (inl (few, same)) = (0, (count, sym same))
-      go (inr (m, (is, same))) = (let rest = front_turns steps (first_turn found) m in (suc rest.0, (rest.1, ap (λ (ns : List Note). opening_step p f false found ++ ns) rest.2 ∙ sym same)))
+      go (inr (m, (is, same))) = (let rest = front_turns steps (first_turn found) m in (suc rest.0, (rest.1, ap (λ (ns : List Note). opening_step p f mirrored found ++ ns) rest.2 ∙ sym same)))
 
 pub fronts_are : FrontsAreRuns
-fronts_are p f found steps count =
-    let front = front_run p f found steps count in
-    record { run = record { mirrored = false; found = found; steps = front.0; shown = front.1.0 }; alone = refl; finds = refl; shows = front.1.1 }
+fronts_are p f mirrored found steps count =
+    let front = front_run p f mirrored found steps count in
+    record { run = record { mirrored = mirrored; found = found; steps = front.0; shown = front.1.0 }; has = refl; finds = refl; shows = front.1.1 }

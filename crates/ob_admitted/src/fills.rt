@@ -64,7 +64,7 @@ pub fn runs_show_histories()
 {}
 
 /// What a run of a public history has shown, cut off anywhere, is a run of one by the same that was
-/// found.
+/// found, with a mirror where that has one.
 pub fn fronts_are_runs()
     ensures { FrontsAreRuns }
 {}
@@ -100,10 +100,10 @@ pub fn repeats_leave_histories()
     ensures { RepeatsLeaveHistories }
 {}
 
-/// The lines of a format, of runs of a life behind it, and of openings between them that stopped
-/// before their first sync, are a public history's, and so they are admitted. Premises: each run shows
-/// a run of a history that finds the life where it is, and leaves what the next one finds there, and
-/// what each of the openings behind it found.
+/// The lines of a format, of runs of a life behind it without a mirror, and of openings between them
+/// that stopped before their first sync, are a public history's, and so they are admitted. Premises:
+/// each run shows a run of a history that finds the life where it is, and leaves what the next one
+/// finds there, and what each of the openings behind it found.
 pub fn rows_are_admitted()
     ensures { RowsAreAdmitted }
 {}

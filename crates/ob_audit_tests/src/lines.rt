@@ -5,7 +5,7 @@ use ob_schedule::Line;
 use ob_store::Note;
 
 // Texts, and the letter and the number of the line that each spells; a `?` where it spells none.
-static LINES: [(&str, u8, u64); 20] = [
+static LINES: [(&str, u8, u64); 27] = [
     ("", b'?', 0),
     ("P 9 2 2 3 2 2 2 2 8", b'?', 0),
     ("P 8 2 2 3 2 2 2 2 08", b'?', 0),
@@ -25,14 +25,23 @@ static LINES: [(&str, u8, u64); 20] = [
     ("L 0", b'L', 0),
     ("S", b'S', 0),
     ("O", b'O', 0),
+    ("O M", b'M', 0),
+    ("O  M", b'?', 0),
+    ("O M ", b'?', 0),
+    ("O MM", b'?', 0),
+    ("O ", b'?', 0),
+    ("OM", b'?', 0),
+    ("M", b'?', 0),
     ("P 8 2 2 3 2 2 2 2 8", b'P', 8),
 ];
 
-// A line's letter and its number; of a first line the number of keys.
+// A line's letter and its number; of a first line the number of keys, and M for that of a run with a
+// mirror.
 fn spelled(line: Line) -> (u8, u64) {
     match line {
         Line::Start(p) => (b'P', u64::from(p.keys)),
-        Line::Open => (b'O', 0),
+        Line::Open { mirrored: false } => (b'O', 0),
+        Line::Open { mirrored: true } => (b'M', 0),
         Line::Note(Note::Label(leaf)) => (b'L', leaf),
         Line::Note(Note::Read(cell)) => (b'R', cell),
         Line::Note(Note::Write(cell)) => (b'W', cell),

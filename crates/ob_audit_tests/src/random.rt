@@ -9,8 +9,9 @@ use ob_store::Note;
 use std::alloc::{AllocError, Global};
 use std::process::Abort;
 
-// Traces in which no epoch has ended for sure, so that each bucket lies in its first home.
-static TRACES: [&str; 6] = [
+// Traces in which no epoch has ended for sure, so that each bucket lies in its first home. In that
+// with a mirror no slot is shown.
+static TRACES: [&str; 7] = [
     "1-177",
     "1-73;1-73;74-177",
     "1-111;74-99;W 4;S;W 3;S;W 4;S;L 0;R 41;R 46;R 56;L 0;R 42;R 47;R 57;W 15;S;W 16;S;L 2;R 43;\
@@ -18,6 +19,7 @@ static TRACES: [&str; 6] = [
     "1-111;74-99;W 4;74-99;W 3;S;W 4;S;L 0;R 41;R 46",
     "1-106;74-99;W 4;S;W 3;S;W 4;S;W 13;S;W 14;S;L 3;R 40;R 50;R 71;L 1",
     "1-176;74-83;R 28;74-84",
+    "1-73;O M;R 0;5..8;0..108;76-106",
 ];
 
 // A label, a read or a write of a low number.
@@ -143,7 +145,7 @@ fn lines_of(alloc: Global, recipe: &str) -> Result<Vec<Line>, AllocError> {
 
 // The same behind a front of a trace, which is drawn by a number.
 fn expect_told_at<R: AllocGlobal + Abort>(rt: &R, p: &Params, number: u64) {
-    let recipe = TRACES[(number % 6) as usize];
+    let recipe = TRACES[(number % 7) as usize];
     let lines = lines_of(rt.alloc(), recipe).expect(rt, "memory");
     assert!(rt; lines.len() > 10, "{recipe}");
     let drawn = number.wrapping_mul(11400714819323198485) >> 32;

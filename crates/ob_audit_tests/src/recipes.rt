@@ -32,6 +32,14 @@ fn push_lines(first: usize, last: usize, trace: &mut String) -> Result<(), Alloc
     Ok(())
 }
 
+// The reads of the cells from the one to the other.
+fn push_reads(first: usize, last: usize, trace: &mut String) -> Result<(), AllocError> {
+    for cell in first..=last {
+        write!(trace, "R {cell}\n")?;
+    }
+    Ok(())
+}
+
 fn number(digits: &str) -> usize {
     digits.parse::<usize>().unwrap_or(0)
 }
@@ -43,6 +51,9 @@ fn push_part(part: &str, trace: &mut String) -> Result<(), AllocError> {
         }
         return Ok(());
     }
+    if let Some((first, last)) = part.split_once("..") {
+        return push_reads(number(first), number(last), trace);
+    }
     match part.split_once('-') {
         Some((first, last)) => push_lines(number(first), number(last), trace),
         None => push_line(part, trace),
@@ -50,8 +61,9 @@ fn push_part(part: &str, trace: &mut String) -> Result<(), AllocError> {
 }
 
 /// The trace of a recipe. A recipe's parts, between semicolons, are lines, or from where to where
-/// lines of the whole trace are taken, or `fill`: format behind format, more than a piece that is
-/// read. The last line lacks its line feed behind a `!`.
+/// lines of the whole trace are taken, or from where to where cells are read, as `5..8`, or `fill`:
+/// format behind format, more than a piece that is read. The last line lacks its line feed behind a
+/// `!`.
 pub(crate) fn trace_of(alloc: Global, recipe: &str) -> Result<String, AllocError> {
     let mut trace = String::new(alloc);
     let parts = recipe.strip_suffix('!').unwrap_or(recipe);

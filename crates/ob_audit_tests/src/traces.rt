@@ -9,7 +9,7 @@ use std::process::Abort;
 
 // Recipes of traces, and what is said of them: the first line that may not stand there, and what
 // may.
-static ROWS: [(&str, &str); 57] = [
+static ROWS: [(&str, &str); 72] = [
     ("1-177", "fits\n"),
     ("1-176;S!", "fits\n"),
     ("fill", "fits\n"),
@@ -76,6 +76,37 @@ static ROWS: [(&str, &str); 57] = [
     ),
     ("1-111;74-99;W 4;74-99;W 3;S;W 4;S;L 0", "fits\n"),
     ("1-111;74-99;W 4;74-99;W 4;S;W 3;S;W 4;S;L 0", "fits\n"),
+    // A run with a mirror reads the epoch's register behind the head, and then each of the 109 cells.
+    ("1-73;O M;R 0;5..8;0..108;76-177", "fits\n"),
+    (
+        "1-73;O;R 0;5..8;0..108;76-177",
+        "breaks line 76 wanted R 1\n",
+    ),
+    (
+        "1-73;O M;R 0;5..8;0..1;R 50;3..108;76-177",
+        "breaks line 82 wanted R 2\n",
+    ),
+    ("1-73;O M;R 0;76-177", "breaks line 76 wanted R 5\n"),
+    ("1-73;O M;R 0;5..8;76-177", "breaks line 80 wanted R 0\n"),
+    (
+        "1-73;O M;R 0;5..8;0..107;76-177",
+        "breaks line 188 wanted R 108\n",
+    ),
+    (
+        "1-73;O M;R 0;5..8;0..109;76-177",
+        "breaks line 189 wanted R 1\n",
+    ),
+    ("1-73;O M;R 0;5..8;0..40;74-177", "fits\n"),
+    ("1-176;O M;R 0;5..8;0..108;76-83;R 28;74-84", "fits\n"),
+    (
+        "1-176;O M;R 0;5..8;0..108;76-83;R 40",
+        "breaks line 300 wanted R 17 or R 28\n",
+    ),
+    ("1-40;O M;R 0;R 5", "breaks line 43 wanted start\n"),
+    ("1-73;O  M", "breaks line 74 wanted start\n"),
+    ("1-73;O M ", "breaks line 74 wanted start\n"),
+    ("1-73;OM", "breaks line 74 wanted start\n"),
+    ("1-73;M", "breaks line 74 wanted start\n"),
     // Nothing, and what is no first line.
     ("!", "fits\n"),
     ("", "breaks line 1 wanted start\n"),

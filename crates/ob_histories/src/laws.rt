@@ -13,15 +13,15 @@ pub fn histories_are_admitted()
 {}
 
 /// Lines that are admitted are the lines of histories, one behind the other: each from its format
-/// on, with fills of all epochs, and of each run what it found and how far it came. So lines are
-/// admitted exactly where they are histories'.
+/// on, with fills of all epochs, and of each run whether it has a mirror, what it found and how far
+/// it came. So lines are admitted exactly where they are histories'.
 pub fn admitted_are_histories()
     ensures { AdmittedAreHistories }
 {}
 
 /// Lines that are admitted behind one format's, each label and each slot one that these fills
-/// have, are those of a history with these fills: there are runs, of each what it found and how far
-/// it came.
+/// have, are those of a history with these fills: there are runs, of each whether it has a mirror,
+/// what it found and how far it came.
 pub fn filled_are_histories()
     ensures { FilledAreHistories }
 {}
