@@ -1,8 +1,8 @@
 -- What the next run finds.
-use Rattle.std.specs.Prelude.{◌≡◌, ◌<◌, ◌≤◌, ◌⊎◌, ℕ, ◌+◌, ◌-◌, ◌%◌, Bool, true, cond, List, [], ◌∷◌, ◌++◌, map, filter, length, take, Option, Some, None}
+use Rattle.std.specs.Prelude.{◌≡◌, ◌<◌, ◌≤◌, ◌⊎◌, ℕ, ◌+◌, ◌-◌, ◌%◌, ◌==◌, Bool, true, cond, List, [], ◌∷◌, ◌++◌, map, filter, length, take, Option, Some, None}
 use Rattle.std.proofs.Common.{zero, suc, arith, refl, sym, ap, ◌∙◌, subst, inl, inr, add-one, length-append}
 use Rattle.std.proofs.lemmas.List.{length-take-le}
-use Rattle.std.proofs.lemmas.Bool.{cases_lt, le-ltb, lt-ltb}
+use Rattle.std.proofs.lemmas.Bool.{cases_lt, eq-eqb, le-ltb, lt-ltb, or_left, or_right}
 use Rattle.ob_base.specs.Layout.{EpochTwin, log_cell, record_cells}
 use Rattle.ob_base.specs.Tree.{below}
 use Rattle.ob_base.specs.declared.params.Params.{Params}
@@ -12,13 +12,17 @@ use Rattle.ob_schedule.specs.Paths.{by_falling_level}
 use Rattle.ob_schedule.specs.Schedule.{Fills, body_cell, bucket_writes, check_cells, end_lifts, gate_cell, is_lifted_by_end, log_gates, record_notes, writes_of, written_by_end, Public}
 use Rattle.ob_recover.specs.Life.{WordId, LifeAct, LifeBatch, LifeState, Append, Open, ShowBatch, ShowLifts, End as EndAct, IsLife, life_step, reached}
 use Rattle.ob_serial.specs.Vaults.{End, Fetch, VaultCall}
-use Rattle.ob_vault.specs.Shapes.{Shape}
+use Rattle.ob_vault.specs.KindShown.{public_behind}
+use Rattle.ob_vault.specs.RingKind.{ring_kind}
+use Rattle.ob_vault.specs.Seen.{RingPublic, ring_next}
+use Rattle.ob_vault.specs.Shapes.{Ends, Fetches, Shape}
 use Rattle.ob_vault.specs.Shown.{AreShownBy}
 use Rattle.ob_vault.proofs.OpenedRun.{IsFurther, further}
 use Rattle.ob_histories.specs.Fills.{AllFills, fills_at, public_in_epoch}
 use Rattle.ob_histories.specs.Histories.{AreRecordsLeft, EpochEnded, EpochStays, IsBatchLeft, IsEndLeft, IsGateLeft, IsTurnLeft}
 use Rattle.ob_histories.specs.Runs.{HistoryTurn, RunFound, next_turn, notes_from, notes_of_batch, notes_of_end, notes_of_turn, turn_behind}
 use Rattle.ob_admitted.specs.Between.{AreActsLeft, IsFoundAsShown, MayComeNext, RunsLeaveHistories, turn_of_run}
+use Rattle.ob_admitted.specs.Calls.{AreStepsOf}
 use Rattle.ob_admitted.specs.Cuts.{life_behind_calls}
 use Rattle.ob_admitted.specs.Repeats.{begin_acts}
 use Rattle.ob_admitted.specs.Wholes.{found_of_life}
@@ -232,6 +236,83 @@ turn_at_end p word_of f s found calls steps acts room life show =
     let turns : turn_of_run p s found steps ≡ turn_behind p first (length steps) =
     turns_pass p f s.epoch n x.epoch_gate n 0 (length steps) (omega (arith, room)) ∙ ap (λ (b : ℕ). turn_behind p (turn_at p f s.epoch n x.epoch_gate b) (length steps)) same in
     (subst (λ (u : HistoryTurn). IsTurnOf p u (life_behind_calls p word_of s acts)) (sym turns) led.0, led.1 ∙ on.generation)
+
+-- the turn behind the batches that are repeated
+pub turn_from : (p : Params) (f : AllFills) (s : LifeState) (found : ℕ → Bool) (steps : List (Shape × Fills)) → length s.log ≤ p.batches
+    → turn_of_run p s found steps ≡ turn_behind p (turn_at p f s.epoch (length s.log) (found_of_life p s found).epoch_gate (length s.log)) (length steps)
+turn_from p f s found steps room =
+    let n : ℕ = length s.log in
+    let gate : Bool = (found_of_life p s found).epoch_gate in
+    let same : 0 + n ≡ n = omega arith in
+    turns_pass p f s.epoch n gate n 0 (length steps) (omega (arith, room)) ∙ ap (λ (b : ℕ). turn_behind p (turn_at p f s.epoch n gate b) (length steps)) same
+
+-- where the life is behind the opening
+pub turn_begun : (p : Params) (word_of : WordId → ℕ) (f : AllFills) (s : LifeState) (gate : Bool) → length s.log ≤ p.batches → IsTurnOf p (turn_at p f s.epoch (length s.log) gate (length s.log)) (reached p word_of s (begin_acts s (suc s.generation)))
+turn_begun p word_of f s gate room =
+    let n : ℕ = length s.log in
+    let t : LifeState = reached p word_of s (begin_acts s (suc s.generation)) in
+    let on : IsFurther (life_step p word_of s (Open (suc s.generation))) t n = further p word_of (life_step p word_of s (Open (suc s.generation))) n in
+    let many : length t.log ≡ n = ap length on.log in
+    record { epoch = sym on.epoch; batch = sym many; records = omega (arith, many); room = omega (arith, many, room) }
+
+-- ---- the gate of the turn behind calls
+
+-- what is public of the epoch has the turn's gate, and the durable one is open
+pub record HasGateOf (p : Params) (t : HistoryTurn) (s : LifeState) (q : RingPublic) : Type 0 where
+  pub epoch : (q.known).epoch ≡ s.epoch
+  pub gate : t.gate ≡ (q.known).gates (gate_cell p EpochTwin ((q.known).epoch + 1))
+  pub durable : (q.known).gates (gate_cell p EpochTwin (q.known).epoch) ≡ true
+
+pub gates_lead : (p : Params) (word_of : WordId → ℕ) (calls : List VaultCall) (steps : List (Shape × Fills)) (q : RingPublic) (s : LifeState) (t : HistoryTurn) (acts : List LifeAct) → IsTurnOf p t s → HasGateOf p t s q → IsLife p word_of s acts → AreStepsOf calls steps
+    → AreShownBy p word_of s calls steps acts → HasGateOf p (turn_behind p t (length steps)) (reached p word_of s acts) (public_behind ring_kind p q steps)
+gates_lead p word_of [] [] q s t acts at has life steps_are show = subst (λ (xs : List LifeAct). HasGateOf p t (reached p word_of s xs) q) (sym show) has
+gates_lead p word_of [] (step ∷ steps) q s t acts at has life steps_are show = absurd show
+gates_lead p word_of (call ∷ calls) [] q s t acts at has life steps_are show = absurd show
+gates_lead p word_of (Fetch asks ∷ calls) (step ∷ steps) q s t acts at has life steps_are show =
+    let r : LifeBatch = show.3.0 in
+    let rest : List LifeAct = show.1 in
+    let are : acts ≡ Append r ∷ ShowBatch ∷ rest = show.2 ∙ ap (λ (xs : List LifeAct). xs ++ rest) show.3.2 in
+    let life_then = subst (λ (xs : List LifeAct). IsLife p word_of s xs) are life in
+    let behind = subst (λ (xs : List LifeAct). AreShownBy p word_of (reached p word_of s xs) calls steps rest) show.3.2 show.5 in
+    let s2 : LifeState = life_step p word_of (life_step p word_of s (Append r)) ShowBatch in
+    let longer = length-append s.log (r ∷ []) in
+    let room : length s.log < p.batches = life_then.0.0 in
+    let same : t.batch ≡ length s.log = at.batch in
+    let few : t.records ≤ length s.log = at.records in
+    let turn : next_turn p t ≡ record t { batch = suc t.batch } =
+    ap (λ (b : Bool). cond b (record t { batch = suc t.batch }) (record { epoch = suc t.epoch; batch = 0; records = 0; gate = true })) (lt-ltb t.batch p.batches (omega (arith, same, room))) in
+    let at_next : IsTurnOf p (record t { batch = suc t.batch }) s2 = record { epoch = at.epoch; batch = omega (arith, same, longer); records = omega (arith, few, longer); room = omega (arith, room, longer) } in
+    let has_next : HasGateOf p (record t { batch = suc t.batch }) s2 (ring_next p q Fetches step.1) = record { epoch = has.epoch; gate = has.gate; durable = has.durable } in
+    let later = gates_lead p word_of calls steps (ring_next p q Fetches step.1) s2 (next_turn p t) rest (subst (λ (u : HistoryTurn). IsTurnOf p u s2) (sym turn) at_next) (subst (λ (u : HistoryTurn). HasGateOf p u s2 (ring_next p q Fetches step.1)) (sym turn) has_next)
+    life_then.1.1 steps_are.1 behind in
+    subst (λ (shape : Shape). HasGateOf p (turn_behind p (next_turn p t) (length steps)) (reached p word_of s acts) (public_behind ring_kind p (ring_next p q shape step.1) steps)) (sym steps_are.0)
+    (subst (λ (xs : List LifeAct). HasGateOf p (turn_behind p (next_turn p t) (length steps)) (reached p word_of s xs) (public_behind ring_kind p (ring_next p q Fetches step.1) steps)) (sym are) later)
+gates_lead p word_of (End writes ∷ calls) (step ∷ steps) q s t acts at has life steps_are show =
+    let ws = show.3.0 in
+    let drawn : ℕ = show.3.1 in
+    let slot = show.3.2 in
+    let rest : List LifeAct = show.1 in
+    let are : acts ≡ ShowLifts ∷ EndAct ws drawn slot ∷ rest = show.2 ∙ ap (λ (xs : List LifeAct). xs ++ rest) show.3.3 in
+    let life_then = subst (λ (xs : List LifeAct). IsLife p word_of s xs) are life in
+    let behind = subst (λ (xs : List LifeAct). AreShownBy p word_of (reached p word_of s xs) calls steps rest) show.3.3 show.5 in
+    let e2 : LifeState = life_step p word_of (life_step p word_of s ShowLifts) (EndAct ws drawn slot) in
+    let full : length s.log ≡ p.batches = life_then.0.0 in
+    let same : t.batch ≡ length s.log = at.batch in
+    let ended : HistoryTurn = record { epoch = suc t.epoch; batch = 0; records = 0; gate = true } in
+    let turn : next_turn p t ≡ ended = ap (λ (b : Bool). cond b (record t { batch = suc t.batch }) (record { epoch = suc t.epoch; batch = 0; records = 0; gate = true })) (le-ltb t.batch p.batches (omega (arith, same, full))) in
+    let at_next : IsTurnOf p ended e2 = record { epoch = ap suc at.epoch ∙ sym (add-one s.epoch); batch = refl; records = omega arith; room = omega arith } in
+    let e : ℕ = (q.known).epoch in
+    let gates : ℕ → Bool = (q.known).gates in
+    let back : gate_cell p EpochTwin ((e + 1) + 1) ≡ gate_cell p EpochTwin e = omega arith in
+    let has_next : HasGateOf p ended e2 (ring_next p q Ends step.1) = record {
+      epoch = ap (λ (n : ℕ). n + 1) has.epoch;
+      gate = sym (or_right (gate_cell p EpochTwin ((e + 1) + 1) == gate_cell p EpochTwin (e + 1)) (gates (gate_cell p EpochTwin ((e + 1) + 1))) (ap gates back ∙ has.durable));
+      durable = or_left (gate_cell p EpochTwin (e + 1) == gate_cell p EpochTwin (e + 1)) (gates (gate_cell p EpochTwin (e + 1))) (eq-eqb (gate_cell p EpochTwin (e + 1)) (gate_cell p EpochTwin (e + 1)) refl);
+    } in
+    let later = gates_lead p word_of calls steps (ring_next p q Ends step.1) e2 (next_turn p t) rest (subst (λ (u : HistoryTurn). IsTurnOf p u e2) (sym turn) at_next) (subst (λ (u : HistoryTurn). HasGateOf p u e2 (ring_next p q Ends step.1)) (sym turn) has_next)
+    life_then.1.1 steps_are.1 behind in
+    subst (λ (shape : Shape). HasGateOf p (turn_behind p (next_turn p t) (length steps)) (reached p word_of s acts) (public_behind ring_kind p (ring_next p q shape step.1) steps)) (sym steps_are.0)
+    (subst (λ (xs : List LifeAct). HasGateOf p (turn_behind p (next_turn p t) (length steps)) (reached p word_of s xs) (public_behind ring_kind p (ring_next p q Ends step.1) steps)) (sym are) later)
 
 pub runs_leave : RunsLeaveHistories
 runs_leave p word_of f s found next calls steps acts room life show refused count more may left stays as_shown =

@@ -20,3 +20,4 @@ pub mod Walking
 pub mod Walks
 pub mod Openings
 pub mod Noting
+pub mod Gating

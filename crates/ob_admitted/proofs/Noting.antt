@@ -56,6 +56,44 @@ before_few row many = (let front : length (take (length row - 2) row) ≡ length
 up_to_few : (row : List Note) → 1 ≤ length row → suc (length (up_to_gate row)) ≡ length row
 up_to_few row many = (let front : length (take (length row - 1) row) ≡ length row - 1 = length-take-le (length row - 1) row (omega arith) in omega (arith, many, front))
 
+-- an end that was refused has shown a note less at least
+pub end_few : (most : ℕ) (p : Params) (q : RingPublic) (c : Fills) (notes : List Note) (seen : List Event) (refused : Fault) → EndCutShown most p q c refused seen notes → suc (length notes) ≤ length (ring_notes p q Ends c)
+end_few most p q c notes seen refused shown = by_fault refused shown
+  where
+    row : List Note
+    row = ring_notes p q Ends c
+
+    lifts : notes ≡ end_lifts p q.known c → suc (length notes) ≤ length row
+    lifts is =
+        let same : length notes ≡ length (end_lifts p q.known c) = ap (λ (ns : List Note). length ns) is in
+        let some = written_long p q.known in
+        let all = length-append (end_lifts p q.known c) (written_by_end p q.known) in
+        omega (arith, same, some, all)
+
+    none : notes ≡ [] → suc (length notes) ≤ length row
+    none is =
+        let same : length notes ≡ 0 = ap (λ (ns : List Note). length ns) is in
+        let some = written_long p q.known in
+        let all = length-append (end_lifts p q.known c) (written_by_end p q.known) in
+        omega (arith, same, some, all)
+
+    long : 5 ≤ length row
+    long = (let some = written_long p q.known in let all = length-append (end_lifts p q.known c) (written_by_end p q.known) in omega (arith, some, all))
+
+    by_fault : (x : Fault) → EndCutShown most p q c x seen notes → suc (length notes) ≤ length row
+    by_fault (fault.StoreFault None) front = (let few = cut_few (before_gate row) front.made notes front.cut in let short = before_few row (omega (arith, long)) in omega (arith, few, short))
+    by_fault (fault.StoreFault (Some epoch)) is = (let same : length notes ≡ length (up_to_gate row) = ap (λ (ns : List Note). length ns) is in let short = up_to_few row (omega (arith, long)) in omega (arith, same, short))
+    by_fault (fault.Damaged cell check kept computed) is = lifts is
+    by_fault (fault.StashFull rows) is = lifts is
+    by_fault (fault.Worn number) is = ⊎_elim (λ (nothing : (seen ≡ []) × (notes ≡ [])). none nothing.1) (λ some. lifts some.1) is
+    by_fault fault.Memory is = absurd is
+    by_fault fault.Usage is = absurd is
+    by_fault (fault.BadScript line) is = absurd is
+    by_fault (fault.BadParams what) is = absurd is
+    by_fault fault.NotStore is = absurd is
+    by_fault fault.SourceFault is = absurd is
+    by_fault fault.SinkFault is = absurd is
+
 module _ {V S : Type 0} (k : Kind V) (disk : S → Disk) (runs : V → Running S) (words : HasRingWords k disk runs) (keys : Keys) (most : ℕ) (p : Params) (f : RingFound) (opened : Disk) (q : RingPublic) (h : RingHidden) (n : ℕ) (v : V)
     (at : RingAt k disk runs keys most p f opened q h n v) (w : V) (notes : List Note) (word_of : WordId → ℕ) (c : Fills) (made : List LifeAct) (in_flight : Option LifeAct) where
   abbrev run : Run

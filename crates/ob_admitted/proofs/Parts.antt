@@ -1,5 +1,5 @@
 -- A run of a row, with what it showed, is a run as a history's.
-use Rattle.std.specs.Prelude.{◌≡◌, ◌⊎◌, ◌||◌, ℕ, ◌+◌, ◌*◌, ◌%◌, Bool, true, false, List, [], ◌∷◌, ◌++◌, length, Option, None, Some}
+use Rattle.std.specs.Prelude.{◌≡◌, ◌⊎◌, ◌||◌, ◌≤◌, ℕ, ◌+◌, ◌*◌, ◌-◌, ◌%◌, Bool, true, false, List, [], ◌∷◌, ◌++◌, length, Option, None, Some}
 use Rattle.std.specs.List.{flat_map}
 use Rattle.std.specs.Ordering.{nat_cmp}
 use Rattle.std.proofs.Common.{suc, add-one, arith, length-append, refl, sym, ap, ◌∙◌, subst, inl, inr, ⊎_elim}
@@ -28,7 +28,7 @@ use Rattle.ob_recover.specs.Lives.{life_batch}
 use Rattle.ob_recover.proofs.LifeLabels.{planned_lasts}
 use Rattle.ob_serial.specs.Serial.{Map}
 use Rattle.ob_serial.specs.Vaults.{End, Fetch, VaultCall}
-use Rattle.ob_opening.specs.OpeningActs.{StandsInLife}
+use Rattle.ob_opening.specs.OpeningActs.{AreGatesIn, StandsInLife}
 use Rattle.ob_vault.specs.Hidden.{RingDrawsCut, RingHidden}
 use Rattle.ob_vault.specs.KindShown.{public_behind, steps_notes}
 use Rattle.ob_vault.specs.Lives.{AreFirstActs, AreShowing, IsBarelySeen, IsLeftInLife, IsOpenedInLife, IsRunInLife, opening_acts}
@@ -41,20 +41,23 @@ use Rattle.ob_vault.proofs.Fetching.{none_pending}
 use Rattle.ob_vault.proofs.OpenedRun.{IsFurther, further}
 use Rattle.ob_vault.proofs.Whole.{reached_join}
 use Rattle.ob_histories.specs.Fills.{AllFills}
+use Rattle.ob_histories.specs.Histories.{IsGateLeft}
 use Rattle.ob_histories.specs.Runs.{HistoryTurn, RunFound, notes_of_turn}
 use Rattle.ob_admitted.specs.Between.{AreActsLeft, IsFoundAsShown, turn_of_run}
 use Rattle.ob_admitted.specs.Calls.{AreStepsOf, public_of_life}
 use Rattle.ob_admitted.specs.Cuts.{IsCutFilled, life_behind_calls, public_of_calls}
 use Rattle.ob_admitted.specs.Fills.{FillsAll}
+use Rattle.ob_admitted.specs.Gates.{IsGateFoundBy, LeavesGates, notes_lacking}
 use Rattle.ob_admitted.specs.Lives.{IsLifeFilled}
 use Rattle.ob_admitted.specs.Parts.{IsLeftAsShown, IsRefusedShown, IsServedShown, PartsAreRuns}
 use Rattle.ob_admitted.specs.Served.{IsRecordAlone, IsRefusedFilled, IsServedThen, notes_of_refused}
 use Rattle.ob_admitted.specs.Told.{AreGatesLeft, AreGatesShown, IsRunNoted, record_row}
 use Rattle.ob_admitted.specs.Wholes.{AreGatesKept, IsRunFilled, found_of_life, notes_of_run}
 use Rattle.ob_admitted.proofs.Acts.{Sound, acts_left, batch_whole, calls_sound, slots_first, slots_last}
-use Rattle.ob_admitted.proofs.Betweens.{IsTurnOf, turn_at_end}
+use Rattle.ob_admitted.proofs.Betweens.{HasGateOf, IsTurnOf, gates_lead, turn_at_end, turn_begun, turn_from}
 use Rattle.ob_admitted.proofs.Cutting.{record_many, rows_many}
 use Rattle.ob_admitted.proofs.Publics.{formatted_goes, goes_along}
+use Rattle.ob_admitted.proofs.Wholes.{turn_at}
 use Rattle.ob_admitted.proofs.Shown.{batch_draws, front_refused, front_take}
 
 -- ---- gates
@@ -436,6 +439,92 @@ module _ {S : Type 0} (disk : S → Disk) (keys : Keys) (p : Params) (word_of : 
             alone = alone;
             stays = gated.stays;
             as_shown = λ found_then is_next. found_by found_then refused refl shown.refused_shown noted (refused_filled alone refused refl shown.refused_shown) (gated.shown found_then is_next);
+          }
+
+      -- ---- by what the run says of the gates
+
+      room : length s.log ≤ p.batches
+      room = (goes_along p word_of f (let one = p.in_range.some_dummies in omega (arith, one)) (formatted_life slot) before here.life here.ends here.whole (open_formatted p word_of (let one = p.in_range.some_dummies in omega (arith, one)) slot ranked)
+          (formatted_goes p word_of f slot) (here.filled).leaves).room
+
+      found_epoch : (found.run).epoch ≡ s.epoch
+      found_epoch = sym (o.then).epoch ∙ on.epoch
+
+      abbrev turn_first : HistoryTurn
+      turn_first = turn_at p f s.epoch (length s.log) (found_of_life p s gates).epoch_gate (length s.log)
+
+      has_first : HasGateOf p turn_first began (ring_public p found)
+      has_first = record {
+        epoch = sym (o.then).epoch;
+        gate = sym kept.next ∙ ap (λ (e : ℕ). known (gate_cell p EpochTwin (e + 1))) (sym found_epoch);
+        durable = ap (λ (e : ℕ). known (gate_cell p EpochTwin e)) found_epoch ∙ kept.durable;
+      }
+
+      has_gate : HasGateOf p turn t q
+      has_gate = subst (λ (u : HistoryTurn). HasGateOf p u t q) (sym (turn_from p f s gates steps room))
+          (gates_lead p word_of calls steps (ring_public p found) began turn_first (run.goes).acts (turn_begun p word_of f s (found_of_life p s gates).epoch_gate room) has_first (run.goes).is_life shown.steps_are (run.goes).shown)
+
+      hidden_epoch : behind.epoch ≡ t.epoch
+      hidden_epoch = sym ((run.goes).then).epoch
+
+      turn_epoch : turn.epoch ≡ behind.epoch
+      turn_epoch = at_end.epoch ∙ sym hidden_epoch
+
+      turn_gate : turn.gate ≡ (q.known).gates (gate_cell p EpochTwin (behind.epoch + 1))
+      turn_gate = has_gate.gate ∙ ap (λ (e : ℕ). (q.known).gates (gate_cell p EpochTwin (e + 1))) (has_gate.epoch ∙ sym hidden_epoch)
+
+      -- no act of a call begins a generation, and but for an end's none ends an epoch
+      generation_stays : (r : Option VaultCall) (more : List LifeAct) → AreActsLeft r more → (reached p word_of t more).generation ≡ t.generation
+      generation_stays None more is = ap (λ (xs : List LifeAct). (reached p word_of t xs).generation) is
+      generation_stays (Some (Fetch asks)) more (inl none) = ap (λ (xs : List LifeAct). (reached p word_of t xs).generation) none
+      generation_stays (Some (Fetch asks)) more (inr (r, inl one)) = ap (λ (xs : List LifeAct). (reached p word_of t xs).generation) one
+      generation_stays (Some (Fetch asks)) more (inr (r, inr both)) = ap (λ (xs : List LifeAct). (reached p word_of t xs).generation) both
+      generation_stays (Some (End writes)) more (inl (inl none)) = ap (λ (xs : List LifeAct). (reached p word_of t xs).generation) none
+      generation_stays (Some (End writes)) more (inl (inr lifts)) = ap (λ (xs : List LifeAct). (reached p word_of t xs).generation) lifts
+      generation_stays (Some (End writes)) more (inr (ws, drawn_by, slots, all)) = ap (λ (xs : List LifeAct). (reached p word_of t xs).generation) all
+
+      fetch_stays : (asks : List (Option ℕ)) (more : List LifeAct) → AreActsLeft (Some (Fetch asks)) more → (reached p word_of t more).epoch ≡ t.epoch
+      fetch_stays asks more (inl none) = ap (λ (xs : List LifeAct). (reached p word_of t xs).epoch) none
+      fetch_stays asks more (inr (r, inl one)) = ap (λ (xs : List LifeAct). (reached p word_of t xs).epoch) one
+      fetch_stays asks more (inr (r, inr both)) = ap (λ (xs : List LifeAct). (reached p word_of t xs).epoch) both
+
+      all_left : (r : Option VaultCall) → refused ≡ r → AreActsLeft r (made ++ rest)
+      all_left r e = acts_left r made rest flies (subst (λ (x : Option VaultCall). AreFirstActs x made flies) e ((run.goes).left m is).first) finds
+
+      abbrev GateFound : (r : Option VaultCall) → IsRefusedShown most p q behind r words seen shown.more → (ℕ → Bool) → Type 0
+      GateFound r is_shown next = IsGateFoundBy behind.epoch ((q.known).gates (gate_cell p EpochTwin (behind.epoch + 1))) r (notes_lacking most p q behind r words seen shown.more is_shown) (Next next)
+
+      shown_by : (next : ℕ → Bool) (r : Option VaultCall) → refused ≡ r → (is_shown : IsRefusedShown most p q behind r words seen shown.more) → IsRefusedFilled p word_of f t r (drawn_of r is_shown) count → GateFound r is_shown next → AreGatesShown p f turn r count (Next next)
+      shown_by next None e is_shown filled_so gated =
+          gated (ap (λ (u : LifeState). u.epoch) (there_found ∙ ap (λ (xs : List LifeAct). reached p word_of t xs) (all_left None e)) ∙ sym hidden_epoch) ∙ sym turn_gate
+      shown_by next (Some (Fetch asks)) e is_shown filled_so gated =
+          gated (ap (λ (u : LifeState). u.epoch) there_found ∙ fetch_stays asks (made ++ rest) (all_left (Some (Fetch asks)) e) ∙ sym hidden_epoch) ∙ sym turn_gate
+      shown_by next (Some (End writes)) e is_shown (inr alone) gated = absurd alone
+      shown_by next (Some (End writes)) e is_shown (inl cut) gated =
+          let many : length (ring_notes p q Ends is_shown.0) - count ≡ length (notes_of_turn p f turn) - count = ap (λ (n : ℕ). n - count) (end_row_many writes is_shown.0 cut) in (
+            λ ended. gated.0 (ended ∙ ap suc turn_epoch),
+            λ stays. subst (λ (b : Bool). IsGateLeft b (length (notes_of_turn p f turn) - count) (Next next).epoch_gate) (sym turn_gate)
+                (subst (λ (n : ℕ). IsGateLeft ((q.known).gates (gate_cell p EpochTwin (behind.epoch + 1))) n (Next next).epoch_gate) many (gated.1 (stays ∙ turn_epoch))),
+          )
+
+      -- the next run begins at such an image
+      abbrev pub BeginsAt : (ℕ → Bool) → Type 0
+      BeginsAt next = (g : Gates) × (next ≡ gates_open g) × (image : Image) × (disk new).may_leave image × StandsInLife keys p word_of (reached p word_of s acts) image × AreGatesIn g image
+
+      pub gates_left : Noted refused shown.refused_shown → LeavesGates keys p q behind refused (notes_lacking most p q behind refused words seen shown.more shown.refused_shown) (disk new).may_leave
+          → (next : Option (ℕ → Bool)) → ((found_then : ℕ → Bool) → next ≡ Some found_then → BeginsAt found_then) → AreGatesLeft p word_of f s gates steps refused acts count next
+      gates_left noted leaves next begins =
+          let alone : (asks : List (Option ℕ)) → refused ≡ Some (Fetch asks) → made ≡ [] → IsRecordAlone p t (Fetch asks) count = λ asks same none. alone_by refused shown.refused_shown noted asks same none in
+          let generation_is : (reached p word_of s acts).generation ≡ behind.generation =
+          ap (λ (u : LifeState). u.generation) there_found ∙ generation_stays refused (made ++ rest) (all_left refused refl) ∙ ((run.goes).then).generation in
+          record {
+            stays = λ found_then is_next.
+                let (g, is_g, image, may, stands_then, are) = begins found_then is_next in
+                subst (λ (x : ℕ → Bool). (found_of_life p (reached p word_of s acts) x).generation_gate ≡ true) (sym is_g) ((leaves word_of (reached p word_of s acts) image g may stands_then are).0 generation_is);
+            shown = λ found_then is_next.
+                let (g, is_g, image, may, stands_then, are) = begins found_then is_next in
+                subst (λ (x : ℕ → Bool). AreGatesShown p f turn refused count (Next x)) (sym is_g)
+                (shown_by (gates_open g) refused refl shown.refused_shown (refused_filled alone refused refl shown.refused_shown) (leaves word_of (reached p word_of s acts) image g may stands_then are).1);
           }
 
 pub parts_are : {S : Type 0} (disk : S → Disk) → PartsAreRuns disk

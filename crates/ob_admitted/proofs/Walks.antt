@@ -8,19 +8,23 @@ use Rattle.ob_store.specs.Disk.{Disk, Image}
 use Rattle.ob_store.specs.declared.event.Event.{Event}
 use Rattle.ob_store.specs.declared.watch.Note.{Note}
 use Rattle.ob_tables.specs.Rank.{IsRanking}
-use Rattle.ob_schedule.specs.Schedule.{Fills}
+use Rattle.ob_schedule.specs.Schedule.{Fills, gate_cell}
 use Rattle.ob_seal.specs.declared.keys.Keys.{Keys}
 use Rattle.ob_fresh.specs.PublicLives.{AreEndsShown}
 use Rattle.ob_recover.proofs.LifeLabels.{planned_lasts}
 use Rattle.ob_recover.proofs.Pads.{life_goes_on}
-use Rattle.ob_recover.specs.Known.{gates_open}
+use Rattle.ob_recover.specs.Known.{format_gates, gates_open}
+use Rattle.ob_base.specs.Layout.{EpochTwin, GenerationTwin}
 use Rattle.ob_recover.specs.Life.{WordId, LifeAct, LifeState, Open, IsLife, formatted_life, life_slots, life_step, planned_labels, reached}
 use Rattle.ob_serial.specs.Vaults.{Fetch, VaultCall}
+use Rattle.ob_opening.specs.OpeningActs.{AreGatesIn, StandsInLife}
+use Rattle.ob_twin.specs.declared.gates.Gates.{Gates}
 use Rattle.ob_vault.specs.Hidden.{RingHidden}
 use Rattle.ob_vault.specs.Joined.{AreRunsFrom, RunPart, Served, Stopped}
 use Rattle.ob_vault.specs.Lives.{RingBegins, opening_acts}
 use Rattle.ob_vault.specs.KindShown.{public_behind}
 use Rattle.ob_vault.specs.RingKind.{RingFound, ring_kind, ring_public}
+use Rattle.ob_vault.specs.Seen.{RingPublic}
 use Rattle.ob_vault.specs.Shapes.{Shape}
 use Rattle.ob_vault.proofs.Whole.{reached_join}
 use Rattle.ob_histories.specs.Fills.{AllFills, AreAllFills}
@@ -28,6 +32,7 @@ use Rattle.ob_histories.specs.Histories.{IsHistory}
 use Rattle.ob_histories.specs.Laws.{AreAdmitted}
 use Rattle.ob_admitted.specs.Cuts.{life_behind_calls}
 use Rattle.ob_admitted.specs.Fills.{FillsAll, HasFills}
+use Rattle.ob_admitted.specs.Gates.{AreRunsGated, GatedRunsAreAdmitted, LeavesGates, notes_lacking}
 use Rattle.ob_admitted.specs.Lives.{AreRunsInLife, IsLifeFilled}
 use Rattle.ob_admitted.specs.Parts.{IsLeftAsShown, IsServedShown}
 use Rattle.ob_admitted.specs.Publics.{AreRecordsWhole}
@@ -37,11 +42,15 @@ use Rattle.ob_admitted.specs.Told.{AreAllGatesLeft, AreGatesLeft, IsRunNoted, No
 use Rattle.ob_admitted.specs.Walks.{AreLeftAsShown, AreRunsTold, AreServedParts, IsRowAsShown, IsRowInLife, IsServedPart, RowsOfRunsAreAdmitted, first_gates}
 use Rattle.ob_admitted.specs.Wholes.{found_of_life}
 use Rattle.ob_admitted.proofs.Acts.{LeftSound, Sound, calls_sound, ends_join, left_sound, life_first, life_last, slots_first, slots_last, whole_join}
+use Rattle.ob_admitted.proofs.Gating.{both_marked, marked_epoch, marked_generation}
 use Rattle.ob_admitted.proofs.Lives.{lives_are}
 use Rattle.ob_admitted.proofs.Living.{lives_are_filled}
-use Rattle.ob_admitted.proofs.Parts.{left_as_shown, parts_are, whole_of}
+use Rattle.ob_admitted.proofs.Parts.{gates_left, left_as_shown, parts_are, whole_of}
 use Rattle.ob_admitted.proofs.Walking.{AreLeftAsNoted, row_lives, row_noted}
 use Rattle.ob_admitted.proofs.Wholes.{repeats_ended, repeats_whole}
+
+same_found : (a b : ℕ → Bool) → ◌≡◌ {A = Option (ℕ → Bool)} (Some a) (Some b) → a ≡ b
+same_found a b e = cc e
 
 module _ {S : Type 0} (disk : S → Disk) (keys : Keys) (p : Params) (word_of : WordId → ℕ) (slot : ℕ → ℕ → ℕ) (f : AllFills) (ranked : (u : ℕ) → IsRanking (width p) (slot u)) where
   abbrev At : List LifeAct → LifeState
@@ -199,6 +208,50 @@ module _ {S : Type 0} (disk : S → Disk) (keys : Keys) (p : Params) (word_of : 
       let there : At (before ++ first) ≡ reached p word_of u first = reached_join p word_of (formatted_life slot) before first ∙ ap (λ (v : LifeState). reached p word_of v first) same in
       (part.0, row_told parts rows more (disk new).may_leave (before ++ first) (reached p word_of u first) later there from.2 rest part.1 (life_last p word_of u first later life_all) (filled_last u first later filled_all) noted.1 gated.1)
 
+  -- the next run begins at an image that may be left, and finds the gates that this has
+  abbrev BeginsNext : (Image → Type 0) → LifeState → (ℕ → Bool) → Type 0
+  BeginsNext may_leave w next = (g : Gates) × (next ≡ gates_open g) × (image : Image) × may_leave image × StandsInLife keys p word_of w image × AreGatesIn g image
+
+  next_begins : (parts : List (RunPart S)) (rows : List (List Note)) (told : AreRunsTold disk keys p parts rows) (may_leave : Image → Type 0) (w : LifeState) (acts : List LifeAct) → AreRunsFrom disk keys p may_leave parts → AreServedParts disk keys p word_of w parts acts
+      → (next : ℕ → Bool) → first_gates disk keys p parts rows told ≡ Some next → BeginsNext may_leave w next
+  next_begins [] rows told may_leave w acts from are next is = absurd (cc is)
+  next_begins (Stopped old new ∷ parts) rows told may_leave w acts from are next is = absurd are
+  next_begins (Served most old found opened calls steps behind refused words seen new ∷ parts) [] told may_leave w acts from are next is = absurd told
+  next_begins (Served most old found opened calls steps behind refused words seen new ∷ parts) (notes ∷ rows) (one, more) may_leave w acts from (first, later, split, here, rest) next is = (
+    ((one.found_in).found).gates,
+    sym (same_found (gates_open ((one.found_in).found).gates) next is),
+    (disk old).cells,
+    from.0,
+    here.stands,
+    record { generation = ((one.found_in).found_in).generation_gates; epoch = ((one.found_in).found_in).epoch_gates },
+  )
+
+  -- where each run left the gates so, they are found as its notes tell
+  row_gated : (parts : List (RunPart S)) (rows : List (List Note)) (told : AreRunsTold disk keys p parts rows) (may_leave : Image → Type 0) (before : List LifeAct) (u : LifeState) (acts : List LifeAct) → At before ≡ u → AreRunsFrom disk keys p may_leave parts
+      → (are : AreServedParts disk keys p word_of u parts acts) → IsLifeFilled p word_of slot f before → IsLife p word_of u acts → Filled u acts → AreLeftAsNoted disk keys p word_of u parts rows told acts are
+      → AreRunsGated disk keys p parts rows told → AreAllGatesLeft disk keys p word_of f u parts rows told acts are
+  row_gated [] rows told may_leave before u acts same from are here life filled noted gated = tt
+  row_gated (Stopped old new ∷ parts) rows told may_leave before u acts same from are here life filled noted gated = tt
+  row_gated (Served most old found opened calls steps behind refused words seen new ∷ parts) [] told may_leave before u acts same from are here life filled noted gated = tt
+  row_gated (Served most old found opened calls steps behind refused words seen new ∷ parts) (notes ∷ rows) (one, more) may_leave before u acts same from (first, later, split, is, rest) here life filled noted gated =
+      let life_all : IsLife p word_of u (first ++ later) = subst (λ (xs : List LifeAct). IsLife p word_of u xs) split life in
+      let filled_all : Filled u (first ++ later) = subst (λ (xs : List LifeAct). Filled u xs) split filled in
+      let next : Option (ℕ → Bool) = first_gates disk keys p parts rows more in
+      let q : RingPublic = public_behind ring_kind p (ring_public p found) steps in
+      let Gated : LifeState → Type 0 = (λ v. (x : IsServedPart keys most p word_of v (disk old).cells found (disk opened) calls steps behind refused words seen (disk new) first)
+      → IsRunNoted most p q behind refused words seen one.more one.refused_shown (((x.run).goes).left x.map x.is_map).made (((x.run).goes).left x.map x.is_map).in_flight
+      → LeavesGates keys p q behind refused (notes_lacking most p q behind refused words seen one.more one.refused_shown) (disk new).may_leave
+      → ((found_then : ℕ → Bool) → next ≡ Some found_then → BeginsNext (disk new).may_leave (reached p word_of v first) found_then) → IsLife p word_of v first → Filled v first
+      → AreGatesLeft p word_of f v (gates_open ((one.found_in).found).gates) steps refused first (length one.more) next × IsLifeFilled p word_of slot f (before ++ first)) in
+      let here_gated : Gated (At before) = (λ x so leaves begins life_so filled_so. (
+        gates_left disk keys p word_of slot f before ranked here most old found opened calls steps behind refused words seen new x.stands ((from.1).0 word_of (At before) x.stands x.small) notes one x.run x.map x.is_map x.rest first x.finds x.are filled_so so leaves next begins,
+        behind_part most old found opened calls steps behind refused words seen new (from.1).0 notes one before first x
+            (whole_of disk keys p word_of slot f before ranked here most old found opened calls steps behind refused words seen new x.stands ((from.1).0 word_of (At before) x.stands x.small) notes one x.run x.map x.is_map x.rest first x.finds x.are filled_so so) life_so here filled_so,
+      )) in
+      let part = subst Gated same here_gated is noted.0 gated.0 (next_begins parts rows more (disk new).may_leave (reached p word_of u first) later from.2 rest) (life_first p word_of u first later life_all) (filled_first u first later filled_all) in
+      let there : At (before ++ first) ≡ reached p word_of u first = reached_join p word_of (formatted_life slot) before first ∙ ap (λ (v : LifeState). reached p word_of v first) same in
+      (part.0, row_gated parts rows more (disk new).may_leave (before ++ first) (reached p word_of u first) later there from.2 rest part.1 (life_last p word_of u first later life_all) (filled_last u first later filled_all) noted.1 gated.1)
+
   first_closed : (parts : List (RunPart S)) (rows : List (List Note)) (told : AreRunsTold disk keys p parts rows) (P : (ℕ → Bool) → Type 0) → P (λ cell. false) → ((gates : ℕ → Bool) → first_gates disk keys p parts rows told ≡ Some gates → P gates) → P (found_first parts rows told)
   first_closed [] rows told P none some = none
   first_closed (Stopped old new ∷ parts) rows told P none some = none
@@ -251,3 +304,29 @@ noted_runs disk keys p drawn made parts rows formatted from told noted word_of g
         left = row_told disk keys p word_of row.slot has.fills row.ranked parts rows told (disk made).may_leave [] (formatted_life row.slot) row.acts refl from row.parts_are (nothing_before p word_of row.slot has.fills) row.is_life filled (both.1 noted) gated.left;
       }),
     )
+
+-- a format's gates are found closed where those that are set next lie
+first_shut : {S : Type 0} (disk : S → Disk) (keys : Keys) (p : Params) (word_of : WordId → ℕ) (slot : ℕ → ℕ → ℕ) (may_leave : Image → Type 0) → ((c : Image) → may_leave c → AreGatesIn format_gates c) → (next : ℕ → Bool)
+    → (g : Gates) × (next ≡ gates_open g) × (image : Image) × may_leave image × StandsInLife keys p word_of (formatted_life slot) image × AreGatesIn g image
+    → ((found_of_life p (formatted_life slot) next).generation_gate ≡ false) × ((found_of_life p (formatted_life slot) next).epoch_gate ≡ false)
+first_shut disk keys p word_of slot may_leave formatted next (g, is_g, image, may, stands, are) =
+    let there = formatted image may in (
+      ap (λ (x : ℕ → Bool). x (gate_cell p GenerationTwin 2)) is_g ∙ marked_generation g 0 (inl refl) ∙ both_marked g.generation format_gates.generation 1 image image 0 (inl refl) are.generation there.generation refl,
+      ap (λ (x : ℕ → Bool). x (gate_cell p EpochTwin 1)) is_g ∙ marked_epoch g 1 (inr refl) ∙ both_marked g.epoch format_gates.epoch 5 image image 1 (inr refl) are.epoch there.epoch refl,
+    )
+
+pub gated_runs : {S : Type 0} (disk : S → Disk) → GatedRunsAreAdmitted disk
+gated_runs disk keys p drawn made parts rows formatted shut from told noted gated word_of given =
+    let both = row_noted disk keys p word_of drawn made parts rows formatted from told given in
+    let row : IsRowInLife disk keys p word_of parts = both.0 in
+    let has : HasFills p word_of (formatted_life row.slot) row.acts = lives_are_filled p word_of row.slot row.acts row.ranked row.is_life in
+    let filled = row_filled disk keys p word_of parts row has in
+    let before = nothing_before p word_of row.slot has.fills in
+    let may : Image → Type 0 = (disk made).may_leave in
+    let admitted = row_admitted disk keys p word_of may parts rows from told row has.fills has.are filled (record {
+      first = λ next is. first_shut disk keys p word_of row.slot may shut next
+          (next_begins disk keys p word_of row.slot has.fills row.ranked parts rows told may (formatted_life row.slot) row.acts from row.parts_are next is);
+      left = row_told disk keys p word_of row.slot has.fills row.ranked parts rows told may [] (formatted_life row.slot) row.acts refl from row.parts_are before row.is_life filled (both.1 noted)
+          (row_gated disk keys p word_of row.slot has.fills row.ranked parts rows told may [] (formatted_life row.slot) row.acts refl from row.parts_are before row.is_life filled (both.1 noted) gated);
+    }) in
+    (row, admitted.0, admitted.1)

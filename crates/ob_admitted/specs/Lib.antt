@@ -14,3 +14,4 @@ pub mod Parts
 pub mod Walks
 pub mod Openings
 pub mod Told
+pub mod Gates

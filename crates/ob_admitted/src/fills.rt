@@ -11,6 +11,7 @@ ghost use Rattle.ob_admitted.specs.Calls.{CallsAreTurns};
 ghost use Rattle.ob_admitted.specs.Cuts.{CutOpeningsShowHistories, CutRunsShowHistories};
 ghost use Rattle.ob_admitted.specs.Fills.{LivesHaveFills};
 ghost use Rattle.ob_admitted.specs.Fronts.{FrontsAreRuns};
+ghost use Rattle.ob_admitted.specs.Gates.{CallsLeaveGates, GatedRunsAreAdmitted};
 ghost use Rattle.ob_admitted.specs.Lives.{LivesAreAdmitted};
 ghost use Rattle.ob_admitted.specs.Notes.{CallsGoByFills};
 ghost use Rattle.ob_admitted.specs.Openings.{OpeningsAreRuns};
@@ -150,10 +151,23 @@ pub fn calls_leave_as_noted<V: Vault, S: Store>()
     ensures { CallsLeaveAsNoted (kind_of V.Vault) (λ store. S.disk store) }
 {}
 
+/// And which gates the next run finds behind calls follows from their notes: of the generations'
+/// register the one that was open; of the epoch's the one that was known, but behind an end that was
+/// refused as closing and opening leave it.
+pub fn calls_leave_gates<V: Vault, S: Store>()
+    ensures { CallsLeaveGates (kind_of V.Vault) (λ store. S.disk store) }
+{}
+
 /// So runs over a formatted store, as above, show a public history where each refused call left what
 /// its notes tell. Premise: the gates are found as their writes and syncs leave them.
 pub fn noted_runs_are_admitted<S: Store>()
     ensures { NotedRunsAreAdmitted (λ store. S.disk store) }
+{}
+
+/// So rows of runs over a formatted store are admitted, where each run left what its notes tell and the
+/// gates as its calls say: no premise on gates is left.
+pub fn gated_runs_are_admitted<S: Store>()
+    ensures { GatedRunsAreAdmitted (λ store. S.disk store) }
 {}
 
 /// And so it is of a call that was cut off in a stage: by the notes that were shown in that stage.

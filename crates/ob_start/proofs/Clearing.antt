@@ -13,7 +13,7 @@ use Rattle.ob_twin.specs.declared.twin.Twin.{Twin}
 use Rattle.ob_twin.specs.declared.twin.Twin.TheVariants.{GENERATION, EPOCH}
 use Rattle.ob_twin.specs.Bodies.{Tagging, open_gate, closed_gate}
 use Rattle.ob_twin.specs.Register.{place_of, IsOpen, IsUnder, StandsAt, IsPut, SameOutside}
-use Rattle.ob_twin.specs.Opening.{known_of, is_closed_first}
+use Rattle.ob_twin.specs.Opening.{gates_set, known_of, is_closed_first, with_mark}
 use Rattle.ob_twin.specs.Reading.{NoneOpen}
 use Rattle.ob_twin.proofs.Moves.{closed-isnt-open}
 use Rattle.ob_twin.proofs.Judging.{at_place}
@@ -123,3 +123,9 @@ none_marked false = refl
 pub closes_first : (twin : Twin) (gates : Gates) (place : ℕ) → gates.generation ≡ record { zero = false; one = false } → gates.epoch ≡ record { zero = false; one = false } → is_closed_first (known_of twin gates) place ≡ true
 closes_first GENERATION gates place g e = ap (λ (k : Open). is_closed_first k place) g ∙ none_marked (place == 0)
 closes_first EPOCH gates place g e = ap (λ (k : Open). is_closed_first k place) e ∙ none_marked (place == 0)
+
+-- a register's gates behind its first number
+pub alone_known : (twin : Twin) (fresh new : Gates) (n : ℕ) → fresh.generation ≡ record { zero = false; one = false } → fresh.epoch ≡ record { zero = false; one = false } → new ≡ gates_set twin n fresh (Ok tt)
+    → known_of twin new ≡ with_mark (record { zero = false; one = false }) (place_of n)
+alone_known GENERATION fresh new n g e is = ap (λ (gates : Gates). gates.generation) is ∙ ap (λ (k : Open). with_mark k (place_of n)) g
+alone_known EPOCH fresh new n g e is = ap (λ (gates : Gates). gates.epoch) is ∙ ap (λ (k : Open). with_mark k (place_of n)) e

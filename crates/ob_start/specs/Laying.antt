@@ -1,8 +1,10 @@
 -- What a crash leaves while a store is begun: its head cleared, its gates shut.
-use Rattle.std.specs.Prelude.{◌≡◌, ◌≢◌, ◌<◌, ℕ, List, length, get_or, take}
+use Rattle.std.specs.Prelude.{◌≡◌, ◌≢◌, ◌<◌, ℕ, false, List, length, get_or, take}
 use Rattle.ob_store.specs.Disk.{Disk, Image}
 use Rattle.ob_store.specs.Images.{SameBut, IsImageOf}
 use Rattle.ob_twin.specs.Bodies.{closed_gate}
+use Rattle.ob_twin.specs.Opening.{GatesAre, with_mark}
+use Rattle.ob_twin.specs.Register.{place_of}
 use Rattle.ob_start.specs.Heads.{head_mark}
 
 -- the two images have the same head
@@ -28,3 +30,7 @@ SameButThese cells a b = (k : ℕ) → ((i : ℕ) → i < length cells → k ≢
 -- each of these cells lies behind that one
 abbrev pub LieBehind : ℕ → List ℕ → Type 0
 LieBehind low cells = (i : ℕ) → i < length cells → low < get_or cells i 0
+
+-- of a register's gates just that of this number's place is open
+abbrev pub IsOpenAlone : (first n : ℕ) → Image → Type 0
+IsOpenAlone first n image = GatesAre (with_mark (record { zero = false; one = false }) (place_of n)) first image

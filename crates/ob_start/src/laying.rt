@@ -11,7 +11,7 @@ ghost use Rattle.ob_twin.specs.Register.{first_of, StandsAt, SameOutside};
 ghost use Rattle.ob_twin.specs.Reading.{NoneOpen};
 ghost use Rattle.ob_twin.specs.Orders.{set_notes};
 ghost use Rattle.ob_start.specs.Clear.{LaidInClearBy, ShutBy};
-ghost use Rattle.ob_start.specs.Laying.{SameHead, HasNoHead, IsTornHead, AreShut, SameButThese, LieBehind};
+ghost use Rattle.ob_start.specs.Laying.{SameHead, HasNoHead, IsTornHead, AreShut, SameButThese, LieBehind, IsOpenAlone};
 ghost use Rattle.ob_start.specs.Orders.{writes_of, register_gates, shut_notes, lay_notes};
 
 use ob_base::Failed;
@@ -90,6 +90,8 @@ pub fn set_first<S: Store, W: Watch>(
         (S.disk store.new).seen (S.disk store.old).cells (S.disk store.new).cells result }
     ensures passes { Passes (SameOutside (first_of twin)) (S.disk store.old) (S.disk store.new) }
     ensures durable { (S.disk store.old).tells → OnOk result (IsSynced (S.disk store.new)) }
+    ensures gates { (S.disk store.old).tells
+        → OnOk result (IsOpenAlone (first_of twin) n (S.disk store.new).cells) }
     ensures does { Does (set_notes true (first_of twin) n) (S.disk store.old).seen
         (S.disk store.new).seen (W.trace watch.old) (W.trace watch.new) result }
 {
@@ -115,6 +117,8 @@ pub fn lay_registers<S: Store, W: Watch>(
     ensures serves { Serves IsFailed (S.disk store.old) (S.disk store.new) result }
     ensures generation { (S.disk store.old).tells
         → OnOk result (StandsAt (tagging sealer.now.keys) 1 (S.disk store.new).cells 1) }
+    ensures gates { (S.disk store.old).tells
+        → OnOk result (IsOpenAlone 1 1 (S.disk store.new).cells) }
     ensures epoch { (S.disk store.old).tells → OnOk result (NoneOpen 5 (S.disk store.new).cells) }
     ensures shut { (S.disk store.old).tells
         → OnOk result (AreShut more_gates.now (S.disk store.new).cells) }

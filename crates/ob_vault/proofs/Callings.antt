@@ -8,6 +8,7 @@ use Rattle.ob_base.specs.declared.value.Write.{Write}
 use Rattle.ob_base.specs.Layout.{log_cell, record_cells}
 use Rattle.ob_cells.specs.Writes.{WritesWithin}
 use Rattle.ob_end.specs.Closings.{SameGeneration}
+use Rattle.ob_end.specs.EndWrites.{SameFirst}
 use Rattle.ob_end.specs.Lifts.{IsUndamaged}
 use Rattle.ob_fetch.specs.declared.run.Run.{Run}
 use Rattle.ob_fetch.specs.Fetches.{FetchDoes, FetchStands, RunIsAt}
@@ -61,6 +62,10 @@ second_of_three A B C (Err e) all = tt
 pub fetch_moments : (p : Params) (area batch : ℕ) (old new : Disk) → WritesWithin (log_cell p area batch 0) (record_cells p + 1) old new → Passes SameGeneration old new
 fetch_moments p area batch old new within =
     passes_so (SameOff (log_cell p area batch 0) (record_cells p + 1)) SameGeneration old new (λ c d same k lt. same k (inl (omega (arith, lt)))) within.passes
+
+pub fetch_registers : (p : Params) (area batch : ℕ) (old new : Disk) → WritesWithin (log_cell p area batch 0) (record_cells p + 1) old new → Passes SameFirst old new
+fetch_registers p area batch old new within =
+    passes_so (SameOff (log_cell p area batch 0) (record_cells p + 1)) SameFirst old new (λ c d same k lt. same k (inl (omega (arith, lt)))) within.passes
 
 -- where the store stood, a fetch is not refused for damage
 pub fetch_undamaged : (s : RingStanding) (r : BatchRecord) (asks : List (Option ℕ)) (disk : Disk) (run : Run) (out : List (Option (List ℕ))) (x : Result (Unit {0}) Fault) → FetchStands s r asks disk run out x → IsUndamaged x

@@ -48,3 +48,4 @@ pub mod Staging
 pub mod Formatted
 pub mod SealCounts
 pub mod Given
+pub mod Registers

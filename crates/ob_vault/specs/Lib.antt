@@ -18,6 +18,7 @@ pub mod RingLaws
 pub mod SealActs
 pub mod Stages
 pub mod Acts
+pub mod Gated
 pub mod Shown
 pub mod Lives
 pub mod Joined

@@ -15,7 +15,9 @@ use Rattle.ob_tables.specs.Content.{Content}
 use Rattle.ob_end.specs.Closings.{SameGeneration}
 use Rattle.ob_end.specs.EndRuns.{AreEntriesWritten, EndAnswers, EndDamage, EndDraws, EndImages, EndStands, IfEnded, IsAtContent, IsEndUndamaged, LeadsOn, TakeBucketWords, end_writes, seals_for_end, table_ended}
 use Rattle.ob_end.specs.Moments.{EndStages}
+use Rattle.ob_end.specs.EndWrites.{SameFirst}
 use Rattle.ob_end.specs.Shown.{EndShows}
+use Rattle.ob_end.specs.Stops.{EndStops}
 use Rattle.ob_end.specs.Lifts.{IsUndamaged}
 use Rattle.ob_fetch.specs.declared.run.Run.{Run}
 use Rattle.ob_fetch.specs.Fetches.{FetchAnswers, FetchDraws, FetchShows, FetchStages, IsFetchRefusal, IsOpenIfShown, IsWornForBatch, MovesPlanner, RunIsAt, next_batch, record_next, words_since}
@@ -44,6 +46,7 @@ use Rattle.ob_store.specs.Told.{events_of}
 use Rattle.ob_store.specs.declared.watch.Note.{Note}
 use Rattle.ob_tables.specs.declared.entry.Entry.{Entry}
 use Rattle.ob_opening.specs.declared.opening.Opening.{Opening}
+use Rattle.ob_twin.specs.Opening.{GatesAre}
 
 -- a disk with two references more
 abbrev pub lent_both : GName → GName → Disk → Disk
@@ -165,7 +168,8 @@ module _ {S : Type 0} (disk : S → Disk) (old new : Running S) (notes : List No
           → FetchAnswers ((old.run).sealer).keys (old.run).params start.versions (disk new.store).cells t record_of_fetch (((old.run).ring).stash).rows (((new.run).ring).stash).rows result
       pub undamaged : (s : RingStanding) → RunIsAt old.run s (disk old.store) → IsUndamaged result
       pub sealed : (disk old.store).tells → OnOk result SealsCells
-      -- the head and the registers stay
+      -- the head and the registers stay, in each image too
+      pub registers : Passes SameFirst (disk old.store) (disk new.store)
       pub first : (disk new.store).tells → (cell : ℕ) → cell ≤ 8 → (disk new.store).cells cell ≡ (disk old.store).cells cell
       -- a word for each place, or none where numbers are worn
       pub draws : FetchDraws ((old.run).params).places old.drawn new.drawn result
@@ -206,6 +210,7 @@ module _ {S : Type 0} (disk : S → Disk) (old new : Running S) (notes : List No
       pub epoch : OnOk result ((new.run).epoch ≡ suc (old.run).epoch)
       pub left : OnOk result ((new.run).left ≡ ((old.run).params).batches)
       pub gates : OnOk result ((new.run).gates ≡ gates_ended (old.run).gates (old.run).epoch)
+      pub knows : (disk old.store).tells → OnOk result (GatesAre ((new.run).gates).epoch 5 (disk new.store).cells)
       -- its refusals, and exactly when each comes; of damage, where the store tells its cells, what comes first, none where it stood
       pub refusal : IfErr result (IsEndFault ((old.run).epoch + 1))
       pub answers : (t : FlatTable) → StandsFor (old.run).ring t → EndAnswers (old.run).params t (old.run).epoch (old.run).drawn ((old.run).sealer).next writes_of_end result
@@ -224,6 +229,9 @@ module _ {S : Type 0} (disk : S → Disk) (old new : Running S) (notes : List No
           → EndShows old.lanes (end_lifts (old.run).params (public_of_kept (old.run).params c rs (old.run).epoch (old.run).gates) (fills_with_lifts (old.run).params c rs))
           (end_phases (old.run).params (public_of_kept (old.run).params c rs (old.run).epoch (old.run).gates) (fills_with_lifts (old.run).params c rs))
           (end_notes (old.run).params (public_of_kept (old.run).params c rs (old.run).epoch (old.run).gates) (fills_with_lifts (old.run).params c rs)) notes (disk old.store).seen (disk new.store).seen result
+      -- and by how many of that row's notes weren't shown it then leaves the register's gates
+      pub stops : (c : Content) (rs : List BatchRecord) → HasPlanned old.run c rs
+          → EndStops ((old.run).sealer).keys (old.run).gates (old.run).epoch (disk old.store) (disk new.store) (end_notes (old.run).params (public_of_kept (old.run).params c rs (old.run).epoch (old.run).gates) (fills_with_lifts (old.run).params c rs)) notes result
       -- behind it the store knows what the schedule's end leaves
       pub onward : (c : Content) (rs : List BatchRecord) → HasPlanned old.run c rs → OnOk result (LeadsOn (old.run).params ((old.run).sealer).generation c rs (old.run).epoch (old.run).gates (new.run).ring (new.run).gates)
       -- the table then: lifted, written, and filled anew; the words of the writes' places are their keys', and those behind the buckets'

@@ -134,3 +134,8 @@ returns-clause-clear g c = λ tells.
     (laid_then Blank tag old.cells mid.cells shut.cells (λ cell low. head_laid Blank tag old.cells mid.cells (c.write_out.ensures.rest here) (c.in_ok-write_out.ensures.written here) cell) {T = Unit {0}} {E = Failed} shut.seen (Ok tt)
     (c.in_ok-shut_gates.ensures.clear tag there))
     new.seen c.set_first.result (c.set_first.ensures.clear tells)
+
+-- ---- gates
+
+pub returns-clause-gates : goal.returns-clause-gates
+returns-clause-gates g c = λ tells. c.set_first.ensures.gates (c.in_ok-shut_gates.ensures.serves.tells (c.in_ok-write_out.ensures.serves.tells tells))

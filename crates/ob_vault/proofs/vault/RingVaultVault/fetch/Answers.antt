@@ -12,7 +12,7 @@ use Rattle.ob_twin.specs.Opening.{GatesAre}
 use Rattle.ob_twin.specs.declared.gates.Gates.{Gates}
 use Rattle.ob_vault.specs.declared.known.Known.{Known}
 use Rattle.ob_vault.specs.RingVaults.{running}
-use Rattle.ob_vault.proofs.Callings.{fetch_called, fetch_moments, fetch_stood, fetch_undamaged, first_of, open_first}
+use Rattle.ob_vault.proofs.Callings.{fetch_called, fetch_moments, fetch_registers, fetch_stood, fetch_undamaged, first_of, open_first}
 use Rattle.ob_vault.proofs.Holding.{alike_kept, fetch_answered, fetch_counts, fetch_faults, fetch_holds, fetch_images, fetch_sound, lent_leaves, s, serves, lent_goes}
 use Rattle.ob_vault.proofs.Lending.{fetch_grows, fetch_ready, fetch_told, fetch_went, may_go_on}
 use Rattle.ob_vault.proofs.Ready.{ready_of}
@@ -117,6 +117,7 @@ returns-clause-called g c =
             answers = c.fetch-result.ensures.value;
             undamaged = λ s at. fetch_undamaged s r asks new c.fetch-result.new.run c.fetch-result.new.out c.fetch-result.result (c.fetch-result.ensures.standing.stands s at);
             sealed = c.fetch-result.ensures.sealed;
+            registers = fetch_registers run.params (suc run.epoch % 2) (next_batch run) old new c.fetch-result.ensures.within;
             first = λ tells cell low. (c.fetch-result.ensures.within.passes.told tells).1 cell (inl (omega (arith, low)));
             draws = c.fetch-result.ensures.draws;
             seals = c.fetch-result.ensures.seals;
