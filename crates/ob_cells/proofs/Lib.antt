@@ -7,3 +7,4 @@ pub mod Stopping
 pub mod Written
 pub mod Filling
 pub mod JobReads
+pub mod Rows

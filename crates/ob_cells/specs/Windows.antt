@@ -1,5 +1,5 @@
 -- Cells that were sealed and are not yet written.
-use Rattle.std.specs.Prelude.{◌≡◌, ◌≢◌, ◌<◌, ◌≤◌, ℕ, ◌+◌, ◌/◌, ◌%◌, List, [], length, slice_index_or}
+use Rattle.std.specs.Prelude.{◌≡◌, ◌≢◌, ◌<◌, ◌≤◌, ℕ, ◌+◌, ◌-◌, ◌*◌, ◌/◌, ◌%◌, ◌^◌, List, [], length, slice_index_or}
 use Rattle.ob_seal.specs.declared.keys.Keys.{Keys}
 use Rattle.ob_seal.specs.Seals.{sealed}
 
@@ -13,8 +13,30 @@ abbrev pub AreSlotsSealed : Keys → ℕ → ℕ → ℕ → (ℕ → List ℕ) 
 AreSlotsSealed keys cell generation number plain slots =
     (j : ℕ) → j < length slots → IsSlotSealed keys (cell + j) generation (number + j) (plain j) (slice_index_or slots j [])
 
--- The window has the cells of a run from its i-th on that are in the same 1,024 as it, unless it is their first.
-abbrev pub IsWindowReady : Keys → ℕ → ℕ → ℕ → (ℕ → List ℕ) → ℕ → ℕ → List (List ℕ) → Type 0
-IsWindowReady keys base generation first plain many i slots =
-    (j : ℕ) → i % 1024 ≢ 0 → i ≤ j → j < many → j / 1024 ≡ i / 1024
-    → IsSlotSealed keys (base + j) generation (first + j) (plain j) (slice_index_or slots (j % 1024) [])
+-- a row has the cells of a run from its i-th on, that one under this number, as far as both go
+abbrev pub IsRowSealed : Keys → ℕ → ℕ → ℕ → (ℕ → List ℕ) → ℕ → ℕ → List (List ℕ) → Type 0
+IsRowSealed keys base generation number plain many i row =
+    (j : ℕ) → j < 48 → i + j < many → IsSlotSealed keys (base + (i + j)) generation (number + j) (plain (i + j)) (slice_index_or row j [])
+
+-- rows have them one behind the other
+abbrev pub AreRowsSealed : Keys → ℕ → ℕ → ℕ → (ℕ → List ℕ) → ℕ → ℕ → List (List (List ℕ)) → Type 0
+AreRowsSealed keys base generation number plain many i rows =
+    (k : ℕ) → k < length rows → IsRowSealed keys base generation (number + 48 * k) plain many (i + 48 * k) (slice_index_or rows k [])
+
+-- as many rows have them as there were
+abbrev pub AreRowsSealedAs : Keys → ℕ → ℕ → ℕ → (ℕ → List ℕ) → ℕ → ℕ → List (List (List ℕ)) → List (List (List ℕ)) → Type 0
+AreRowsSealedAs keys base generation number plain many i old new = (length new ≡ length old) × AreRowsSealed keys base generation number plain many i new
+
+-- a run has cells for each of the rows from its i-th on, and there are numbers for them
+abbrev pub CanSealRows : ℕ → ℕ → ℕ → ℕ → List (List (List ℕ)) → Type 0
+CanSealRows base many i number rows = (i + 48 * length rows < many + 48) × ((i ≤ many) × ((base + many < 2 ^ 64) × (number + (many - i) ≤ 2 ^ 62)))
+
+-- the slot of this number in rows of 48
+abbrev pub slot_in : List (List (List ℕ)) → ℕ → List ℕ
+slot_in rows j = slice_index_or (slice_index_or rows (j % 1536 / 48) []) (j % 48) []
+
+-- The rows have the cells of a run from its i-th on that are in the same 1,536 as it, unless it is their first.
+abbrev pub IsWindowReady : Keys → ℕ → ℕ → ℕ → (ℕ → List ℕ) → ℕ → ℕ → List (List (List ℕ)) → Type 0
+IsWindowReady keys base generation first plain many i rows =
+    (j : ℕ) → i % 1536 ≢ 0 → i ≤ j → j < many → j / 1536 ≡ i / 1536
+    → IsSlotSealed keys (base + j) generation (first + j) (plain j) (slot_in rows j)

@@ -1,14 +1,24 @@
-//! Cells sealed side by side.
+//! Cells of a run sealed side by side.
 
-ghost use Rattle.std.specs.Prelude.{◌≡◌, ◌<◌, ◌≤◌, ◌+◌, ◌-◌, ◌^◌, ℕ, [], length, slice_index_or};
-ghost use Rattle.ob_cells.specs.Windows.{IsSlotSealed, AreSlotsSealed};
+ghost use Rattle.std.specs.Prelude.{◌≡◌, ◌<◌, ◌≤◌, ◌+◌, ◌-◌, ◌*◌, ◌^◌, length};
+ghost use denote.Param.Send.{IsSync};
+ghost use Rattle.ob_cells.specs.Windows.{AreRowsSealedAs, CanSealRows, IsRowSealed, IsSlotSealed};
 
 use crate::cell_run::CellRun;
 use crate::pieces::Pieces;
-use crate::window::threads_for;
+use crate::window::Row;
 use ob_seal::Sealer;
-use std::thread;
-use std::thread::Threads;
+use std::thread::{Threads, join_mut};
+
+// How many cells a row has.
+const ROW: u64 = 48;
+
+// Where a part of a run begins: at which of its cells, and the number that this is sealed under.
+#[derive(Clone, Copy)]
+pub(crate) struct Start {
+    pub(crate) cell: u64,
+    pub(crate) number: u64,
+}
 
 // The cell of a piece, under this number.
 fn seal_piece<P: Pieces>(sealer: &Sealer, cell: u64, number: u64, pieces: &P, i: u64) -> [u8; 128]
@@ -19,67 +29,103 @@ fn seal_piece<P: Pieces>(sealer: &Sealer, cell: u64, number: u64, pieces: &P, i:
     sealer.seal_at(cell, number, &pieces.piece(i))
 }
 
-// Seals a run's cells from one on, one for each slot, under the numbers from the next on.
-fn seal_slots<R: Threads + Sync, P: Pieces + Sync>(
-    rt: &R,
-    sealer: &Sealer,
-    slots: &mut [[u8; 128]],
-    threads: usize,
-    run: &CellRun<'_, P>,
-    first: u64,
-)
-    requires threads { 1 ≤ threads }
-    requires within { first + length slots.old ≤ run.now.many }
+// Seals a run's cells from one on, as far as it and the row go, under the numbers from its own on.
+fn seal_row<P: Pieces>(sealer: &Sealer, run: &CellRun<'_, P>, start: Start, row: &mut Row)
+    requires within { start.cell < run.now.many }
     requires fits { run.now.base + run.now.many < 2 ^ 64 }
-    requires room { sealer.now.next + length slots.old ≤ 2 ^ 62 }
-    ensures many { length slots.new ≡ length slots.old }
-    ensures each { AreSlotsSealed sealer.now.keys (run.now.base + first) sealer.now.generation
-        sealer.now.next (λ j. P.plain run.now.pieces.now (first + j)) slots.new }
+    requires room { start.number + (run.now.many - start.cell) ≤ 2 ^ 62 }
+    ensures { IsRowSealed sealer.now.keys run.now.base sealer.now.generation start.number
+        (P.plain run.now.pieces.now) run.now.many start.cell row.new }
 {
-    let (_, number) = sealer.next();
-    let cell = run.base + first;
-    let pieces = run.pieces;
-    thread::for_each_mut(
-        rt,
-        slots,
-        threads,
-        &move |j, slot: &mut [u8; 128]|
-            requires { (cell + j < 2 ^ 64) × (number + j < 2 ^ 62) × (first + j < 2 ^ 64) }
-            ensures { IsSlotSealed sealer.entry.now.keys (cell + j) sealer.entry.now.generation
-                (number + j) (P.plain pieces.entry.now (first + j)) slot.new }
-        {
-            *slot = seal_piece(
-                sealer,
-                cell + j as u64,
-                number + j as u64,
-                pieces,
-                first + j as u64,
-            )
-        },
-    );
+    let few = (run.many - start.cell).min(ROW) as usize;
+    for j in 0..few {
+        let i = start.cell + j as u64;
+        let number = start.number + j as u64;
+        row[j] = seal_piece(sealer, run.base + i, number, run.pieces, i);
+    }
 }
 
-// Seals a run's cells from one on, as far as it and the slots go, under the numbers from the next
-// on.
-pub(crate) fn seal_first<R: Threads + Sync, P: Pieces + Sync>(
+// Where the part behind so many rows begins.
+fn behind(start: Start, rows: usize) -> Start
+    requires cell { start.cell + 48 * rows < 2 ^ 64 }
+    requires number { start.number + 48 * rows < 2 ^ 64 }
+    ensures cell { result.cell ≡ start.cell + 48 * rows }
+    ensures number { result.number ≡ start.number + 48 * rows }
+{
+    let cells = ROW * rows as u64;
+    Start {
+        cell: start.cell + cells,
+        number: start.number + cells,
+    }
+}
+
+// Seals a run's cells from one on, as far as it and the rows go, by the calling thread alone.
+fn seal_in_turn<P: Pieces>(sealer: &Sealer, run: &CellRun<'_, P>, start: Start, rows: &mut [Row])
+    requires can { CanSealRows run.now.base run.now.many start.cell start.number rows.old }
+    ensures { AreRowsSealedAs sealer.now.keys run.now.base sealer.now.generation start.number
+        (P.plain run.now.pieces.now) run.now.many start.cell rows.old rows.new }
+{
+    for k in 0..rows.len() {
+        seal_row(sealer, run, behind(start, k), &mut rows[k]);
+    }
+}
+
+// The same by so many threads.
+#[cycle(threads)]
+pub(crate) fn seal_rows<R: Threads + Sync, P: Pieces + Sync>(
     rt: &R,
     sealer: &Sealer,
-    slots: &mut [[u8; 128]],
-    threads: usize,
     run: &CellRun<'_, P>,
-    first: u64,
+    start: Start,
+    rows: &mut [Row],
+    threads: usize,
 )
-    requires threads { 1 ≤ threads }
-    requires within { first ≤ run.now.many }
-    requires fits { run.now.base + run.now.many < 2 ^ 64 }
-    requires room { sealer.now.next + (run.now.many - first) ≤ 2 ^ 62 }
-    ensures many { length slots.new ≡ length slots.old }
-    ensures each { (j : ℕ) → j < length slots.old → j < run.now.many - first
-        → IsSlotSealed sealer.now.keys (run.now.base + first + j) sealer.now.generation
-        (sealer.now.next + j) (P.plain run.now.pieces.now (first + j))
-        (slice_index_or slots.new j []) }
+    requires can { CanSealRows run.now.base run.now.many start.cell start.number rows.old }
+    ensures { AreRowsSealedAs sealer.now.keys run.now.base sealer.now.generation start.number
+        (P.plain run.now.pieces.now) run.now.many start.cell rows.old rows.new }
 {
-    let few = (run.many - first).min(slots.len() as u64) as usize;
-    let threads = threads_for(threads, few);
-    seal_slots(rt, sealer, &mut slots[..few], threads, run, first);
+    if threads < 2 || rows.is_empty() {
+        seal_in_turn(sealer, run, start, rows);
+        return;
+    }
+    let few = rows.len() / threads;
+    let next = behind(start, few);
+    let (apart, rest) = rows.split_at_mut(few);
+    seal_apart(rt, sealer, run, start, next, apart, rest, threads - 1);
+}
+
+// Some rows in a thread of their own, and the others from the calling thread on: that starts all
+// threads, one behind the other, so that none waits until another one runs.
+#[cycle(threads)]
+fn seal_apart<R: Threads + Sync, P: Pieces + Sync>(
+    rt: &R,
+    sealer: &Sealer,
+    run: &CellRun<'_, P>,
+    start: Start,
+    next: Start,
+    apart: &mut [Row],
+    rest: &mut [Row],
+    threads: usize,
+)
+    requires apart { CanSealRows run.now.base run.now.many start.cell start.number apart.old }
+    requires rest { CanSealRows run.now.base run.now.many next.cell next.number rest.old }
+    ensures apart { AreRowsSealedAs sealer.now.keys run.now.base sealer.now.generation start.number
+        (P.plain run.now.pieces.now) run.now.many start.cell apart.old apart.new }
+    ensures rest { AreRowsSealedAs sealer.now.keys run.now.base sealer.now.generation next.number
+        (P.plain run.now.pieces.now) run.now.many next.cell rest.old rest.new }
+{
+    let mut there = ||
+        requires { CanSealRows run.now.base run.now.many start.cell start.number apart.now }
+        ensures { AreRowsSealedAs sealer.entry.now.keys run.entry.now.base
+            sealer.entry.now.generation start.number (P.plain run.entry.now.pieces.now)
+            run.entry.now.many start.cell apart.entry.now apart.exit.now }
+    { seal_in_turn(sealer, run, start, apart) };
+    let mut here = ||
+        requires { IsSync R.row × IsSync P.row
+            × CanSealRows run.now.base run.now.many next.cell next.number rest.now }
+        ensures { AreRowsSealedAs sealer.entry.now.keys run.entry.now.base
+            sealer.entry.now.generation next.number (P.plain run.entry.now.pieces.now)
+            run.entry.now.many next.cell rest.entry.now rest.exit.now }
+    { seal_rows(rt, sealer, run, next, rest, threads) };
+    join_mut(rt, &mut there, &mut here);
 }

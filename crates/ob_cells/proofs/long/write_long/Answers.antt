@@ -63,8 +63,8 @@ loop-i-preserved g c =
       generation = ap (λ s. s.generation) c.next_cell-bytes.ensures.next ∙ c.loop-i.invariant.generation;
       next = (let now = ap (λ s. s.next) c.next_cell-bytes.ensures.next in let then = c.loop-i.invariant.next in omega arith);
       ready =
-          subst (λ (k : Keys). IsWindowReady k c.args.run.now.base before.generation before.next plain c.args.run.now.many (i + 1) c.next_cell-bytes.new.bench.window.cells.items) c.loop-i.invariant.keys
-          (subst (λ (x : ℕ). IsWindowReady was.keys c.args.run.now.base x before.next plain c.args.run.now.many (i + 1) c.next_cell-bytes.new.bench.window.cells.items) c.loop-i.invariant.generation
+          subst (λ (k : Keys). IsWindowReady k c.args.run.now.base before.generation before.next plain c.args.run.now.many (i + 1) c.next_cell-bytes.new.bench.rows.items) c.loop-i.invariant.keys
+          (subst (λ (x : ℕ). IsWindowReady was.keys c.args.run.now.base x before.next plain c.args.run.now.many (i + 1) c.next_cell-bytes.new.bench.rows.items) c.loop-i.invariant.generation
           (c.next_cell-bytes.ensures.ready before.next c.loop-i.invariant.next));
     }
 

@@ -14,5 +14,5 @@ invariant-loop-i g l = record {
   keys : l.sealer.keys ≡ l.initial.sealer.keys;
   generation : l.sealer.generation ≡ l.initial.sealer.generation;
   next : l.sealer.next ≡ l.initial.sealer.next + l.i;
-  ready : IsWindowReady l.initial.sealer.keys l.run.base l.initial.sealer.generation l.initial.sealer.next (g.P.Pieces.plain l.run.pieces.now) l.run.many l.i l.bench.window.cells.items;
+  ready : IsWindowReady l.initial.sealer.keys l.run.base l.initial.sealer.generation l.initial.sealer.next (g.P.Pieces.plain l.run.pieces.now) l.run.many l.i l.bench.rows.items;
 }
