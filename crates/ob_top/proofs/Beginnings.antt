@@ -47,19 +47,31 @@ use Rattle.ob_start.specs.Orders.{registers_notes}
 use Rattle.ob_opening.specs.Openings.{IsOpenFault, IsOpenRefusal, IsStandingRefusal, OpensWhatStood}
 use Rattle.ob_opening.specs.declared.opening.Opening.{Opening}
 use Rattle.ob_top.proofs.Running.{IsQuiet}
-use Rattle.ob_top.specs.Begun.{IsBegun, MayGoOn, MayServe}
+use Rattle.ob_top.specs.Begun.{EndsAtHead, IsBegun, MayGoOn, MayServe}
 use Rattle.ob_top.specs.Formats.{FormatEnds, IsFormatted}
 use Rattle.ob_top.specs.Runs.{BreaksAtHead, BreaksAtOpening, EndsEarly}
-use Rattle.ob_top.specs.Parts.{CameIn, SharesFit}
+use Rattle.ob_top.specs.Parts.{CameIn, SharesFit, head_cells}
 
 -- the watch was found broken
-pub broke_early : {S : Type 0} (disk : S → Disk) (keys : Keys) (most : ℕ) (shares : Shares) (old new : Disk) (t u : Trace) (before after : Flow) (err : RunErr) → IsWatched u (Some err)
-    → (u.broken ≡ true → BreaksAtHead ring_kind ring_lives keys most shares old new t u before after ⊎ BreaksAtOpening ring_kind ring_lives keys most shares old new t u disk before) → EndsEarly ring_kind ring_lives keys most shares old new t u disk before after err
-broke_early disk keys most shares old new t u before after (failed.Fault refused) is so = absurd is
-broke_early disk keys most shares old new t u before after failed.Unwatched is so = so is
+pub broke_early : (head_is : List ℕ) {S : Type 0} (disk : S → Disk) (keys : Keys) (most : ℕ) (shares : Shares) (old new : Disk) (t u : Trace) (before after : Flow) (err : RunErr) → IsWatched u (Some err)
+    → (u.broken ≡ true → BreaksAtHead ring_kind ring_lives head_is keys most shares old new t u before after ⊎ BreaksAtOpening ring_kind ring_lives head_is keys most shares old new t u disk before) → EndsEarly ring_kind ring_lives head_is keys most shares old new t u disk before after err
+broke_early head_is disk keys most shares old new t u before after (failed.Fault refused) is so = absurd is
+broke_early head_is disk keys most shares old new t u before after failed.Unwatched is so = so is
+
+-- so it was behind the head's read
+pub broke_at_head : (keys : Keys) (most : ℕ) (shares : Shares) (old new : Disk) (t u : Trace) (before after : Flow) (err : RunErr) → IsWatched u (Some err) → (u.broken ≡ true → BreaksAtHead ring_kind ring_lives head_cells keys most shares old new t u before after)
+    → EndsAtHead keys most shares old new t u before after err
+broke_at_head keys most shares old new t u before after (failed.Fault refused) is so = absurd is
+broke_at_head keys most shares old new t u before after failed.Unwatched is so = so is
+
+-- a run that ends at its head ends early
+pub early_at_head : {S : Type 0} (disk : S → Disk) (keys : Keys) (most : ℕ) (shares : Shares) (old new : Disk) (t u : Trace) (before after : Flow) (err : RunErr) → EndsAtHead keys most shares old new t u before after err
+    → EndsEarly ring_kind ring_lives head_cells keys most shares old new t u disk before after err
+early_at_head disk keys most shares old new t u before after (failed.Fault refused) ends = inl ends
+early_at_head disk keys most shares old new t u before after failed.Unwatched ends = inl ends
 
 -- a refused opening has shown some notes
-abbrev SomeShown : Trace → Trace → Type 0
+abbrev pub SomeShown : Trace → Trace → Type 0
 SomeShown before after = (notes : List Note) × Shows notes before after
 
 reads_shown : (keys : Keys) (p : Params) (old new : Disk) (before after : Trace) → ReadsFirst keys p old new before after → SomeShown before after
@@ -74,7 +86,7 @@ part_shown : (keys : Keys) (most : ℕ) (p : Params) (old new : Disk) (before af
 part_shown keys most p old new before after refused (inl first) = reads_shown keys p old new before after first
 part_shown keys most p old new before after refused (inr part) = begins_shown (begun_notes p part.found) most p part.found old.seen new.seen before after refused part.told
 
-refused_shown : (keys : Keys) (most : ℕ) (p : Params) (old new : Disk) (before after : Trace) (refused : Fault) → RefusedDoes keys most p old new before after refused → SomeShown before after
+pub refused_shown : (keys : Keys) (most : ℕ) (p : Params) (old new : Disk) (before after : Trace) (refused : Fault) → RefusedDoes keys most p old new before after refused → SomeShown before after
 refused_shown keys most p old new before after fault.NotStore does = (registers_notes, does.shows)
 refused_shown keys most p old new before after (fault.Worn number) does = (finding_notes p does.found.epoch, does.told.shows)
 refused_shown keys most p old new before after fault.Memory does = reads_shown keys p old new before after does
@@ -93,7 +105,7 @@ ring_quiet = record { head = λ is. is; opening = λ is. is }
 module _ {S : Type 0} (disk : S → Disk) (keys : Keys) (most : ℕ) (some : 1 ≤ most) (p : Params) (script : Scripts) (before : Flow) (old mid new : S) (head : (disk old).tells → IsHead keys 1 p ((disk old).cells 0)) (read : ReadsHead (disk old) (disk mid)) (came : CameIn p.keys before script) where
   -- the store was opened
   pub begun : {L : Type 0} (first shown later : Trace) (o : Opening L) (is : IsRingOpened disk keys most p mid new shown later o) → ((disk mid).tells → (disk new).tells)
-      → ((s : RingStanding) → (disk mid).tells → stand.Stands keys p s (disk mid).cells → OpensWhatStood keys p s (disk new) (Ok o)) → Shows (note.Read 0 ∷ []) first shown → shown.broken ≡ false → IsBegun keys most p script (disk old) (disk new) first later before (found_ring is.found o)
+      → ((s : RingStanding) → (disk mid).tells → stand.Stands keys p s (disk mid).cells → OpensWhatStood keys p s (disk new) (Ok o)) → Shows (note.Read 0 ∷ []) first shown → shown.broken ≡ false → IsBegun head_cells keys most p script (disk old) (disk new) first later before (found_ring is.found o)
   begun {L} first shown later o is told stands head_shown whole =
       let so = ring_opens L disk keys most p old mid new shown later o some read is in
       record {
@@ -110,7 +122,7 @@ module _ {S : Type 0} (disk : S → Disk) (keys : Keys) (most : ℕ) (some : 1 �
       → (disk old).faults ≤ (disk mid).faults → IsOpenFault refused → (IsStoreFault refused → Rose (disk mid).faults (disk new).faults) → RefusedDoes keys most p (disk mid) (disk new) shown later refused
       → ((disk mid).tells → IsOpenRefusal keys p (disk mid).cells refused) → ((s : RingStanding) → (disk mid).tells → stand.Stands keys p s (disk mid).cells → IsStandingRefusal s refused)
       → RefusedWrites disk keys p mid new tape_old tape_new present drawn refused → OpeningLeaves {L = L} disk keys p mid new (Err refused)
-      → ((word_of : WordId → ℕ) (s : LifeState) (pending : Option LifeAct) → (disk mid).tells → IsLeftAt keys p word_of s pending (disk mid).cells → OpensInLife keys most p word_of s pending (disk mid) (disk new) shown later false) → EndsEarly ring_kind ring_lives keys most shares (disk old)
+      → ((word_of : WordId → ℕ) (s : LifeState) (pending : Option LifeAct) → (disk mid).tells → IsLeftAt keys p word_of s pending (disk mid).cells → OpensInLife keys most p word_of s pending (disk mid) (disk new) shown later false) → EndsEarly ring_kind ring_lives head_cells keys most shares (disk old)
       (disk new) first later disk before after (failed.Fault refused)
   unopened {T} {L} shares fits o tape_old tape_new present drawn first shown later refused after head_shown whole only further kind cause does refusal stood writes leaves acts =
       let so = ring_refuses T disk keys most p old mid new tape_old tape_new present drawn shown later refused some read kind does refusal stood writes in

@@ -20,12 +20,11 @@ use Rattle.ob_vault.specs.Keeping.{AreStandingLaws}
 use Rattle.ob_vault.specs.KindLives.{LifeWords}
 use Rattle.ob_vault.specs.Kinds.{StoreKind, Stands, AllStand, StandsAsBefore, IsOpenedAt}
 use Rattle.ob_store.proofs.Showing.{shows_then}
-use Rattle.ob_store.specs.declared.watch.Note.TheVariants as note
 use Rattle.ob_serial.specs.Serial.{EpochRecord}
 use Rattle.ob_script.specs.Script.{Scripts}
 use Rattle.ob_top.specs.Outside.{Given, Outside, outside}
-use Rattle.ob_top.specs.Runs.{AreSharesRefused, EndsEarly, IsInputRefused, beginning_notes, IsReadAndOpened, LivesUnserved, ServedOver, Ran, Went, RunOn, ShownBehindHead}
-use Rattle.ob_top.specs.Parts.{Manner, IsOpened, SharesFit, begin_phases}
+use Rattle.ob_top.specs.Runs.{AreSharesRefused, EndsEarly, IsInputRefused, beginning_notes, head_notes, IsReadAndOpened, LivesUnserved, ServedOver, Ran, Went, RunOn, ShownBehindHead}
+use Rattle.ob_top.specs.Parts.{Manner, IsOpened, SharesFit, begin_phases, reading}
 use Rattle.ob_top.specs.Staged.{OpensInStages}
 use Rattle.ob_top.proofs.Lines.{Stand, stand_all, stand_unless}
 use Rattle.ob_top.proofs.Living.{whole_clear}
@@ -41,31 +40,58 @@ pub not_sink : (p : Params) (shares : Shares) (before after : Flow) → IsInputR
 not_sink p shares before after (inl never) = never
 not_sink p shares before after (inr (field, is, script, came, never)) = cc is
 
+-- what was served is so whatever was read as the head
+pub served_reading : (head : List ℕ) (store : StoreKind) (life : LifeWords store) {S : Type 0} (disk : S → Disk) (by : Manner) (keys : Keys) (p : Params) (found : store.Found) (sealing : Sealing) (script : Scripts) (tape : Given) (old new : S) (before after : Flow) (t u : Trace) (err : Option RunErr)
+    → ServedOver store life disk by keys p found sealing script tape old new before after t u err → ServedOver store life disk (reading head by) keys p found sealing script tape old new before after t u err
+served_reading head store life disk by keys p found sealing script tape old new before after t u err s =
+    let i = s.is_served in
+    record {
+      records = s.records;
+      is_served = record { served = i.served; all = i.all; ends = i.ends; opens = i.opens; one_by_one = i.one_by_one };
+      world = s.world;
+      whole = s.whole;
+      lines = s.lines;
+      events = s.events;
+      traced = s.traced;
+      in_generation = s.in_generation;
+      shown = s.shown;
+      watched = s.watched;
+      cause = s.cause;
+      seen = s.seen;
+      goes = s.goes;
+      tells = s.tells;
+      left = s.left;
+      seals_on = s.seals_on;
+      clear = s.clear;
+      goes_on = s.goes_on;
+      staged = s.staged;
+    }
+
 module _ (store : StoreKind) (quiet : IsQuiet store) (life : LifeWords store) where
   -- an early end isn't the output's
-  early_other : {S : Type 0} (disk : S → Disk) (keys : Keys) (most : ℕ) (shares : Shares) (old new : Disk) (t u : Trace) (before after : Flow) → EndsEarly store life keys most shares old new t u disk before after (failed.Fault SinkFault) → ⊥
-  early_other disk keys most shares old new t u before after (inl head) = quiet.head head.kind
-  early_other disk keys most shares old new t u before after (inr (inl input)) = not_sink input.p shares before after input.refused
-  early_other disk keys most shares old new t u before after (inr (inr opening)) = quiet.opening opening.kind
+  early_other : (head_is : List ℕ) {S : Type 0} (disk : S → Disk) (keys : Keys) (most : ℕ) (shares : Shares) (old new : Disk) (t u : Trace) (before after : Flow) → EndsEarly store life head_is keys most shares old new t u disk before after (failed.Fault SinkFault) → ⊥
+  early_other head_is disk keys most shares old new t u before after (inl head) = quiet.head head.kind
+  early_other head_is disk keys most shares old new t u before after (inr (inl input)) = not_sink input.p shares before after input.refused
+  early_other head_is disk keys most shares old new t u before after (inr (inr opening)) = quiet.opening opening.kind
 
   -- so it has printed nothing, which is the report of no records
-  early_stand : {S : Type 0} (disk : S → Disk) (keys : Keys) (most : ℕ) (shares : Shares) (old new : Disk) (t u : Trace) (before after output : Flow) (err : RunErr) → EndsEarly store life keys most shares old new t u disk before after err → Stand [] output output (Some err)
-  early_stand disk keys most shares old new t u before after output (failed.Fault refused) early =
-      stand_unless [] output output refused (λ is. early_other disk keys most shares old new t u before after (subst (λ (f : Fault). EndsEarly store life keys most shares old new t u disk before after (failed.Fault f)) is early)) (record { bytes = appended-none output.bytes; later = omega arith })
-  early_stand disk keys most shares old new t u before after output failed.Unwatched early = stand_all [] output output (record { bytes = appended-none output.bytes; later = omega arith })
+  early_stand : (head_is : List ℕ) {S : Type 0} (disk : S → Disk) (keys : Keys) (most : ℕ) (shares : Shares) (old new : Disk) (t u : Trace) (before after output : Flow) (err : RunErr) → EndsEarly store life head_is keys most shares old new t u disk before after err → Stand [] output output (Some err)
+  early_stand head_is disk keys most shares old new t u before after output (failed.Fault refused) early =
+      stand_unless [] output output refused (λ is. early_other head_is disk keys most shares old new t u before after (subst (λ (f : Fault). EndsEarly store life head_is keys most shares old new t u disk before after (failed.Fault f)) is early)) (record { bytes = appended-none output.bytes; later = omega arith })
+  early_stand head_is disk keys most shares old new t u before after output failed.Unwatched early = stand_all [] output output (record { bytes = appended-none output.bytes; later = omega arith })
 
   pub ended_early : (laws : AreStandingLaws store) {S : Type 0} (disk : S → Disk)
       (counts_now : (x : S) (t : Clock) (c : Image) → NotAfter t (disk x).moment → (disk x).may_leave c → (disk x).left_since t c) (by : Manner) (tape : Given) (keys : Keys) (old new : S) (t u : Trace) (before after output : Flow) (err : RunErr)
-      → EndsEarly store life keys by.lanes by.shares (disk old) (disk new) t u disk before after err → ((disk new).tells → LivesUnserved disk keys old new)
+      → EndsEarly store life by.head keys by.lanes by.shares (disk old) (disk new) t u disk before after err → ((disk new).tells → LivesUnserved disk keys old new)
       → RunOn store life disk by tape keys old new
       (outside before output) (outside after output) t u (Some err)
   ended_early laws disk counts_now by tape keys old new t u before after output err early lives = record {
     records = [];
-    whole = (early_stand disk keys by.lanes by.shares (disk old) (disk new) t u before after output err early).0;
-    lines = (early_stand disk keys by.lanes by.shares (disk old) (disk new) t u before after output err early).1;
+    whole = (early_stand by.head disk keys by.lanes by.shares (disk old) (disk new) t u before after output err early).0;
+    lines = (early_stand by.head disk keys by.lanes by.shares (disk old) (disk new) t u before after output err early).1;
     went = inl (refl, early, λ tells. (lives tells).0);
     clear = λ tells. (lives tells).1;
-    sound = early_sound store laws life disk counts_now keys old new by.lanes by.shares t u before after err early;
+    sound = early_sound store laws life disk counts_now keys old new by.head by.lanes by.shares t u before after err early;
   }
 
   pub went_of : {S : Type 0} (disk : S → Disk) (by : Manner) (tape : Given) (keys : Keys) (old new : S) (before after : Outside) (t u : Trace) (records : List (EpochRecord ℕ)) (err : Option RunErr) → Ran store life disk by tape keys old new before after t u records err → Went store life
@@ -77,18 +103,18 @@ module _ (store : StoreKind) (quiet : IsQuiet store) (life : LifeWords store) wh
   pub ran : (laws : AreStandingLaws store) {S : Type 0} (disk : S → Disk)
       (counts_now : (x : S) (t : Clock) (c : Image) → NotAfter t (disk x).moment → (disk x).may_leave c → (disk x).left_since t c) (by : Manner) (tape : Given) (keys : Keys) (old between new : S) (input input_new output output_new : Flow) (p : Params)
       (script : Scripts) (found : store.Found) (start : store.Start) (sealing : Sealing) (t midway u : Trace) (err : Option RunErr)
-      → ShownBehindHead (store.open_notes p found start) t midway → midway.broken ≡ false
+      → ShownBehindHead by.head (store.open_notes p found start) t midway → midway.broken ≡ false
       → (disk old).faults ≤ (disk between).faults
-      → IsOpened store keys (disk old) input p script found start → SharesFit p script by.shares → ArePhasesMade by.lanes (begin_phases store p found start) (disk old).seen (disk between).seen
+      → IsOpened store keys (disk old) input p script found start → SharesFit p script by.shares → ArePhasesMade by.lanes (begin_phases store by.head p found start) (disk old).seen (disk between).seen
       → ((disk old).tells → (disk between).tells × IsSynced (disk between))
       → ((at : Standing) → (disk old).tells → Stands store keys p (disk old).cells at → IsOpenedAt store keys p at found (disk between))
       → ((at : Standing) → (disk old).tells → Stands store keys p (disk old).cells at → AllStand store keys p (disk old) → LeavesOnly (disk old) (disk between) (StandsAsBefore store keys p (disk old)))
-      → OpensInStages store life disk keys p old between
+      → OpensInStages by.head store life disk keys p old between
       → IsReadAndOpened disk keys old between sealing → ((disk old).tells → life.begins keys p (disk old).cells found)
       → ServedOver store life disk by keys p found sealing script tape between new output output_new midway u err
       → RunOn store life disk by tape keys old new (outside input output) (outside input_new output_new) t u err
   ran laws disk counts_now by tape keys old between new input input_new output output_new p script found start sealing t midway u err shown whole later opened fits seen durable stood before opens begun found_so s =
-      let begins : Shows (beginning_notes store p found start) t midway = shows_then (note.Read 0 ∷ []) (store.open_notes p found start) t shown.between midway shown.head shown.behind in
+      let begins : Shows (beginning_notes store by.head p found start) t midway = shows_then (head_notes by.head) (store.open_notes p found start) t shown.between midway shown.head shown.behind in
       let its : Ran store life disk by tape keys old new (outside input output) (outside input_new output_new) t u s.records err = record {
         p = p;
         script = script;

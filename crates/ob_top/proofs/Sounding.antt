@@ -99,12 +99,12 @@ module _ (store : StoreKind) where
         let left = leaves at tells stands is.images in
         subst (λ (q : Params). IsSound store keys q (disk new)) (sym same) (left_sound keys q (disk old) (disk new) (λ c may. counts_now new (disk old).moment c left.later may) left)
 
-    pub early_sound : (most : ℕ) (shares : Shares) (t u : Trace) (before after : Flow) (err : RunErr) → EndsEarly store life keys most shares (disk old) (disk new) t u disk before after err → StandsOn store disk keys old new
-    early_sound most shares t u before after (failed.Fault refused) (inl head) p tells sound = read_sound keys p (disk old) (disk new) head.passes sound
-    early_sound most shares t u before after (failed.Fault refused) (inr (inl input)) p tells sound = read_sound keys p (disk old) (disk new) input.passes sound
-    early_sound most shares t u before after (failed.Fault refused) (inr (inr opening)) p tells sound = opened_sound opening.p opening.head opening.left p tells sound
-    early_sound most shares t u before after failed.Unwatched (inl head) p tells sound = read_sound keys p (disk old) (disk new) head.passes sound
-    early_sound most shares t u before after failed.Unwatched (inr opening) p tells sound = opened_sound opening.p opening.opened.head opening.left p tells sound
+    pub early_sound : (head_is : List ℕ) (most : ℕ) (shares : Shares) (t u : Trace) (before after : Flow) (err : RunErr) → EndsEarly store life head_is keys most shares (disk old) (disk new) t u disk before after err → StandsOn store disk keys old new
+    early_sound head_is most shares t u before after (failed.Fault refused) (inl head) p tells sound = read_sound keys p (disk old) (disk new) head.passes sound
+    early_sound head_is most shares t u before after (failed.Fault refused) (inr (inl input)) p tells sound = read_sound keys p (disk old) (disk new) input.passes sound
+    early_sound head_is most shares t u before after (failed.Fault refused) (inr (inr opening)) p tells sound = opened_sound opening.p opening.head opening.left p tells sound
+    early_sound head_is most shares t u before after failed.Unwatched (inl head) p tells sound = read_sound keys p (disk old) (disk new) head.passes sound
+    early_sound head_is most shares t u before after failed.Unwatched (inr opening) p tells sound = opened_sound opening.p opening.opened.head opening.left p tells sound
 
     pub ran_sound : (by : Manner) (tape : Given) (before after : Outside) (t u : Trace) (records : List (EpochRecord ℕ)) (err : Option RunErr) → Ran store life disk by tape keys old new before after t u records err → StandsOn store disk keys old new
     ran_sound by tape before after t u records err r p tells sound =

@@ -17,11 +17,12 @@ use Rattle.ob_vault.specs.RingKind.{ring_kind}
 use Rattle.ob_vault.specs.RingLaws.{ReadsHead}
 use Rattle.ob_vault.specs.RingLives.{ring_lives}
 use Rattle.ob_vault.specs.Shapes.{Shape}
+use Rattle.ob_top.specs.Parts.{head_cells}
 use Rattle.ob_top.specs.Staged.{CallsStaged, OpensInStages}
 
 -- a ring store was opened
 pub opens_in_stages : {S L : Type 0} (disk : S → Disk) (counts_now : (x : S) (t : Clock) (c : Image) → NotAfter t (disk x).moment → (disk x).may_leave c → (disk x).left_since t c) (only_now : (x : S) (c : Image) → (disk x).left_since (disk x).moment c → (disk x).may_leave c)
-    (keys : Keys) (most : ℕ) (p : Params) (old mid new : S) → ReadsHead (disk old) (disk mid) → (shown later : Trace) (o : Opening L) → IsRingOpened disk keys most p mid new shown later o → OpensFrom disk keys p mid new → OpensInStages ring_kind ring_lives disk keys p old new
+    (keys : Keys) (most : ℕ) (p : Params) (old mid new : S) → ReadsHead (disk old) (disk mid) → (shown later : Trace) (o : Opening L) → IsRingOpened disk keys most p mid new shown later o → OpensFrom disk keys p mid new → OpensInStages head_cells ring_kind ring_lives disk keys p old new
 opens_in_stages disk counts_now only_now keys most p old mid new head shown later o is leaves = record {
   standing = ring_opens_standing disk keys p old mid new head leaves;
   stages = ring_opens_staged disk counts_now only_now keys p old mid new head (record { found = is.found; found_in = λ tells. (is.told tells).found_in; begins = is.begins });

@@ -14,6 +14,7 @@ use Rattle.ob_seal.specs.declared.keys.Keys.{Keys}
 use Rattle.ob_serial.specs.Vaults.{Standing}
 use Rattle.ob_shares.specs.declared.shares.Shares.{Shares}
 use Rattle.ob_conduct.specs.declared.run_err.RunErr.{RunErr}
+use Rattle.ob_conduct.specs.declared.run_err.RunErr.TheVariants as failed
 use Rattle.ob_store.specs.Calls.{GoesOn, Keeps, Notes}
 use Rattle.ob_store.specs.Disk.{Disk}
 use Rattle.ob_store.specs.Images.{IsSynced, LeavesOnly, Passes, Same}
@@ -24,9 +25,9 @@ use Rattle.ob_twin.specs.declared.gates.Gates.{Gates}
 use Rattle.ob_opening.specs.declared.opening.Opening.{Opening}
 use Rattle.ob_store.specs.Lines.{Shows, Trace}
 use Rattle.ob_vault.specs.RingLives.{ring_lives}
-use Rattle.ob_top.specs.Runs.{EndsEarly, IsReadAndOpened, LivesUnserved, ShownBehindHead}
+use Rattle.ob_top.specs.Runs.{BreaksAtHead, EndsEarly, IsReadAndOpened, LivesUnserved, ShownBehindHead, StopsAtHead}
 use Rattle.ob_top.specs.Staged.{OpensInStages}
-use Rattle.ob_top.specs.Parts.{IsOpened, begin_phases}
+use Rattle.ob_top.specs.Parts.{IsOpened, begin_phases, head_cells}
 
 -- as many lanes as a run may have
 abbrev pub AreFewLanes : ℕ → Type 0
@@ -34,11 +35,11 @@ AreFewLanes most = (1 ≤ most) × (most ≤ 16)
 
 -- This was found; the head's read and the opening were seen, by so many lanes, and shown to the watch, which was whole between them; and where
 -- the store stood it stands on.
-pub record IsBegun (keys : Keys) (most : ℕ) (p : Params) (script : Scripts) (old new : Disk) (t u : Trace) (before : Flow) (f : RingFound) : Type 0 where
+pub record IsBegun (head_is : List ℕ) (keys : Keys) (most : ℕ) (p : Params) (script : Scripts) (old new : Disk) (t u : Trace) (before : Flow) (f : RingFound) : Type 0 where
   pub start : Gates
   pub opened : IsOpened ring_kind keys old before p script f start
-  pub seen : ArePhasesMade most (begin_phases ring_kind p f start) old.seen new.seen
-  pub shown : ShownBehindHead (ring_kind.open_notes p f start) t u
+  pub seen : ArePhasesMade most (begin_phases ring_kind head_is p f start) old.seen new.seen
+  pub shown : ShownBehindHead head_is (ring_kind.open_notes p f start) t u
   pub stood : (at : Standing) → old.tells → Stands ring_kind keys p old.cells at → IsOpenedAt ring_kind keys p at f new
 
 -- The run of an opening goes on from this, with a planner that has shown its batches.
@@ -59,18 +60,27 @@ pub record HasReadHead (keys : Keys) (p : Params) (old new : Disk) (t u : Trace)
   pub shown : Shows (note.Read 0 ∷ []) t u
   pub whole : u.broken ≡ false
 
+-- Nothing was run: the head was refused, or the watch broke at its read, and that is all that was done.
+abbrev pub EndsAtHead : Keys → (most : ℕ) → Shares → Disk → Disk → Trace → Trace → Flow → Flow → RunErr → Type 0
+EndsAtHead keys most shares old new t u before after (failed.Fault fault) = StopsAtHead ring_kind ring_lives head_cells keys most shares old new t u before after fault
+EndsAtHead keys most shares old new t u before after failed.Unwatched = BreaksAtHead ring_kind ring_lives head_cells keys most shares old new t u before after
+
+-- What is told from the read of the head on, whatever the store and the watch were before that; and what is told behind it.
+abbrev pub FromHeadAndBehind : {S : Type 0} → (S → Disk) → Keys → Params → S → Trace → (List ℕ → S → Trace → Type 0) → Type 0
+FromHeadAndBehind {S} disk keys p old t Told = ((first : S) (before : Trace) → HasReadHead keys p (disk first) (disk old) before t → Told head_cells first before) × Told [] old t
+
 -- Of a store whose head was read first, all that was found is begun with: from there on it was opened in stages, with this sealer, and what it
 -- stood for it stands for, whatever crashes.
-pub record BegunBehindHead {S : Type 0} (disk : S → Disk) (keys : Keys) (most : ℕ) (p : Params) (script : Scripts) (sealing : Sealing) (old new : S) (t u : Trace) (before : Flow) (f : RingFound) : Type 0 where
-  pub is_begun : IsBegun keys most p script (disk old) (disk new) t u before f
+pub record BegunBehindHead {S : Type 0} (disk : S → Disk) (head_is : List ℕ) (keys : Keys) (most : ℕ) (p : Params) (script : Scripts) (sealing : Sealing) (old new : S) (t u : Trace) (before : Flow) (f : RingFound) : Type 0 where
+  pub is_begun : IsBegun head_is keys most p script (disk old) (disk new) t u before f
   pub durable : (disk old).tells → (disk new).tells × IsSynced (disk new)
   pub left : (at : Standing) → (disk old).tells → Stands ring_kind keys p (disk old).cells at → AllStand ring_kind keys p (disk old) → LeavesOnly (disk old) (disk new) (StandsAsBefore ring_kind keys p (disk old))
-  pub since : OpensInStages ring_kind ring_lives disk keys p old new
+  pub since : OpensInStages head_is ring_kind ring_lives disk keys p old new
   pub opens : IsReadAndOpened disk keys old new sealing
 
 -- Nothing is begun with, for this cause, and no vault's call is in the store's life.
-pub record NotBegun {S : Type 0} (disk : S → Disk) (keys : Keys) (most : ℕ) (shares : Shares) (old new : S) (t u : Trace) (before after : Flow) (err : RunErr) : Type 0 where
-  pub early : EndsEarly ring_kind ring_lives keys most shares (disk old) (disk new) t u disk before after err
+pub record NotBegun {S : Type 0} (disk : S → Disk) (head_is : List ℕ) (keys : Keys) (most : ℕ) (shares : Shares) (old new : S) (t u : Trace) (before after : Flow) (err : RunErr) : Type 0 where
+  pub early : EndsEarly ring_kind ring_lives head_is keys most shares (disk old) (disk new) t u disk before after err
   pub lives : (disk new).tells → LivesUnserved disk keys old new
 
 -- A vault with so many lanes may be made of the opening, over the store and the tape as they are.

@@ -89,7 +89,7 @@ module _ {S : Type 0} (disk : S → Disk) (keys : Keys) (p : Params) (at : Stand
     -- so in the end every epoch whose lines stand in the output: each image, and what reads give, where they are told.
     pub kept : (c : Image) → IsImageOf (disk call.new) c → StandsIn (StandsNow keys p run.found) (IsLeftNow (opened_with p (ring_kind.left p run.found) at) run.records run.next (IsToldInDoubt (suc at.epoch + length run.records) run.err)) c
     -- What the store sees is the public schedule: an opening's, and (trace) that of batches and ends as they followed, filled by what these draw.
-    pub seen : ArePhasesMade call.by.lanes (begin_phases ring_kind p run.found run.start) (disk call.old).seen (disk run.opened).seen × Notes run.events (disk run.opened).seen (disk call.new).seen
+    pub seen : ArePhasesMade call.by.lanes (begin_phases ring_kind call.by.head p run.found run.start) (disk call.old).seen (disk run.opened).seen × Notes run.events (disk run.opened).seen (disk call.new).seen
     -- That is what the life shows there, by words of the generation begun: in the opening, which repeats; in each call; and in one refused.
     pub filled : (call.tape.generation ≡ ring_kind.generation run.found) × IsOpenedInLife p past.word_of run.found (life_of p past) × AreShownBy p past.word_of (opened_life p past) (answered (calls served.evidence.acts)) trace.steps run.shown
         × IsCutOff call.by.lanes p past.word_of (run_life p past run.shown) (end_point (length run.records) trace) run.cut run.flying

@@ -33,9 +33,13 @@ use Rattle.ob_conduct.specs.Records.{IsOver, contents}
 use Rattle.ob_conduct.specs.Left.{IsThisOrNext, next_at}
 use Rattle.ob_outcomes.specs.Served.{ClientsServed}
 
--- The phases of the opening: the head's read, and the order that the kind of store gives.
-abbrev pub begin_phases : (store : StoreKind) → Params → store.Found → store.Start → List Phase
-begin_phases store p found start = Reads (0 ∷ []) ∷ store.opens p found start
+-- The phases of the opening: the read of the head, which is of these cells, and the order that the kind of store gives.
+abbrev pub begin_phases : (store : StoreKind) → (head : List ℕ) → Params → store.Found → store.Start → List Phase
+begin_phases store head p found start = map (λ cell. Reads (cell ∷ [])) head ++ store.opens p found start
+
+-- the cell of the head
+abbrev pub head_cells : List ℕ
+head_cells = 0 ∷ []
 
 -- What is seen of serving: the phases of the vault's calls, one behind the other, each one's reads dealt to so many lanes at most, and of a
 -- call that was refused what its fault allows. The phases depend on the parameters, on what is public of the vault, on how the calls follow
@@ -92,16 +96,21 @@ abbrev pub EndsWith : Option RunErr → List Act → DeskState → Type 0
 EndsWith None acts desk = IsOver desk
 EndsWith (Some err) acts desk = ((err ≡ failed.Fault Memory) × (acts ≡ [])) ⊎ ((front : List Act) × (act : Act) × (behind : List Act) × (acts ≡ front ++ act ∷ behind) × All IsSaid behind × (fault_told act ≡ Some err) × IsStoppedFor desk.stop (fault_of err) act front)
 
--- How a run goes: at which looks its driver may act, whether its clients have threads of their own, how many lanes may share a phase's
--- reads, and which shares each client has.
+-- How a run goes: which cells it reads as the head, none where that was read before; at which looks its driver may act, whether its clients have
+-- threads of their own, how many lanes may share a phase's reads, and which shares each client has.
 pub record Manner : Type 0 where
+  pub head : List ℕ
   pub beat : BeatKind
   pub threads : Bool
   pub lanes : ℕ
   pub shares : Shares
 
 abbrev pub manner : BeatKind → Bool → ℕ → Shares → Manner
-manner beat threads lanes shares = record { beat = beat; threads = threads; lanes = lanes; shares = shares }
+manner beat threads lanes shares = record { head = head_cells; beat = beat; threads = threads; lanes = lanes; shares = shares }
+
+-- the same, where these cells are read as the head
+abbrev pub reading : List ℕ → Manner → Manner
+reading head by = record { head = head; beat = by.beat; threads = by.threads; lanes = by.lanes; shares = by.shares }
 
 -- What stands in the clear behind a run: each cell of the head and of the registers is as it was, or has what a register writes there, byte
 -- by byte. Where something cut the run off: but for one whose write the store refused, which was the last call; so where the store doesn't tell

@@ -47,17 +47,25 @@ use Rattle.ob_top.specs.Endings.{IsNextBy, LinesStand, told_fault}
 use Rattle.ob_top.specs.Listed.{AreListed}
 use Rattle.ob_top.specs.Outside.{Outside, ErrTold, Given, outside}
 use Rattle.ob_top.specs.Sound.{StandsOn}
-use Rattle.ob_top.specs.Staged.{CallsStaged}
-use Rattle.ob_top.specs.Parts.{begin_phases, IsTraced, CameIn, IsShareRefused, SharesFit, IsInClearBehind, IsOpened, EndsWith, Manner, IsNextEpoch, StagedFrom}
+use Rattle.ob_opening.specs.OpeningRuns.{RefusedDoes}
+use Rattle.ob_top.specs.Staged.{CallsStaged, OpensStaged}
+use Rattle.ob_top.specs.Parts.{begin_phases, head_cells, IsTraced, CameIn, IsShareRefused, SharesFit, IsInClearBehind, IsOpened, EndsWith, Manner, IsNextEpoch, StagedFrom}
+
+-- What is seen of the head's read, which is of these cells, and what the watch is shown of it.
+abbrev pub head_reads : List ℕ → List Event
+head_reads head = map (λ cell. event.Read cell) head
+
+abbrev pub head_notes : List ℕ → List Note
+head_notes head = map (λ cell. note.Read cell) head
 
 -- What the watch is shown of the opening: the head's read, and the notes that the kind of store gives.
-abbrev pub beginning_notes : (store : StoreKind) → Params → store.Found → store.Start → List Note
-beginning_notes store p found start = note.Read 0 ∷ store.open_notes p found start
+abbrev pub beginning_notes : (store : StoreKind) → (head : List ℕ) → Params → store.Found → store.Start → List Note
+beginning_notes store head p found start = head_notes head ++ store.open_notes p found start
 
 -- The head's read was shown, behind which the watch was whole, and then these notes were.
-pub record ShownBehindHead (notes : List Note) (before after : Trace) : Type 0 where
+pub record ShownBehindHead (head_is : List ℕ) (notes : List Note) (before after : Trace) : Type 0 where
   pub between : Trace
-  pub head : Shows (note.Read 0 ∷ []) before between
+  pub head : Shows (head_notes head_is) before between
   pub whole : between.broken ≡ false
   pub behind : Shows notes between after
 
@@ -96,10 +104,21 @@ IsInputRefused keys before after _ = ⊥
 abbrev pub AreSharesRefused : Params → Shares → Flow → Fault → Type 0
 AreSharesRefused p shares before fault = (field : Field) × (fault ≡ BadParams field) × (script : Scripts) × CameIn p.keys before script × IsShareRefused p script shares field
 
+-- What is seen of an opening that was refused, and what the watch was shown of it: with the head's read in front, as the kind of store tells; or
+-- what it did behind the head.
+abbrev pub PartlySeen : List ℕ → (store : StoreKind) → Keys → (most : ℕ) → Params → Disk → Disk → Fault → Type 0
+PartlySeen [] store keys most p old new fault = Unit {0}
+PartlySeen (cell ∷ head) store keys most p old new fault = store.opens_partly keys most p old new fault
+
+abbrev pub PartlyShown : List ℕ → (store : StoreKind) → {S : Type 0} → (S → Disk) → Keys → (most : ℕ) → Params → Disk → Disk → Trace → Trace → Fault → Type 0
+PartlyShown [] store disk keys most p old new t u fault = RefusedDoes keys most p old new t u fault
+PartlyShown (cell ∷ head) store disk keys most p old new t u fault = store.opens_shown disk keys most p old new t u fault
+
 -- what the watch told before an early end, and behind it
-module _ (store : StoreKind) (life : LifeWords store) (keys : Keys) (most : ℕ) (shares : Shares) (old new : Disk) (t u : Trace) where
+module _ (store : StoreKind) (life : LifeWords store) (head_is : List ℕ) (keys : Keys) (most : ℕ) (shares : Shares) (old new : Disk) (t u : Trace) where
   -- The head was refused: all that was done is to read it.
   pub record StopsAtHead (before after : Flow) (fault : Fault) : Type 0 where
+    pub own : head_is ≡ head_cells
     pub untouched : after ≡ before
     pub kind : store.head_fault fault
     pub read : old.tells → store.head_read keys (old.cells 0) (Err fault)
@@ -119,8 +138,8 @@ module _ (store : StoreKind) (life : LifeWords store) (keys : Keys) (most : ℕ)
     pub keeps : Keeps old new
     -- a crash leaves what it might have left before
     pub passes : Passes Same old new
-    pub seen : Notes (event.Read 0 ∷ []) old.seen new.seen
-    pub shown : Shows (note.Read 0 ∷ []) t u
+    pub seen : Notes (head_reads head_is) old.seen new.seen
+    pub shown : Shows (head_notes head_is) t u
     pub whole : u.broken ≡ false
 
   -- Opening was refused, once the script had come in.
@@ -133,10 +152,10 @@ module _ (store : StoreKind) (life : LifeWords store) (keys : Keys) (most : ℕ)
     pub kind : store.open_fault fault
     pub read : old.tells → store.refuses keys p old.cells fault
     pub cause : IsStoreFault fault → Rose old.faults new.faults
-    pub seen : store.opens_partly keys most p old new fault
-    pub shown : store.opens_shown disk keys most p old new t u fault
+    pub seen : PartlySeen head_is store keys most p old new fault
+    pub shown : PartlyShown head_is store disk keys most p old new t u fault
     -- behind the head's read the watch was whole
-    pub behind_head : (notes : List Note) × ShownBehindHead notes t u
+    pub behind_head : (notes : List Note) × ShownBehindHead head_is notes t u
     -- unless it may have begun the next generation, no cell is written, and a crash leaves what it might have left before
     pub unwritten : (store.may_begin fault → ⊥) → Keeps old new × Passes Same old new
     -- each image that a crash leaves stands as one did before; and from the first sync on for what the store stood for
@@ -147,6 +166,7 @@ module _ (store : StoreKind) (life : LifeWords store) (keys : Keys) (most : ℕ)
 
   -- The watch broke at the head's read, and nothing else was done.
   pub record BreaksAtHead (before after : Flow) : Type 0 where
+    pub own : head_is ≡ head_cells
     pub untouched : after ≡ before
     pub p : Params
     pub head : old.tells → store.is_head keys p (old.cells 0)
@@ -165,8 +185,8 @@ module _ (store : StoreKind) (life : LifeWords store) (keys : Keys) (most : ℕ)
     pub start : store.Start
     pub opened : IsOpened store keys old before p script found start
     pub fits : SharesFit p script shares
-    pub seen : ArePhasesMade most (begin_phases store p found start) old.seen new.seen
-    pub shown : ShownBehindHead (store.open_notes p found start) t u
+    pub seen : ArePhasesMade most (begin_phases store head_is p found start) old.seen new.seen
+    pub shown : ShownBehindHead head_is (store.open_notes p found start) t u
     pub broken : u.broken ≡ true
     -- where the store stood, the opened store stands for that, whatever crashes
     pub stood : (at : Standing) → old.tells → Stands store keys p old.cells at → IsOpenedAt store keys p at found new
@@ -295,9 +315,9 @@ module _ (store : StoreKind) (life : LifeWords store) {S : Type 0} (disk : S →
     pub durable : (disk old).tells → (disk between).tells × IsSynced (disk between)
     pub faults : (disk old).faults ≤ (disk between).faults
     -- what the store saw of the opening, and what the watch is shown of it, behind which that is whole
-    pub opening_seen : ArePhasesMade by.lanes (begin_phases store p found start) (disk old).seen (disk between).seen
+    pub opening_seen : ArePhasesMade by.lanes (begin_phases store by.head p found start) (disk old).seen (disk between).seen
     pub midway : Trace
-    pub opening_shown : Shows (beginning_notes store p found start) t midway
+    pub opening_shown : Shows (beginning_notes store by.head p found start) t midway
     pub whole_midway : midway.broken ≡ false
     -- Where the store stood for an epoch, opening found that, and the opened store stands for it, whatever crashes. Where each image that a
     -- crash might have left stood too, each that a crash leaves stands as one did before, until the store is opened.
@@ -308,7 +328,7 @@ module _ (store : StoreKind) (life : LifeWords store) {S : Type 0} (disk : S →
     -- served, which goes on from there.
     pub opens_life : (disk old).tells → life.begins keys p (disk old).cells found
     -- it came in stages, as the calls behind it did
-    pub opens_staged : life.opens_staged disk keys p old between
+    pub opens_staged : OpensStaged by.head store life disk keys p old between
     pub serving : ServedOver store life disk by keys p found sealing script tape between new before.output after.output midway u err
     pub told : serving.records ≡ records
 
@@ -316,7 +336,7 @@ module _ (store : StoreKind) (life : LifeWords store) {S : Type 0} (disk : S →
   abbrev pub Went : Keys → S → S → Outside → Outside → Trace → Trace → List (EpochRecord ℕ) → Option RunErr → Type 0
   Went keys old new before after t u records None = Ran keys old new before after t u records None
   Went keys old new before after t u records (Some err) =
-      ((records ≡ []) × EndsEarly store life keys by.lanes by.shares (disk old) (disk new) t u disk before.input after.input err × ((disk new).tells → LivesOn disk keys old new [])) ⊎ Ran keys old new before after t u records (Some err)
+      ((records ≡ []) × EndsEarly store life by.head keys by.lanes by.shares (disk old) (disk new) t u disk before.input after.input err × ((disk new).tells → LivesOn disk keys old new [])) ⊎ Ran keys old new before after t u records (Some err)
 
   -- What it comes to before the fault's line is written.
   pub record RunOn (keys : Keys) (old new : S) (before after : Outside) (t u : Trace) (err : Option RunErr) : Type 0 where

@@ -3,16 +3,27 @@ use Rattle.std.specs.Prelude.{◌≡◌, true, false, List, [], ◌∷◌, ◌++
 use Rattle.ob_base.specs.declared.params.Params.{Params}
 use Rattle.ob_seal.specs.declared.keys.Keys.{Keys}
 use Rattle.ob_serial.specs.Vaults.{VaultCall}
-use Rattle.ob_store.specs.Disk.{Disk}
+use Rattle.ob_store.specs.Disk.{Disk, Image}
+use Rattle.ob_opening.specs.OpeningActs.{IsLeftAt}
+use Rattle.ob_recover.specs.Life.{LifeAct, LifeState, WordId}
+use Rattle.std.proofs.Common.{inr}
+use Rattle.ob_vault.specs.Stages.{BeginsBehind, IsOpeningStaged}
 use Rattle.ob_vault.specs.KindLives.{LifeWords}
 use Rattle.ob_vault.specs.Kinds.{StoreKind}
 use Rattle.ob_vault.specs.Openings.{OpensStanding}
 use Rattle.ob_vault.specs.Shapes.{Shape}
 
+-- A store was opened in stages, with the head's read in front, as the kind of store tells; or behind the head, in three stages, in each life that was
+-- left there, perhaps with an act in flight.
+abbrev pub OpensStaged : List ℕ → (store : StoreKind) → LifeWords store → {S : Type 0} → (S → Disk) → Keys → Params → (old new : S) → Type 0
+OpensStaged [] store life {S} disk keys p old new = (begins : BeginsBehind disk keys p old new) × ((word_of : WordId → ℕ) (s : LifeState) (pending : Option LifeAct) → (disk old).tells → IsLeftAt keys p word_of s pending (disk old).cells
+    → ((c : Image) → (disk old).may_leave c → IsLeftAt keys p word_of s pending c) → IsOpeningStaged disk keys p old new word_of s pending (inr (inr begins)))
+OpensStaged (cell ∷ head) store life disk keys p old new = life.opens_staged disk keys p old new
+
 -- A store was opened: up to the first sync it was called for reads alone, it stands on, and it was done in stages.
-pub record OpensInStages (store : StoreKind) (life : LifeWords store) {S : Type 0} (disk : S → Disk) (keys : Keys) (p : Params) (old new : S) : Type 0 where
+pub record OpensInStages (head_is : List ℕ) (store : StoreKind) (life : LifeWords store) {S : Type 0} (disk : S → Disk) (keys : Keys) (p : Params) (old new : S) : Type 0 where
   pub standing : OpensStanding store disk keys p (disk old) (disk new)
-  pub stages : life.opens_staged disk keys p old new
+  pub stages : OpensStaged head_is store life disk keys p old new
 
 -- The calls of a run over the store that was opened, each from where the one before it left the store. An answered one made all of its stages from
 -- what is public and hidden behind those before it, drew this, and the tape had then given just the words hidden behind it; and then one that was

@@ -14,7 +14,8 @@ mod traces;
 
 pub use again::stood_again;
 pub use drill::{Drilled, drill_on};
-pub use endings::finish;
+pub use endings::{finish, finish_run, still_watched};
 pub use lists::lists_hold;
+pub use run::{Means, head_on, run_behind_head};
 pub use top::obladi;
 pub use traces::traces_are_printed;

@@ -11,7 +11,7 @@ ghost use Rattle.ob_recover.specs.declared.found.Found.{Found};
 ghost use Rattle.ob_vault.specs.RingKind.{GoesOnFrom, RingFound, ring_kind};
 ghost use Rattle.ob_vault.specs.RingLives.{ring_lives};
 ghost use Rattle.ob_vault.specs.RingVaults.{HasPlanned, run_over};
-ghost use Rattle.ob_top.specs.Begun.{AreFewLanes, BegunBehindHead, HasReadHead, MayGoOn, MayServe, NotBegun};
+ghost use Rattle.ob_top.specs.Begun.{AreFewLanes, BegunBehindHead, EndsAtHead, FromHeadAndBehind, HasReadHead, MayGoOn, MayServe, NotBegun};
 ghost use Rattle.ob_desk.specs.Desk.{DeskState, MayOpen, new_desk, setup_with};
 ghost use Rattle.ob_desk.specs.Beats.{beat_kind};
 ghost use Rattle.ob_script.specs.Script.{AreSound};
@@ -21,11 +21,10 @@ ghost use Rattle.ob_runner.specs.Turns.{IsScriptTurn};
 ghost use Rattle.ob_conduct.specs.Scenes.{scene, run_state, runner_kind};
 ghost use Rattle.ob_run.specs.Threaded.{RunsBy};
 ghost use Rattle.ob_serial.specs.VaultKinds.{kind_of};
-ghost use Rattle.ob_top.specs.Runs.{IsInputRefused, ServedOver, RunOn};
+ghost use Rattle.ob_top.specs.Runs.{IsInputRefused, LivesUnserved, ServedOver, RunOn};
 ghost use Rattle.ob_shares.specs.declared.shares.Shares.{Shares};
 ghost use Rattle.ob_shares.specs.Shares.{AreFitting};
-ghost use Rattle.ob_store.specs.Lines.{Trace};
-ghost use Rattle.ob_top.specs.Parts.{manner, CameIn, ShareFits, SharesFit, IsShareRefused};
+ghost use Rattle.ob_top.specs.Parts.{manner, reading, CameIn, ShareFits, SharesFit, IsShareRefused};
 ghost use Rattle.ob_top.specs.Endings.{err_of};
 ghost use Rattle.ob_top.specs.Outside.{words_given, outside};
 
@@ -127,8 +126,10 @@ pub fn head_on<S: Lanes, W: Watch>(
     ensures read { IfOk result (λ params. HasReadHead keys.now params (S.disk store.old)
         (S.disk store.new) (W.trace watch.old) (W.trace watch.new)) }
     ensures refused { IfErr result (λ err. (most : ℕ) (shares : Shares) (input : Flow)
-        → NotBegun S.disk keys.now most shares store.old store.new (W.trace watch.old)
-        (W.trace watch.new) input input err) }
+        → EndsAtHead keys.now most shares (S.disk store.old) (S.disk store.new)
+        (W.trace watch.old) (W.trace watch.new) input input err) }
+    ensures lives { (S.disk store.new).tells
+        → OnErr result (LivesUnserved S.disk keys.now store.old store.new) }
 {
     let params = match head(store, keys, watch) {
         Ok(params) => params,
@@ -141,8 +142,8 @@ pub fn head_on<S: Lanes, W: Watch>(
 }
 
 // Reads the script, and then opens the store of which the head was read, for so many lanes and
-// clients with these shares. Whatever the store and the watch were before the head was read: what
-// is told of that and of this together is what is told of a run's beginning.
+// clients with these shares. What is told of a run's beginning is told from the head's read on,
+// whatever the store and the watch were before it, and behind it.
 fn open_on<R: Threads + Sync, S: Lanes, T: Tape, I: Source, W: Watch>(
     rt: &R,
     alloc: Global,
@@ -157,6 +158,9 @@ fn open_on<R: Threads + Sync, S: Lanes, T: Tape, I: Source, W: Watch>(
     requires none_out { (S.disk store.old).out ≡ 0 }
     requires unstarted { T.present tape.old ≡ 0 }
     requires lanes { AreFewLanes means.now.lanes }
+    requires whole { (W.trace watch.old).broken ≡ false }
+    requires head { (S.disk store.old).tells
+        → ring_kind.is_head keys.now params ((S.disk store.old).cells 0) }
     ensures none_out { (S.disk store.new).out ≡ 0 }
     ensures goes { GoesOn (S.disk store.old) (S.disk store.new) }
     ensures serves { IfOk result (λ begun. MayServe means.now.lanes begun.params (S.disk store.new)
@@ -167,15 +171,15 @@ fn open_on<R: Threads + Sync, S: Lanes, T: Tape, I: Source, W: Watch>(
     ensures runners { IfOk result (λ begun. AreRunners begun.scripts begun.runners.items) }
     ensures keys { IfOk result (λ begun. begun.scripts.keys ≡ begun.params.keys) }
     ensures begun { IfOk result (λ begun. (f : RingFound)
-        × MayGoOn keys.now begun.params begun.opening f × ((first : S) (before : Trace)
-        → HasReadHead keys.now params (S.disk first) (S.disk store.old) before (W.trace watch.old)
-        → BegunBehindHead S.disk keys.now means.now.lanes begun.params begun.scripts
-        begun.opening.sealer first store.new before (W.trace watch.new)
+        × MayGoOn keys.now begun.params begun.opening f
+        × FromHeadAndBehind S.disk keys.now params store.old (W.trace watch.old)
+        (λ head first before. BegunBehindHead S.disk head keys.now means.now.lanes begun.params
+        begun.scripts begun.opening.sealer first store.new before (W.trace watch.new)
         (inflow I.Source input.old) f)) }
-    ensures refused { IfErr result (λ err. (first : S) (before : Trace)
-        → HasReadHead keys.now params (S.disk first) (S.disk store.old) before (W.trace watch.old)
-        → NotBegun S.disk keys.now means.now.lanes means.now.shares first store.new before
-        (W.trace watch.new) (inflow I.Source input.old) (inflow I.Source input.new) err) }
+    ensures refused { IfErr result (λ err. FromHeadAndBehind S.disk keys.now params store.old
+        (W.trace watch.old) (λ head first before. NotBegun S.disk head keys.now means.now.lanes
+        means.now.shares first store.new before (W.trace watch.new) (inflow I.Source input.old)
+        (inflow I.Source input.new) err)) }
 {
     let scripts = match read_script(alloc, input, params.keys) {
         Ok(scripts) => scripts,
@@ -328,9 +332,8 @@ fn serve_on<R: Threads + Wait + Sync, S: Lanes, T: Tape, O: Sink, B: Beat, W: Wa
 
 /// Runs the script that comes in over a store of which the head was read, and reports each epoch
 /// once it has ended. Without `threads` its clients' calls are made by hand, and else in threads of
-/// their own. A watch, which is whole, is shown all that the store sees. Whatever the store and the
-/// watch were before the head was read: what is told of that and of this together is what is told
-/// of a run.
+/// their own. A watch, which is whole, is shown all that the store sees. What is told of a run is
+/// told from the head's read on, whatever the store and the watch were before it, and behind it.
 ///
 /// # Errors
 /// In this order: the input, the shares of what came in, the opening; then what the run met. Where
@@ -359,15 +362,18 @@ pub fn run_behind_head<
     requires none_out { (S.disk store.old).out ≡ 0 }
     requires unstarted { T.present tape.old ≡ 0 }
     requires lanes { AreFewLanes means.lanes }
+    requires whole { (W.trace watch.old).broken ≡ false }
+    requires head { (S.disk store.old).tells
+        → ring_kind.is_head keys.now params ((S.disk store.old).cells 0) }
     ensures goes { GoesOn (S.disk store.old) (S.disk store.new) }
     ensures none_out { (S.disk store.new).out ≡ 0 }
-    ensures done { (first : S) (before : Trace) → HasReadHead keys.now params (S.disk first)
-        (S.disk store.old) before (W.trace watch.old) → RunOn ring_kind ring_lives S.disk
-        (manner (beat_kind B.passes B.exact) means.threads means.lanes means.shares)
+    ensures done { FromHeadAndBehind S.disk keys.now params store.old (W.trace watch.old)
+        (λ head first before. RunOn ring_kind ring_lives S.disk (reading head
+        (manner (beat_kind B.passes B.exact) means.threads means.lanes means.shares))
         (words_given (T.present tape.new) (T.drawn tape.new)) keys.now first store.new
         (outside (inflow I.Source input.old) (outflow O.Sink output.old))
         (outside (inflow I.Source input.new) (outflow O.Sink output.new))
-        before (W.trace watch.new) (err_of result) }
+        before (W.trace watch.new) (err_of result)) }
 {
     let begun = match open_on(rt, alloc, store, tape, keys, params, input, &means, watch) {
         Ok(begun) => begun,

@@ -1,8 +1,8 @@
-use Rattle.std.proofs.Common.{Err, [], ◌∷◌, inl, refl}
+use Rattle.std.proofs.Common.{◌≡◌, Err, [], ◌∷◌, true, refl}
 use Rattle.ob_base.specs.declared.params.Params.{Params}
 use Rattle.ob_store.specs.declared.watch.Note.TheVariants.{Read}
 use Rattle.ob_top.proofs.Noted.{reads_noted}
-use Rattle.ob_top.proofs.Beginnings.{broke_early}
+use Rattle.ob_top.proofs.Beginnings.{broke_at_head}
 use Rattle.ob_top.proofs.Living.{read_lives}
 use Rattle.ob_top.proofs.run.head_on.Goals as goal
 
@@ -18,18 +18,19 @@ pub returns-in-Err-clause-refused : goal.returns-in-Err-clause-refused
 returns-in-Err-clause-refused g c = λ most shares input.
     let e = c.in-Err.ensures in
     record {
-      early = inl (record {
-        untouched = refl;
-        kind = e.faults;
-        read = e.value;
-        cause = e.serves.cause;
-        keeps = e.keeps;
-        passes = e.passes;
-        seen = reads_noted {V = Params} (Read 0 ∷ []) _ _ _ _ (Err c.in-Err.fault) e.does;
-        shown = e.does;
-      });
-      lives = read_lives (λ s. g.S.Store.disk s) g.met.S.Store.only_now c.args.keys.now c.args.store.now c.head.new.store e.serves.goes e.keeps e.passes;
+      own = refl;
+      untouched = refl;
+      kind = e.faults;
+      read = e.value;
+      cause = e.serves.cause;
+      keeps = e.keeps;
+      passes = e.passes;
+      seen = reads_noted {V = Params} (Read 0 ∷ []) _ _ _ _ (Err c.in-Err.fault) e.does;
+      shown = e.does;
     }
+
+pub returns-in-Err-clause-lives : goal.returns-in-Err-clause-lives
+returns-in-Err-clause-lives g c = read_lives (λ s. g.S.Store.disk s) g.met.S.Store.only_now c.args.keys.now c.args.store.now c.head.new.store c.in-Err.ensures.serves.goes c.in-Err.ensures.keeps c.in-Err.ensures.passes
 
 -- ---- the watch broke
 
@@ -42,19 +43,20 @@ returns-in-Err-still_watched-clause-goes g c = c.in-Ok.ensures.serves.goes
 pub returns-in-Err-still_watched-clause-refused : goal.returns-in-Err-still_watched-clause-refused
 returns-in-Err-still_watched-clause-refused g c = λ most shares input.
     let e = c.in-Ok.ensures in
-    record {
-      early = broke_early (λ s. g.S.Store.disk s) _ most shares _ _ _ _ _ _ c.in-Err-still_watched.err c.in-Err-still_watched.ensures (λ broken. inl (record {
-        untouched = refl;
-        p = c.in-Ok.params;
-        head = e.value;
-        keeps = e.keeps;
-        passes = e.passes;
-        seen = e.does.seen;
-        shown = e.does.shows;
-        broken = broken;
-      }));
-      lives = read_lives (λ s. g.S.Store.disk s) g.met.S.Store.only_now c.args.keys.now c.args.store.now c.head.new.store e.serves.goes e.keeps e.passes;
-    }
+    broke_at_head _ most shares _ _ _ _ input input c.in-Err-still_watched.err c.in-Err-still_watched.ensures (λ broken. record {
+      own = refl;
+      untouched = refl;
+      p = c.in-Ok.params;
+      head = e.value;
+      keeps = e.keeps;
+      passes = e.passes;
+      seen = e.does.seen;
+      shown = e.does.shows;
+      broken = broken;
+    })
+
+pub returns-in-Err-still_watched-clause-lives : goal.returns-in-Err-still_watched-clause-lives
+returns-in-Err-still_watched-clause-lives g c = read_lives (λ s. g.S.Store.disk s) g.met.S.Store.only_now c.args.keys.now c.args.store.now c.head.new.store c.in-Ok.ensures.serves.goes c.in-Ok.ensures.keeps c.in-Ok.ensures.passes
 
 -- ---- it was read
 

@@ -3,7 +3,8 @@ use Rattle.ob_store.proofs.Serving.{goes_then}
 use Rattle.ob_vault.specs.RingKind.{ring_kind}
 use Rattle.ob_vault.proofs.Standing.{ring_keeps}
 use Rattle.ob_vault.specs.RingLives.{ring_lives}
-use Rattle.ob_top.proofs.Beginnings.{ring_quiet}
+use Rattle.ob_top.proofs.Beginnings.{early_at_head, ring_quiet}
+use Rattle.ob_top.proofs.Behind.{head_still}
 use Rattle.ob_top.proofs.Running.{ended_early}
 use Rattle.ob_top.proofs.run.run_on.Goals as goal
 
@@ -17,8 +18,8 @@ returns-in-Err-clause-none_out g c = omega (arith, c.in-Err.ensures.out, c.requi
 
 pub returns-in-Err-clause-done : goal.returns-in-Err-clause-done
 returns-in-Err-clause-done g c =
-    let not = c.in-Err.ensures.refused c.args.means.lanes c.args.means.shares _ in
-    ended_early ring_kind ring_quiet ring_lives ring_keeps (λ s. g.S.Store.disk s) (λ x t image at left. g.met.S.Store.counts_now x t image at left) _ _ c.args.keys.now _ _ _ _ _ _ _ c.in-Err.err not.early not.lives
+    ended_early ring_kind ring_quiet ring_lives ring_keeps (λ s. g.S.Store.disk s) (λ x t image at left. g.met.S.Store.counts_now x t image at left) _ _ c.args.keys.now _ _ _ _ _ _ _ c.in-Err.err
+    (early_at_head (λ s. g.S.Store.disk s) c.args.keys.now c.args.means.lanes c.args.means.shares _ _ _ _ _ _ c.in-Err.err (c.in-Err.ensures.refused c.args.means.lanes c.args.means.shares _)) c.in-Err.ensures.lives
 
 -- ---- the rest of the run
 
@@ -31,6 +32,12 @@ run_behind_head-requires-clause-unstarted g c κs within = c.requires.unstarted
 pub run_behind_head-requires-clause-lanes : goal.run_behind_head-requires-clause-lanes
 run_behind_head-requires-clause-lanes g c κs within = c.requires.lanes
 
+pub run_behind_head-requires-clause-whole : goal.run_behind_head-requires-clause-whole
+run_behind_head-requires-clause-whole g c κs within = c.in-Ok.ensures.read.whole
+
+pub run_behind_head-requires-clause-head : goal.run_behind_head-requires-clause-head
+run_behind_head-requires-clause-head g c κs within = λ tells. head_still c.args.keys.now c.in-Ok.params (g.S.Store.disk c.args.store.now) (g.S.Store.disk c.head_on.new.store) _ _ c.in-Ok.ensures.read tells
+
 pub returns-clause-goes : goal.returns-clause-goes
 returns-clause-goes g c = goes_then _ _ _ c.in-Ok.ensures.goes c.run_behind_head.ensures.goes
 
@@ -38,4 +45,4 @@ pub returns-clause-none_out : goal.returns-clause-none_out
 returns-clause-none_out g c = c.run_behind_head.ensures.none_out
 
 pub returns-clause-done : goal.returns-clause-done
-returns-clause-done g c = c.run_behind_head.ensures.done c.args.store.now _ c.in-Ok.ensures.read
+returns-clause-done g c = c.run_behind_head.ensures.done.0 c.args.store.now _ c.in-Ok.ensures.read
