@@ -164,8 +164,8 @@ pub fn noted_runs_are_admitted<S: Store>()
     ensures { NotedRunsAreAdmitted (λ store. S.disk store) }
 {}
 
-/// So rows of runs over a formatted store are admitted, where each run left what its notes tell and the
-/// gates as its calls say: no premise on gates is left.
+/// So rows of runs over a formatted store, whose gates are a format's, are admitted, where each run left
+/// what its notes tell, and the gates as its calls say.
 pub fn gated_runs_are_admitted<S: Store>()
     ensures { GatedRunsAreAdmitted (λ store. S.disk store) }
 {}

@@ -6,3 +6,4 @@ pub mod Beginnings
 pub mod InClear
 pub mod Shutting
 pub mod Clearing
+pub mod Stops

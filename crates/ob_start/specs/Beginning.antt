@@ -1,15 +1,19 @@
 -- What the begin of a generation tells and leaves.
-use Rattle.std.specs.Prelude.{◌≡◌, ◌<◌, ◌⊎◌, ◌^◌, ℕ, suc, List, [], ◌∷◌, ◌++◌, map, None, Result, Ok, Err}
+use Rattle.std.specs.Prelude.{◌≡◌, ◌<◌, ◌⊎◌, ◌^◌, ℕ, suc, Bool, IsTrue, List, [], ◌∷◌, ◌++◌, map, None, Result, Ok, Err}
 use Rattle.ob_base.specs.declared.fault.Fault.{Fault}
 use Rattle.ob_base.specs.declared.fault.Fault.TheVariants as fault
-use Rattle.ob_store.specs.Disk.{Disk}
-use Rattle.ob_store.specs.Images.{Same, IsSynced, Passes, LeavesOnly}
+use Rattle.ob_store.specs.Disk.{Disk, Image}
+use Rattle.ob_store.specs.Images.{IsImageOf, Same, IsSynced, Passes, LeavesOnly}
+use Rattle.ob_store.specs.Lines.{Trace}
 use Rattle.ob_store.specs.Calls.{Keeps, Notes}
 use Rattle.ob_store.specs.declared.event.Event.TheVariants as event
 use Rattle.ob_seal.specs.declared.keys.Keys.{Keys}
 use Rattle.ob_twin.specs.Keyed.{tagging}
-use Rattle.ob_twin.specs.Register.{StandsAt, OldOrNew}
-use Rattle.ob_twin.specs.Opening.{gates_set}
+use Rattle.ob_twin.specs.Register.{IsOpen, StandsAt, OldOrNew, place_of}
+use Rattle.ob_twin.specs.Opening.{gates_set, is_closed_first}
+use Rattle.ob_twin.specs.Stops.{IsRegisterLeft, StopsShort}
+use Rattle.ob_twin.specs.declared.gates.Open.{Open}
+use Rattle.ob_start.specs.Orders.{begin_notes}
 use Rattle.ob_twin.specs.declared.gates.Gates.{Gates}
 use Rattle.ob_twin.specs.declared.twin.Twin.TheVariants.{GENERATION}
 
@@ -47,3 +51,14 @@ pub record BeginsFrom {S : Type 0} (disk : S → Disk) (keys : Keys) (generation
 abbrev pub BeginLeaves : {S : Type 0} → (S → Disk) → Keys → ℕ → S → S → Result ℕ Fault → Type 0
 BeginLeaves disk keys generation old new (Ok next) = BeginsFrom disk keys generation old new
 BeginLeaves disk keys generation old new (Err refused) = Passes Same (disk old) (disk new) ⊎ BeginsFrom disk keys generation old new
+
+-- From that store on this generation was to begin, and so many of its notes lack: an image is left so, of one that might have been left before.
+abbrev pub IsBeginLeft : Keys → (closed_first : Bool) → (generation : ℕ) → (old : Disk) → (lacking : ℕ) → Image → Type 0
+IsBeginLeft keys closed_first generation old lacking image =
+    old.tells → (IsTrue closed_first → IsOpen 1 old.cells (place_of generation)) → (d : Image) × IsImageOf old d × IsRegisterLeft (tagging keys) 1 generation d lacking image
+
+-- refused by its store
+abbrev pub BeginStops : Keys → Open → (generation : ℕ) → (old new : Disk) → (before after : Trace) → Result ℕ Fault → Type 0
+BeginStops keys known generation old new before after (Err (fault.StoreFault unsure)) =
+    StopsShort (begin_notes known generation) (begin_notes known generation) (IsBeginLeft keys (is_closed_first known (place_of generation)) generation old) old new before after
+BeginStops keys known generation old new before after _ = Unit {0}

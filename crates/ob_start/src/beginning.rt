@@ -9,7 +9,7 @@ ghost use Rattle.ob_twin.specs.Clear.{InClearBy};
 ghost use Rattle.ob_twin.specs.Register.{StandsAt, KeepsAt, SameOutside};
 ghost use Rattle.ob_twin.specs.Opening.{GatesAre};
 ghost use Rattle.ob_start.specs.Orders.{begin_notes};
-ghost use Rattle.ob_start.specs.Beginning.{IsBeginFault, IsWornFault, BeginLeaves, gates_begun};
+ghost use Rattle.ob_start.specs.Beginning.{BeginLeaves, BeginStops, IsBeginFault, IsWornFault, gates_begun};
 
 use ob_base::{Failed, Fault, NUMBER_LIMIT};
 use ob_seal::Sealer;
@@ -55,6 +55,9 @@ pub fn begin<S: Store, W: Watch>(
     ensures leaves { BeginLeaves S.disk sealer.now.keys generation store.old store.new result }
     ensures does { Does (begin_notes gates.old.generation (suc generation)) (S.disk store.old).seen
         (S.disk store.new).seen (W.trace watch.old) (W.trace watch.new) result }
+    // Refused by its store, it leaves the register's gates by how many of its notes weren't shown.
+    ensures stops { BeginStops sealer.now.keys gates.old.generation (suc generation)
+        (S.disk store.old) (S.disk store.new) (W.trace watch.old) (W.trace watch.new) result }
 {
     let next = generation + 1;
     if next >= NUMBER_LIMIT {

@@ -1,4 +1,6 @@
-use Rattle.std.proofs.Common.{suc, inl, inr, None, refl, Ok, arith, Err, ◌+◌, ◌∙◌}
+use Rattle.std.proofs.Common.{suc, inl, inr, None, refl, Ok, arith, Err, add-one, subst, ◌+◌, ◌∙◌}
+use Rattle.ob_start.specs.Beginning.{BeginStops}
+use Rattle.ob_start.proofs.Stops.{set_stops, sync_stops}
 use Rattle.ob_base.specs.declared.fault.Fault.TheVariants.{StoreFault}
 use Rattle.ob_store.specs.Images.{Same}
 use Rattle.ob_store.proofs.Events.{none_noted}
@@ -125,3 +127,29 @@ returns-in-Err-set-clause-clear g c = λ tells.
     let here = c.sync_noted.ensures.serves.goes.told there in
     clear_but tag old.cells mid.cells new.cells (none_clear tag old.cells mid.cells (λ cell low. c.sync_noted.ensures.keeps.cells here cell)) new.seen
     (set_clear tag GENERATION (c.args.generation + 1) (is_closed_first c.args.gates.now.generation (place_of (c.args.generation + 1))) new.seen mid.cells new.cells (omega arith) (Err c.in-Err-set.field-0) tt (c.in-Err-set.ensures.refused tells))
+
+-- ---- what is left of the register, by the notes
+
+pub returns-then-next-ge-NUMBER_LIMIT-clause-stops : goal.returns-then-next-ge-NUMBER_LIMIT-clause-stops
+returns-then-next-ge-NUMBER_LIMIT-clause-stops g c = tt
+
+pub returns-in-Err-clause-stops : goal.returns-in-Err-clause-stops
+returns-in-Err-clause-stops g c =
+    sync_stops c.args.sealer.now.keys c.args.gates.now.generation (suc c.args.generation) (g.S.Store.disk c.args.store.now) (g.S.Store.disk c.sync_noted.new.store) (g.W.Watch.trace c.args.watch.now) (g.W.Watch.trace c.sync_noted.new.watch)
+    c.in-Err.ensures.told c.sync_noted.ensures.crash
+
+pub returns-in-Ok-set-clause-stops : goal.returns-in-Ok-set-clause-stops
+returns-in-Ok-set-clause-stops g c = tt
+
+pub returns-in-Err-set-clause-stops : goal.returns-in-Err-set-clause-stops
+returns-in-Err-set-clause-stops g c =
+    let keys = c.args.sealer.now.keys in
+    let known = c.args.gates.now.generation in
+    let old = g.S.Store.disk c.args.store.now in
+    let mid = g.S.Store.disk c.sync_noted.new.store in
+    let new = g.S.Store.disk c.set.new.store in
+    let k = g.W.Watch.trace c.args.watch.now in
+    let l = g.W.Watch.trace c.sync_noted.new.watch in
+    let m = g.W.Watch.trace c.set.new.watch in
+    subst (λ n. BeginStops keys known n old new k m (Err (StoreFault None))) (add-one c.args.generation)
+    (set_stops keys known (c.args.generation + 1) old new mid k l m c.in-Ok.ensures.told c.sync_noted.ensures.keeps c.in-Ok.ensures.durable c.in-Err-set.field-0 c.in-Err-set.ensures.does c.in-Err-set.ensures.stops)
