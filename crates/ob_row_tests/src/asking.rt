@@ -96,6 +96,21 @@ fn text_of<R: AllocGlobal + Abort>(rt: &R, sink: &MemSink) -> String {
     String::from_str(rt.alloc(), text).expect(rt, "memory")
 }
 
+// What stands in an output and in a trace.
+fn told_of<R: AllocGlobal + Abort>(
+    rt: &R,
+    status: u8,
+    output: &MemSink,
+    trace: &Option<MemSink>,
+) -> Told {
+    let trace = trace.as_ref().expect(rt, "a trace");
+    Told {
+        status,
+        output: text_of(rt, output),
+        trace: text_of(rt, trace),
+    }
+}
+
 /// Makes a call over a store.
 pub fn call<R: AllocGlobal + Threads + Wait + Sync + Abort>(
     rt: &R,
@@ -122,12 +137,7 @@ pub fn call<R: AllocGlobal + Threads + Wait + Sync + Abort>(
         &mut Eager,
     );
     assert!(rt; store.starved() == 0);
-    let trace = trace.expect(rt, "a trace");
-    Told {
-        status,
-        output: text_of(rt, &output),
-        trace: text_of(rt, &trace),
-    }
+    told_of(rt, status, &output, &trace)
 }
 
 /// A new store of so many cells, of which these calls fail.
@@ -177,9 +187,20 @@ pub fn left_after<R: AllocGlobal + Abort>(
 
 /// What an audit of these lines says.
 pub fn audited<R: AllocGlobal + Threads + Wait + Sync + Abort>(rt: &R, trace: &str) -> String {
-    let told = call(rt, &mut blank(rt, 0, &[]), ask_for("audit", trace));
-    assert!(rt; (told.status == 0) == (told.output.as_str() == "fits\n"));
-    told.output
+    let mut store = blank(rt, 0, &[]);
+    let Told { status, output, .. } = call(rt, &mut store, ask_for("audit", trace));
+    assert!(rt; (status == 0) == (output.as_str() == "fits\n"));
+    output
+}
+
+/// Asserts that an audit of these lines says this.
+pub fn expect_said<R: AllocGlobal + Threads + Wait + Sync + Abort>(
+    rt: &R,
+    trace: &str,
+    wanted: &str,
+) {
+    let said = audited(rt, trace);
+    assert!(rt; said.as_str() == wanted, "{said} {wanted}");
 }
 
 /// The next number of a row, below this one.

@@ -5,10 +5,10 @@ ghost use Rattle.std.specs.Prelude.{◌≡◌};
 ghost use Rattle.ob_mem.specs.Memory.{disk_of_store};
 
 use crate::asking::{
-    EMPTY, END, RUNS, Told, ask_for, audited, call, formatted, left_after, lines_of,
+    EMPTY, END, RUNS, Told, ask_for, call, expect_said, formatted, left_after, lines_of,
 };
 use crate::freshness::is_fresh;
-use crate::threes::{calls_of, first_run, front_of, joined};
+use crate::threes::{calls_behind, front_of, joined};
 use ob_mem::{Fail, MemStore};
 use std::process::Abort;
 use std::sync::Wait;
@@ -47,44 +47,85 @@ fn empty_run<R: AllocGlobal + Threads + Wait + Sync + Abort>(
     call(rt, store, ask)
 }
 
-// Asserts that a trace begins with the lines of two texts.
-fn expect_front<R: AllocGlobal + Abort>(rt: &R, told: &Told, first: &str, then: &str) {
-    let first = lines_of(rt, first);
-    let front = joined(rt, first.as_str(), lines_of(rt, then).as_str());
-    assert!(rt; told.status == 0 && told.trace.as_str().starts_with(front.as_str()));
+// The trace of such a run, which goes well.
+fn empty_trace<R: AllocGlobal + Threads + Wait + Sync + Abort>(
+    rt: &R,
+    store: &mut MemStore,
+    tape: &[u64],
+) -> String
+    requires { (disk_of_store store.old).out ≡ 0 }
+    ensures { (disk_of_store store.new).out ≡ 0 }
+{
+    let Told { status, trace, .. } = empty_run(rt, store, tape);
+    assert!(rt; status == 0);
+    trace
+}
+
+// What is behind the lines of these texts, in a row.
+fn behind<'a, R: AllocGlobal + Abort>(rt: &R, trace: &'a str, texts: &[&str]) -> &'a str {
+    let mut rest = trace;
+    for text in texts {
+        let lines = lines_of(rt, text);
+        rest = rest.strip_prefix(lines.as_str()).expect(rt, "these lines");
+    }
+    rest
+}
+
+// Asserts what an audit says of these lines, and whether they are fresh.
+fn expect_whole<R: AllocGlobal + Threads + Wait + Sync + Abort>(
+    rt: &R,
+    before: &str,
+    trace: &str,
+    said: &str,
+    fresh: bool,
+) {
+    let whole = joined(rt, before, trace);
+    expect_said(rt, whole.as_str(), said);
+    assert!(rt; is_fresh(rt, whole.as_str()) == fresh);
+}
+
+// What a format and a run behind it traced, and the run behind that.
+fn second_run<R: AllocGlobal + Threads + Wait + Sync + Abort>(rt: &R) -> (String, String) {
+    let (mut store, formatted) = formatted(rt, &[], &[]);
+    let first = empty_trace(rt, &mut store, &[]);
+    let second = empty_trace(rt, &mut store, &[]);
+    (joined(rt, formatted.as_str(), first.as_str()), second)
+}
+
+// Asserts what such a second run shows, and what is told of it where a slot of an old home stands in
+// the place of one.
+fn expect_second<R: AllocGlobal + Threads + Wait + Sync + Abort>(
+    rt: &R,
+    before: &str,
+    trace: &str,
+) {
+    behind(rt, trace, &[SECOND, "W 11/S/"]);
+    assert!(rt; before.lines().count() == 177 && trace.lines().count() == 115);
+    expect_whole(rt, before, trace, "fits\n", true);
+    let old = replaced(rt, trace, "R 91/", "R 56/");
+    let said = "breaks line 217 wanted slot of bucket 3\n";
+    expect_whole(rt, before, old.as_str(), said, false);
 }
 
 #[test]
 fn the_second_run_reads_where_the_first_one_filled(rt: HostRuntime) {
-    let (mut store, formatted) = formatted(&rt, &[], &[]);
-    let first = empty_run(&rt, &mut store, &[]);
-    let second = empty_run(&rt, &mut store, &[]);
-    expect_front(&rt, &second, SECOND, "W 11/S/");
-    let before = joined(&rt, formatted.as_str(), first.trace.as_str());
-    assert!(&rt; before.as_str().lines().count() == 177);
-    assert!(&rt; second.trace.as_str().lines().count() == 115);
-    let whole = joined(&rt, before.as_str(), second.trace.as_str());
-    assert!(&rt; audited(&rt, whole.as_str()).as_str() == "fits\n");
-    assert!(&rt; is_fresh(&rt, whole.as_str()));
-    let old = replaced(&rt, second.trace.as_str(), "R 91/", "R 56/");
-    let whole = joined(&rt, before.as_str(), old.as_str());
-    let said = audited(&rt, whole.as_str());
-    assert!(&rt;
-        said.as_str() == "breaks line 217 wanted slot of bucket 3\n",
-        "{said}"
-    );
-    assert!(&rt; !is_fresh(&rt, whole.as_str()));
+    let (before, second) = second_run(&rt);
+    expect_second(&rt, before.as_str(), second.as_str());
+}
+
+// Asserts the first batch that is shown by a run behind a format with these words.
+fn expect_batch<R: AllocGlobal + Threads + Wait + Sync + Abort>(rt: &R, tape: &[u64], batch: &str) {
+    let (mut store, _) = formatted(rt, &[], tape);
+    let trace = empty_trace(rt, &mut store, &[]);
+    behind(rt, trace.as_str(), &[READS, RECORDED, batch]);
 }
 
 // By these words a new store's root has its first dummy, its index 2, in slot 0, and its second one
 // in slot 2. All other buckets have theirs in slots 2 and 3.
 #[test]
 fn a_new_stores_slots_are_ranked_by_the_formats_words(rt: HostRuntime) {
-    let (mut store, _) = formatted(&rt, &[], &[9, 8, 1, 7, 6]);
-    let told = empty_run(&rt, &mut store, &[]);
-    let front = joined(&rt, READS, RECORDED);
     let batch = "L 0/R 39/R 46/R 56/L 0/R 41/R 47/R 57/";
-    expect_front(&rt, &told, front.as_str(), batch);
+    expect_batch(&rt, &[9, 8, 1, 7, 6], batch);
 }
 
 // The leaves of the first batch's places are the run's first two words.
@@ -109,20 +150,57 @@ fn refused_reads<R: AllocGlobal + Abort>(rt: &R) -> Vec<Fail> {
     fails
 }
 
-// So the store has failed once, and was written to and synced 81 times, 72 of them by the format.
+// Up to the sync that fails, in generation 2; and up to the first batch, in generation 3.
+const REFUSED: &str = "S/W 1/S/W 2/S/W 13/S/W 14/";
+
+const THIRD_BEGUN: &str = "S/W 4/S/W 3/S/W 4/S/";
+
+// The trace of a run that the store refuses.
+fn refused_trace<R: AllocGlobal + Threads + Wait + Sync + Abort>(
+    rt: &R,
+    store: &mut MemStore,
+    tape: &[u64],
+) -> String
+    requires { (disk_of_store store.old).out ≡ 0 }
+    ensures { (disk_of_store store.new).out ≡ 0 }
+{
+    let Told {
+        status,
+        output,
+        trace,
+    } = empty_run(rt, store, tape);
+    assert!(rt; status == 5 && output.as_str() == "fault: store\n");
+    trace
+}
+
+// A store behind such a run. It has failed once, and was written to and synced 81 times, 72 of them
+// by the format.
+fn refused<R: AllocGlobal + Threads + Wait + Sync + Abort>(rt: &R) -> MemStore {
+    let (mut store, _) = formatted(rt, &refused_reads(rt), &[]);
+    let trace = refused_trace(rt, &mut store, &LEAVES);
+    let rest = behind(rt, trace.as_str(), &[READS, REFUSED]);
+    assert!(rt; rest.is_empty() && store.faults() == 1 && store.moments() == 81);
+    store
+}
+
+// Asserts what the next run shows where the record's gate has this byte throughout.
+fn expect_found<R: AllocGlobal + Threads + Wait + Sync + Abort>(
+    rt: &R,
+    store: &MemStore,
+    byte: u8,
+    batch: &str,
+) {
+    let left = store.crash(81, &[(14, [byte; 128])]);
+    let mut left = left.expect(rt, "memory");
+    let trace = empty_trace(rt, &mut left, &[]);
+    behind(rt, trace.as_str(), &[READS, THIRD_BEGUN, batch]);
+}
+
 #[test]
 fn where_a_records_last_sync_fails_nothing_more_is_done(rt: HostRuntime) {
-    let (mut store, _) = formatted(&rt, &refused_reads(&rt), &[]);
-    let told = empty_run(&rt, &mut store, &LEAVES);
-    assert!(&rt; told.status == 5 && told.output.as_str() == "fault: store\n");
-    assert!(&rt; store.faults() == 1 && store.moments() == 81);
-    let front = joined(&rt, READS, "S/W 1/S/W 2/S/W 13/S/W 14/");
-    assert!(&rt; told.trace.as_str() == lines_of(&rt, front.as_str()).as_str());
+    let store = refused(&rt);
     for &(byte, batch) in &FOUND {
-        let left = store.crash(81, &[(14, [byte; 128])]);
-        let told = empty_run(&rt, &mut left.expect(&rt, "memory"), &[]);
-        let front = joined(&rt, READS, "S/W 4/S/W 3/S/W 4/S/");
-        expect_front(&rt, &told, front.as_str(), batch);
+        expect_found(&rt, &store, byte, batch);
     }
 }
 
@@ -137,22 +215,38 @@ static STALE: [(&str, &str); 5] = [
     ("W 89/", "W 54/"),
 ];
 
+// What a format and a run's front traced, and the run that found both of its records.
+fn found_again<R: AllocGlobal + Threads + Wait + Sync + Abort>(rt: &R) -> (String, String) {
+    let (mut store, formatted) = formatted(rt, &[], &[]);
+    let first = empty_trace(rt, &mut store, &[]);
+    let front = front_of(rt, first.as_str(), 13);
+    let mut left = left_after(rt, &store, 85, None);
+    let second = empty_trace(rt, &mut left, &[]);
+    (joined(rt, formatted.as_str(), front.as_str()), second)
+}
+
+// Asserts that a trace with such a line changed isn't fresh.
+fn expect_stale<R: AllocGlobal + Abort>(rt: &R, before: &str, trace: &str, from: &str, to: &str) {
+    let stale = replaced(rt, trace, from, to);
+    let whole = joined(rt, before, stale.as_str());
+    assert!(rt;
+        stale.as_str() != trace && !is_fresh(rt, whole.as_str()),
+        "{from}"
+    );
+}
+
+// Asserts that the traces are fresh as they are, and with no line changed.
+fn expect_all_stale<R: AllocGlobal + Abort>(rt: &R, before: &str, trace: &str) {
+    assert!(rt; is_fresh(rt, joined(rt, before, trace).as_str()));
+    for &(from, to) in &STALE {
+        expect_stale(rt, before, trace, from, to);
+    }
+}
+
 #[test]
 fn what_isnt_fresh_is_told(rt: HostRuntime) {
-    let (mut store, formatted) = formatted(&rt, &[], &[]);
-    let first = empty_run(&rt, &mut store, &[]);
-    let front = front_of(&rt, first.trace.as_str(), 13);
-    let before = joined(&rt, formatted.as_str(), front.as_str());
-    let mut left = left_after(&rt, &store, 85, None);
-    let second = empty_run(&rt, &mut left, &[]);
-    let whole = joined(&rt, before.as_str(), second.trace.as_str());
-    assert!(&rt; is_fresh(&rt, whole.as_str()));
-    for &(from, to) in &STALE {
-        let stale = replaced(&rt, second.trace.as_str(), from, to);
-        let whole = joined(&rt, before.as_str(), stale.as_str());
-        assert!(&rt; stale.as_str() != second.trace.as_str(), "{from}");
-        assert!(&rt; !is_fresh(&rt, whole.as_str()), "{from}");
-    }
+    let (before, second) = found_again(&rt);
+    expect_all_stale(&rt, before.as_str(), second.as_str());
 }
 
 // A store whose run was refused, as one of these calls failed.
@@ -165,7 +259,13 @@ fn stopped<R: AllocGlobal + Threads + Wait + Sync + Abort>(rt: &R, fails: &[Fail
     store
 }
 
-// The next run over two stores tells and traces the same.
+fn is_same(one: &Told, other: &Told) -> bool {
+    one.status == other.status
+        && one.output.as_str() == other.output.as_str()
+        && one.trace.as_str() == other.trace.as_str()
+}
+
+// The next run over two stores goes well, and tells and traces the same.
 fn expect_same<R: AllocGlobal + Threads + Wait + Sync + Abort>(
     rt: &R,
     one: &mut MemStore,
@@ -174,44 +274,68 @@ fn expect_same<R: AllocGlobal + Threads + Wait + Sync + Abort>(
     requires one_in { (disk_of_store one.old).out ≡ 0 }
     requires other_in { (disk_of_store other.old).out ≡ 0 }
 {
-    let (told, again) = (empty_run(rt, one, &[]), empty_run(rt, other, &[]));
-    assert!(rt; told.status == 0 && again.status == 0);
-    assert!(rt; told.output.as_str() == again.output.as_str());
-    assert!(rt; told.trace.as_str() == again.trace.as_str());
+    let told = empty_run(rt, one, &[]);
+    let again = empty_run(rt, other, &[]);
+    assert!(rt; told.status == 0 && is_same(&told, &again));
 }
 
-// Over a store whose run was stopped by a failing call, behind so many syncs that were asked for,
-// an opening is refused by its first sync: it has read, and the run behind it, at once or behind a
-// crash, finds and shows what it does without it.
+// The same behind a crash of both.
+fn expect_same_left<R: AllocGlobal + Threads + Wait + Sync + Abort>(
+    rt: &R,
+    one: &MemStore,
+    other: &MemStore,
+    filling: Option<u8>,
+) {
+    let mut one = left_after(rt, one, END, filling);
+    let mut other = left_after(rt, other, END, filling);
+    expect_same(rt, &mut one, &mut other);
+}
+
+// A store whose run was stopped by a failing call, behind so many syncs that were asked for, and whose
+// next opening was refused by its first sync: it has read.
+fn reopened<R: AllocGlobal + Threads + Wait + Sync + Abort>(
+    rt: &R,
+    fail: Fail,
+    syncs: u64,
+) -> MemStore
+    ensures { (disk_of_store result).out ≡ 0 }
+{
+    let mut store = stopped(rt, &[fail, Fail::Sync(syncs)]);
+    let trace = refused_trace(rt, &mut store, &[]);
+    assert!(rt; trace.as_str().lines().count() == 25 && store.faults() == 2);
+    store
+}
+
+// The run behind such an opening, at once or behind a crash, finds and shows what it does without it.
 fn expect_unchanged<R: AllocGlobal + Threads + Wait + Sync + Abort>(
     rt: &R,
     fail: Fail,
     syncs: u64,
 ) {
     let mut without = stopped(rt, &[fail]);
-    let mut with = stopped(rt, &[fail, Fail::Sync(syncs)]);
-    let told = empty_run(rt, &mut with, &[]);
-    assert!(rt; told.status == 5 && told.output.as_str() == "fault: store\n");
-    assert!(rt; told.trace.as_str().lines().count() == 25 && with.faults() == 2);
+    let mut with = reopened(rt, fail, syncs);
     for filling in [None, Some(0), Some(0xA5)] {
-        let mut one = left_after(rt, &without, END, filling);
-        let mut other = left_after(rt, &with, END, filling);
-        expect_same(rt, &mut one, &mut other);
+        expect_same_left(rt, &without, &with, filling);
     }
     expect_same(rt, &mut without, &mut with);
 }
 
-#[test]
-fn an_opening_refused_by_its_first_sync_changes_nothing(rt: HostRuntime) {
+// Behind each write and sync of a run that fails.
+fn expect_all_unchanged<R: AllocGlobal + Threads + Wait + Sync + Abort>(rt: &R, calls: &[Fail]) {
     let mut syncs: u64 = 10;
-    for fail in &calls_of(&rt, &first_run(&rt, EMPTY)) {
+    for fail in calls {
         match *fail {
-            Fail::Write(_) => expect_unchanged(&rt, *fail, syncs),
+            Fail::Write(_) => expect_unchanged(rt, *fail, syncs),
             Fail::Sync(sync) => {
                 syncs = sync.saturating_add(1);
-                expect_unchanged(&rt, *fail, syncs);
+                expect_unchanged(rt, *fail, syncs);
             }
             _ => {}
         }
     }
+}
+
+#[test]
+fn an_opening_refused_by_its_first_sync_changes_nothing(rt: HostRuntime) {
+    expect_all_unchanged(&rt, &calls_behind(&rt, EMPTY));
 }

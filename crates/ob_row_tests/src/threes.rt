@@ -10,7 +10,7 @@ ghost use Rattle.std.specs.Prelude.{◌≡◌};
 ghost use Rattle.ob_mem.specs.Memory.{disk_of_store};
 
 use crate::asking::{
-    EMPTY, END, RUNS, ask_for, audited, call, drawn, drawn_run, formatted, left_after,
+    EMPTY, END, RUNS, ask_for, call, drawn, drawn_run, expect_said, formatted, left_after,
 };
 use crate::freshness::is_fresh;
 use ob_mem::{Fail, MemStore};
@@ -215,9 +215,9 @@ fn call_of<R: Abort>(rt: &R, line: &str, writes: u64, syncs: u64) -> Option<Fail
     }
 }
 
-/// Each call of the first run, in its order: a write, a sync or a read that may fail, behind the
-/// format's 62 writes and 10 syncs.
-pub fn calls_of<R: AllocGlobal + Abort>(rt: &R, first: &First) -> Vec<Fail> {
+// Each call of the first run, in its order: a write, a sync or a read that may fail, behind the
+// format's 62 writes and 10 syncs.
+fn calls_of<R: AllocGlobal + Abort>(rt: &R, first: &First) -> Vec<Fail> {
     let mut calls = Vec::new(rt.alloc());
     let (mut writes, mut syncs): (u64, u64) = (62, 10);
     for line in first.ran.trace.as_str().lines() {
@@ -230,6 +230,15 @@ pub fn calls_of<R: AllocGlobal + Abort>(rt: &R, first: &First) -> Vec<Fail> {
     calls
 }
 
+/// The same of a first run with this script.
+pub fn calls_behind<R: AllocGlobal + Threads + Wait + Sync + Abort>(
+    rt: &R,
+    script: &'static str,
+) -> Vec<Fail> {
+    let first = first_run(rt, script);
+    calls_of(rt, &first)
+}
+
 /// The second run, by these words, over the store of a first one of which this call fails: all the
 /// store's writes stand that came before, and none is sure that wasn't.
 pub fn behind_call<R: AllocGlobal + Threads + Wait + Sync + Abort>(
@@ -240,7 +249,7 @@ pub fn behind_call<R: AllocGlobal + Threads + Wait + Sync + Abort>(
 ) -> Second {
     let (mut store, formatted) = formatted(rt, &[fail], &[]);
     let told = call(rt, &mut store, ask_for(words, script));
-    assert!(rt; told.status == 5 && store.faults() == 1, "{fail:?}");
+    assert!(rt; told.status == 5 && store.faults() == 1);
     // Before a read no write is pending. The same cell could be read again before the next one.
     if let Fail::Read { .. } = fail {
         store = left_after(rt, &store, END, None);
@@ -254,8 +263,52 @@ pub fn behind_call<R: AllocGlobal + Threads + Wait + Sync + Abort>(
     }
 }
 
-/// The third run, by these words, behind a crash of the second one behind so many of its writes and
-/// syncs: what all three traced is fresh, and fits but in the one case.
+// What all three runs traced, as far as a crash of the second one let it, and what of that stood before
+// the third one.
+#[derive(Drop)]
+struct Third {
+    front: String,
+    before: String,
+    whole: String,
+}
+
+// The third run, by these words, behind a crash of the second one behind so many of its writes and
+// syncs.
+fn third_of<R: AllocGlobal + Threads + Wait + Sync + Abort>(
+    rt: &R,
+    second: &Second,
+    moment: usize,
+    filling: Option<u8>,
+    words: &str,
+) -> Third {
+    let left = cut_off(rt, &second.ran, moment, filling);
+    let third = run_over(rt, left, words, second.script);
+    let front = front_of(rt, second.ran.trace.as_str(), moment);
+    let before = joined(rt, second.text.as_str(), front.as_str());
+    let whole = joined(rt, before.as_str(), third.trace.as_str());
+    Third {
+        front,
+        before,
+        whole,
+    }
+}
+
+// The body that was wanted, and behind how many lines, where what all three traced breaks.
+fn wanted_at(
+    second: &Second,
+    third: &Third,
+    moment: usize,
+    filling: Option<u8>,
+) -> Option<(&'static str, usize)> {
+    let lost = second.refused && moment == 0 && filling == Some(0);
+    match (second.wanted, found_body(third.front.as_str(), filling)) {
+        (Some(body), _) if !lost => Some((body, second.text.as_str().lines().count())),
+        (_, Some(body)) => Some((body, third.before.as_str().lines().count())),
+        _ => None,
+    }
+}
+
+// What all three traced is fresh, and fits but in the one case.
 fn expect_third<R: AllocGlobal + Threads + Wait + Sync + Abort>(
     rt: &R,
     second: &Second,
@@ -263,27 +316,13 @@ fn expect_third<R: AllocGlobal + Threads + Wait + Sync + Abort>(
     filling: Option<u8>,
     words: &str,
 ) {
-    let front = front_of(rt, second.ran.trace.as_str(), moment);
-    let left = cut_off(rt, &second.ran, moment, filling);
-    let third = run_over(rt, left, words, second.script);
-    let text = joined(rt, second.text.as_str(), front.as_str());
-    let whole = joined(rt, text.as_str(), third.trace.as_str());
-    assert!(rt; is_fresh(rt, whole.as_str()), "{whole}");
-    let lost = second.refused && moment == 0 && filling == Some(0);
-    let wanted = match (second.wanted, found_body(front.as_str(), filling)) {
-        (Some(body), _) if !lost => {
-            broken(
-                rt,
-                whole.as_str(),
-                second.text.as_str().lines().count(),
-                body,
-            )
-        }
-        (_, Some(body)) => broken(rt, whole.as_str(), text.as_str().lines().count(), body),
-        _ => String::from_str(rt.alloc(), "fits\n").expect(rt, "memory"),
-    };
-    let said = audited(rt, whole.as_str());
-    assert!(rt; said.as_str() == wanted.as_str(), "{said} {wanted} {whole}");
+    let third = third_of(rt, second, moment, filling, words);
+    let whole = third.whole.as_str();
+    assert!(rt; is_fresh(rt, whole), "{whole}");
+    match wanted_at(second, &third, moment, filling) {
+        Some((body, from)) => expect_said(rt, whole, broken(rt, whole, from, body).as_str()),
+        None => expect_said(rt, whole, "fits\n"),
+    }
 }
 
 // How many writes and syncs the second run made.
@@ -346,12 +385,17 @@ fn traces_of_three_runs_of_two_epochs_fit(rt: HostRuntime) {
     expect_images(&rt, PUT_AND_GET, 2);
 }
 
+// Behind each call of a first run that fails, two crashes of the second run.
+fn expect_calls<R: AllocGlobal + Threads + Wait + Sync + Abort>(rt: &R, calls: &[Fail]) {
+    let mut row = 3;
+    for fail in calls {
+        let second = behind_call(rt, PUT_AND_GET, *fail, drawn_run(&mut row));
+        expect_drawn(rt, &second, 2, &mut row);
+    }
+}
+
 // Behind each write, sync and read that fails, crashes of the second run.
 #[test]
 fn traces_behind_each_failing_call_fit(rt: HostRuntime) {
-    let mut row = 3;
-    for fail in &calls_of(&rt, &first_run(&rt, PUT_AND_GET)) {
-        let second = behind_call(&rt, PUT_AND_GET, *fail, drawn_run(&mut row));
-        expect_drawn(&rt, &second, 2, &mut row);
-    }
+    expect_calls(&rt, &calls_behind(&rt, PUT_AND_GET));
 }
