@@ -1,5 +1,5 @@
 -- What a store holds as it is formatted.
-use Rattle.std.proofs.Common.{◌≡◌, ◌≢◌, ◌⊎◌, ⊎_elim, inl, inr, ℕ, zero, suc, ◌+◌, ◌*◌, ◌<◌, ◌≤◌, ◌^◌, List, [], ◌∷◌, ◌++◌, map, take, drop, length, get_or, refl, sym, ◌∙◌, ap, subst, arith, length-append}
+use Rattle.std.proofs.Common.{◌≡◌, ◌≢◌, ◌⊎◌, ⊎_elim, inl, inr, ℕ, zero, suc, true, false, ◌+◌, ◌*◌, ◌<◌, ◌≤◌, ◌^◌, List, [], ◌∷◌, ◌++◌, map, take, drop, length, get_or, refl, sym, ◌∙◌, ap, subst, arith, length-append}
 use Rattle.std.proofs.Math.Nat.{mul-le-mul_right}
 use Rattle.std.proofs.lemmas.List.{get_or_append_left, get_or-append-add}
 use Rattle.std.proofs.lemmas.List.FromFn.{get_or-map-range_with_len, length-map-range_with_len}
@@ -13,11 +13,14 @@ use Rattle.ob_store.proofs.Moments.{then_on, weakened}
 use Rattle.ob_seal.specs.declared.keys.Keys.{Keys}
 use Rattle.ob_twin.specs.Bodies.{open_gate}
 use Rattle.ob_twin.specs.Keyed.{tagging}
-use Rattle.ob_twin.specs.Register.{StandsAt}
+use Rattle.ob_twin.specs.Opening.{GatesAre}
+use Rattle.ob_twin.specs.Register.{StandsAt, gate_at}
+use Rattle.ob_twin.specs.declared.gates.Open.{Open}
+use Rattle.ob_recover.specs.Known.{format_gates}
 use Rattle.ob_twin.proofs.Frames.{register_moved}
 use Rattle.ob_twin.proofs.Moves.{closed-isnt-open}
 use Rattle.ob_start.specs.Heads.{head_cell, IsHead}
-use Rattle.ob_start.specs.Laying.{AreShut, HasNoHead, IsTornHead, LieBehind}
+use Rattle.ob_start.specs.Laying.{AreShut, HasNoHead, IsOpenAlone, IsTornHead, LieBehind}
 use Rattle.ob_start.proofs.Spelling.{head_is}
 use Rattle.ob_tables.specs.Buckets.{Buckets}
 use Rattle.ob_tables.specs.Rank.{ranks_of}
@@ -30,6 +33,7 @@ use Rattle.ob_schedule.specs.Schedule.{log_gates}
 use Rattle.ob_stand.specs.Fresh.{AreRanked, Ranks, fresh_content, fresh_version}
 use Rattle.ob_stand.specs.Stands.{HoldsCheckpoint, Stands}
 use Rattle.ob_stand.proofs.FreshLaws.{formatted_stands}
+use Rattle.ob_opening.specs.OpeningActs.{AreGatesIn}
 use Rattle.ob_opening.specs.Formats.{RingFormatLeaves, HasBlankSlots, HasClosedLogs, IsBlankTables, IsRingLaid, all_gates, drawn_ranks, format_words, formatted_standing, words_of}
 
 -- ---- the words
@@ -161,6 +165,20 @@ module _ (keys : Keys) (p : Params) (drawn : List ℕ) (many : length drawn ≡ 
     slots = laid_so.slots;
     shut = next_shut p c laid_so.closed;
   })
+
+-- ---- the registers' gates
+
+gates_same : (known : Open) (first : ℕ) (a b : Image) → b (gate_at first 0) ≡ a (gate_at first 0) → b (gate_at first 1) ≡ a (gate_at first 1) → GatesAre known first a → GatesAre known first b
+gates_same known first a b same_zero same_one are = record {
+  zero = (λ marked. same_zero ∙ (are.zero).0 marked, λ opened. (are.zero).1 (sym same_zero ∙ opened));
+  one = (λ marked. same_one ∙ (are.one).0 marked, λ opened. (are.one).1 (sym same_one ∙ opened));
+}
+
+pub gates_formatted : (regs cells new : Image) → IsOpenAlone 1 1 regs → ((k : ℕ) → k < 5 → cells k ≡ regs k) → IsOpenAlone 5 0 cells → SameBut 0 new cells → AreGatesIn format_gates new
+gates_formatted regs cells new generation low epoch last = record {
+  generation = gates_same (record { zero = false; one = true }) 1 regs new (last 2 (omega arith) ∙ low 2 (omega arith)) (last 4 (omega arith) ∙ low 4 (omega arith)) generation;
+  epoch = gates_same (record { zero = true; one = false }) 5 cells new (last 6 (omega arith)) (last 8 (omega arith)) epoch;
+}
 
 -- ---- what a crash leaves meanwhile
 

@@ -14,8 +14,9 @@ ghost use Rattle.ob_tables.specs.Content.{Obeys, content_of};
 ghost use Rattle.ob_schedule.specs.Schedule.{format_notes};
 ghost use Rattle.ob_recover.specs.Life.{WordId, formatted_life};
 ghost use Rattle.ob_stand.specs.Fresh.{fresh_content};
-ghost use Rattle.ob_opening.specs.OpeningActs.{AreSlotsIn, StandsInLife};
-ghost use Rattle.ob_start.specs.Laying.{SameHead};
+ghost use Rattle.ob_recover.specs.Known.{format_gates};
+ghost use Rattle.ob_opening.specs.OpeningActs.{AreGatesIn, AreSlotsIn, StandsInLife};
+ghost use Rattle.ob_start.specs.Laying.{IsOpenAlone, SameHead};
 ghost use Rattle.ob_stand.specs.Stands.{Stands};
 ghost use Rattle.ob_twin.specs.Clear.{InClearBy};
 ghost use Rattle.ob_twin.specs.Keyed.{tagging};
@@ -121,6 +122,8 @@ fn lay_epoch<R: Threads + Sync, S: Store, W: Watch>(
     ensures serves { Serves IsFailed (S.disk store.old) (S.disk store.new) result }
     ensures epoch { (S.disk store.old).tells
         → OnOk result (StandsAt (tagging sealer.old.keys) 5 (S.disk store.new).cells 0) }
+    ensures gates { (S.disk store.old).tells
+        → OnOk result (IsOpenAlone 5 0 (S.disk store.new).cells) }
     ensures slots { (S.disk store.old).tells
         → OnOk result (HasBlankSlots sealer.old.keys p.now sealer.old.generation
         (S.disk store.new).cells) }
@@ -188,6 +191,8 @@ fn lay<R: Threads + Sync, S: Store, T: Tape, W: Watch>(
     ensures laid { (S.disk store.old).tells
         → OnOk result (IsRingLaid sealer.old.keys p.now (T.drawn tape.new)
         (S.disk store.new).cells) }
+    ensures gates { (S.disk store.old).tells
+        → OnOk result (AreGatesIn format_gates (S.disk store.new).cells) }
     ensures clear { (S.disk store.new).tells → FormatsInClear sealer.old.keys p.now
         (S.disk store.new).seen (S.disk store.old).cells (S.disk store.new).cells result }
     ensures durable { (S.disk store.old).tells → OnOk result (IsSynced (S.disk store.new)) }
@@ -263,6 +268,9 @@ pub fn format<R: Threads + Sync, S: Store, T: Tape, W: Watch>(
     // In the clear it leaves the head and what registers write there, each byte of it.
     ensures clear { (S.disk store.new).tells → FormatsInClear keys.now p.now
         (S.disk store.new).seen (S.disk store.old).cells (S.disk store.new).cells result }
+    // Of the registers' gates those of generation 1 and epoch 0 are open.
+    ensures gates { (S.disk store.old).tells
+        → OnOk result (AreGatesIn format_gates (S.disk store.new).cells) }
     // Each gate of both logs has the bytes of a closed one.
     ensures closed { (S.disk store.old).tells
         → OnOk result (HasClosedLogs p.now (S.disk store.new).cells) }

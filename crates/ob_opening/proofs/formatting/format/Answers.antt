@@ -138,3 +138,8 @@ pub returns-clause-clear : goal.returns-clause-clear
 returns-clause-clear g c = λ tells.
     let new = g.S.Store.disk c.lay.new.store in
     subst (λ (s : Sealing). FormatsInClear {T = Unit {0}} {E = Failed} s.keys c.args.p.now new.seen (g.S.Store.disk c.args.store.now).cells new.cells (Err c.in-Err-lay.field-0)) c.new-sealer.ensures (c.in-Err-lay.ensures.clear tells)
+
+-- ---- the registers' gates
+
+pub returns-in-Ok-lay-clause-gates : goal.returns-in-Ok-lay-clause-gates
+returns-in-Ok-lay-clause-gates g c = c.in-Ok-lay.ensures.gates

@@ -25,7 +25,7 @@ use Rattle.ob_stand.specs.Fresh.{fresh_content}
 use Rattle.ob_stand.proofs.FreshLaws.{fresh_obeys}
 use Rattle.ob_opening.specs.Formats.{HasBlankSlots, IsHeadOrBlank, IsRingLaid, all_gates, drawn_ranks, epoch_notes}
 use Rattle.ob_opening.proofs.ClearLaws.{head_last, laid_wider}
-use Rattle.ob_opening.proofs.FirstLaws.{are_ranked, as_cleared, begins_sure, content_is, formatted, gates_behind, head_written, laid, still_cleared}
+use Rattle.ob_opening.proofs.FirstLaws.{are_ranked, as_cleared, begins_sure, content_is, formatted, gates_behind, gates_formatted, head_written, laid, still_cleared}
 use Rattle.ob_opening.proofs.OrderLaws.{format_is}
 use Rattle.ob_opening.proofs.formatting.lay.Goals as goal
 
@@ -272,3 +272,13 @@ returns-clause-clear g c = λ tells.
           (c.write_out.ensures.rest two) new.seen c.write_out.result (c.write_out.ensures.written two) (c.write_out.ensures.refused tells),
       on_ok _ _ c.write_out.result (λ put. put ∙ head) (c.write_out.ensures.written two),
     )
+
+-- ---- the registers' gates
+
+pub returns-clause-gates : goal.returns-clause-gates
+returns-clause-gates g c = λ tells.
+    let one = c.in-Ok.ensures.serves.tells tells in
+    let two = c.in-Ok-lay_epoch.ensures.serves.tells one in
+    if_ok _ c.write_out.result
+    (gates_formatted (g.S.Store.disk c.lay_registers.new.store).cells (g.S.Store.disk c.lay_epoch.new.store).cells (g.S.Store.disk c.write_out.new.store).cells (c.in-Ok.ensures.gates tells) (c.in-Ok-lay_epoch.ensures.low one)
+    (c.in-Ok-lay_epoch.ensures.gates one) (c.write_out.ensures.rest two))

@@ -291,3 +291,8 @@ returns-clause-clear g c = λ told.
     ∙ before_both c.args.p.now c.slot_cell.result _ cell _ _ _ c.slot_cell.ensures.cell (omega (arith, low)) (c.write.ensures.rest one) (c.write_long.ensures.run.within.rest tells)))
     new.seen c.set_first.result
     (subst (λ (x : Keys). InClearBy (tagging x) new.seen mid new.cells c.set_first.result) (c.write.ensures.some_sealed.keys ∙ c.write_long.ensures.run.seals.some.keys) (c.set_first.ensures.clear told))
+
+-- ---- the register's gates
+
+pub returns-clause-gates : goal.returns-clause-gates
+returns-clause-gates g c = λ tells. c.set_first.ensures.gates (c.sync_noted.ensures.keeps.tells (c.in-Ok-write.ensures.serves.tells (c.in-Ok.ensures.serves.tells tells)))
