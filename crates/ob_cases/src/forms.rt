@@ -41,11 +41,15 @@ const TOLD: &[u8] = b"\
     epoch 1\ntxn 1 client 1 committed\nput 5 hi\n\
     epoch 2\ntxn 1 client 1 committed\nget 5 = hi\n";
 
+fn expect_form<R: AllocGlobal + Threads + Wait + Sync + Abort>(rt: &R, form: &str) {
+    let told = told_by(rt, &mut Eager, form, TWO_EPOCHS);
+    assert!(rt; told.written() == TOLD, "{form}");
+}
+
 #[test]
 fn each_form_of_a_run_is_one(rt: HostRuntime) {
     for form in FORMS.lines() {
-        let told = told_by(&rt, &mut Eager, form, TWO_EPOCHS);
-        assert!(&rt; told.written() == TOLD, "{form}");
+        expect_form(&rt, form);
     }
 }
 
@@ -62,8 +66,9 @@ fn is_late<R: AllocGlobal + Threads + Wait + Sync + Abort>(rt: &R, words: &str) 
 
 #[test]
 fn a_hasty_beat_ends_epochs_early(rt: HostRuntime) {
-    assert!(&rt; is_late(&rt, "run S K --turns --lanes 1"));
-    assert!(&rt; is_late(&rt, "run S K --turns --lanes 4"));
+    for words in ["run S K --turns --lanes 1", "run S K --turns --lanes 4"] {
+        assert!(&rt; is_late(&rt, words));
+    }
     for _ in 0..15 {
         is_late(&rt, "run S K");
     }

@@ -1,6 +1,6 @@
 //! Lives of stores, a step a line, played by each of some numbers of lanes.
 
-ghost use Rattle.std.specs.Prelude.{◌≡◌};
+ghost use Rattle.std.specs.Prelude.{◌≡◌, IfSome};
 ghost use Rattle.ob_mem.specs.Memory.{disk_of_store};
 
 use crate::calling::{
@@ -87,7 +87,24 @@ fn make<R: AllocGlobal + Threads + Wait + Sync + Abort>(
     expect_told(rt, ask, status, output.written(), wanted);
 }
 
-// Takes a step.
+// The store that stands in a store's place behind a step that makes another.
+fn made_by<R: AllocGlobal + Abort>(rt: &R, store: &MemStore, step: &str) -> Option<MemStore>
+    ensures { IfSome result (λ made. (disk_of_store made).out ≡ 0) }
+{
+    if let Some(cells) = step.strip_prefix("new ") {
+        return Some(blank(rt, number_of(rt, cells) as usize, &[]));
+    }
+    if let Some(moment) = step.strip_prefix("crash ") {
+        let moment = number_of(rt, moment) as usize;
+        return Some(left_after(rt, store, moment, None));
+    }
+    if step == "crash" {
+        return Some(left_after(rt, store, END, None));
+    }
+    None
+}
+
+// Takes another step.
 fn take<R: AllocGlobal + Threads + Wait + Sync + Abort>(
     rt: &R,
     store: &mut MemStore,
@@ -99,14 +116,8 @@ fn take<R: AllocGlobal + Threads + Wait + Sync + Abort>(
 {
     if let Some((line, wanted)) = step.split_once(" -> ") {
         make(rt, store, lanes, line, wanted);
-    } else if let Some(cells) = step.strip_prefix("new ") {
-        *store = blank(rt, number_of(rt, cells) as usize, &[]);
-    } else if let Some(moment) = step.strip_prefix("crash ") {
-        *store = left_after(rt, store, number_of(rt, moment) as usize, None);
     } else if let Some(cell) = step.strip_prefix("flip ") {
         flip(rt, store, number_of(rt, cell));
-    } else if step == "crash" {
-        *store = left_after(rt, store, END, None);
     } else {
         expect_begin(rt, store, step.strip_prefix("cell ").expect(rt, "a step"));
     }
@@ -116,7 +127,10 @@ fn take<R: AllocGlobal + Threads + Wait + Sync + Abort>(
 fn go_on<R: AllocGlobal + Threads + Wait + Sync + Abort>(rt: &R, lanes: &str, steps: &str) {
     let mut store = blank(rt, 0, &[]);
     for step in steps.lines() {
-        take(rt, &mut store, lanes, step);
+        match made_by(rt, &store, step) {
+            Some(made) => store = made,
+            None => take(rt, &mut store, lanes, step),
+        }
     }
     assert!(rt; store.starved() == 0);
 }

@@ -97,17 +97,31 @@ fn expect_behind<R: AllocGlobal + Threads + Wait + Sync + Abort>(
     }
 }
 
-// Behind each of the 104 lines of a run of one epoch, with each filling.
-#[test]
-fn traces_in_a_row_fit_behind_a_crash(rt: HostRuntime) {
-    let mut ran = left_after(&rt, &formatted(&rt, &[]), END, None);
-    let trace = trace_of(&rt, &mut ran, ask_for(RUNS[1], EMPTY));
-    assert!(&rt; ran.moments() == 56);
+// A store behind a run of one epoch, and its trace.
+fn ran<R: AllocGlobal + Threads + Wait + Sync + Abort>(rt: &R) -> (MemStore, String) {
+    let mut ran = left_after(rt, &formatted(rt, &[]), END, None);
+    let trace = trace_of(rt, &mut ran, ask_for(RUNS[1], EMPTY));
+    assert!(rt; ran.moments() == 56);
+    (ran, trace)
+}
+
+// Behind each of the 104 lines of such a run, with each filling.
+fn expect_each<R: AllocGlobal + Threads + Wait + Sync + Abort>(
+    rt: &R,
+    ran: &MemStore,
+    trace: &str,
+) {
     for many in 1..105 {
         for filling in [None, Some(0), Some(0xA5)] {
-            expect_behind(&rt, &ran, trace.as_str(), many, filling);
+            expect_behind(rt, ran, trace, many, filling);
         }
     }
+}
+
+#[test]
+fn traces_in_a_row_fit_behind_a_crash(rt: HostRuntime) {
+    let (ran, trace) = ran(&rt);
+    expect_each(&rt, &ran, trace.as_str());
 }
 
 // The next number of a row, below this one.

@@ -27,6 +27,19 @@ fn lists_are_as_long(rt: HostRuntime) {
     }
 }
 
+// A call over a store, which is let go behind it.
+fn expect_over<R: AllocGlobal + Threads + Wait + Sync + Abort>(
+    rt: &R,
+    mut store: MemStore,
+    ask: Ask<'_>,
+    wanted: &str,
+    list: (&str, usize),
+)
+    requires { (disk_of_store store).out ≡ 0 }
+{
+    expect(rt, &mut store, ask, wanted, list);
+}
+
 // A run over a store that was just formatted, in each way, of which this call fails.
 fn play<R: AllocGlobal + Threads + Wait + Sync + Abort>(
     rt: &R,
@@ -37,8 +50,7 @@ fn play<R: AllocGlobal + Threads + Wait + Sync + Abort>(
 ) {
     for &words in &RUNS {
         ask.words = words;
-        let mut store = formatted(rt, fails);
-        expect(rt, &mut store, ask, wanted, list);
+        expect_over(rt, formatted(rt, fails), ask, wanted, list);
     }
 }
 
@@ -55,9 +67,8 @@ const BUSY_TOLD: &str = "\
 fn an_empty_epoch_looks_like_a_busy_one(rt: HostRuntime) {
     let empty = ask_for(RUNS[0], EMPTY);
     play(&rt, &[], empty, COMMITTED, (ONE_EPOCH, 104));
-    let mut store = formatted(&rt, &[]);
     let busy = ask_for(RUNS[1], BUSY);
-    expect(&rt, &mut store, busy, BUSY_TOLD, (ONE_EPOCH, 104));
+    expect_over(&rt, formatted(&rt, &[]), busy, BUSY_TOLD, (ONE_EPOCH, 104));
 }
 
 #[test]
@@ -124,35 +135,58 @@ static BEHIND: [(usize, Option<u8>, Found); 6] = [
     (13, None, Found::Both),
 ];
 
-#[test]
-fn a_run_behind_a_crash_shows_again_what_was_shown(rt: HostRuntime) {
-    let ran = ran(&rt);
+// The run over what a crash left.
+fn expect_left<R: AllocGlobal + Threads + Wait + Sync + Abort>(
+    rt: &R,
+    mut left: MemStore,
+    words: &str,
+    found: Found,
+)
+    requires { (disk_of_store left).out ≡ 0 }
+{
+    expect_found(rt, &mut left, words, found);
+}
+
+fn expect_behind<R: AllocGlobal + Threads + Wait + Sync + Abort>(rt: &R, ran: &MemStore) {
     for &(moment, filling, found) in &BEHIND {
         for &words in &RUNS {
-            let mut left = left_after(&rt, &ran, moment, filling);
-            expect_found(&rt, &mut left, words, found);
+            expect_left(rt, left_after(rt, ran, moment, filling), words, found);
         }
     }
+}
+
+#[test]
+fn a_run_behind_a_crash_shows_again_what_was_shown(rt: HostRuntime) {
+    expect_behind(&rt, &ran(&rt));
+}
+
+// What is found where each byte of the gate is A5 hexadecimal, but for the one in this place.
+fn expect_gate<R: AllocGlobal + Threads + Wait + Sync + Abort>(
+    rt: &R,
+    ran: &MemStore,
+    place: usize,
+    found: Found,
+) {
+    let mut gate = [0xA5; 128];
+    if place < 128 {
+        gate[place] = 0xA4;
+    }
+    let left = ran.crash(8, &[(14, gate)]).expect(rt, "memory");
+    expect_left(rt, left, RUNS[place % 4], found);
+}
+
+fn expect_gates<R: AllocGlobal + Threads + Wait + Sync + Abort>(rt: &R, ran: &MemStore) {
+    for place in 0..128 {
+        expect_gate(rt, ran, place, Found::None);
+    }
+    expect_gate(rt, ran, 128, Found::First);
 }
 
 // The gate of the first batch's record where it isn't sure: it is open where each of its bytes is
 // A5 hexadecimal, and only there.
 #[test]
 fn a_gate_is_open_where_all_its_bytes_say_so(rt: HostRuntime) {
-    let ran = ran(&rt);
-    for place in 0..129 {
-        let mut gate = [0xA5; 128];
-        if place < 128 {
-            gate[place] = 0xA4;
-        }
-        let found = if place < 128 {
-            Found::None
-        } else {
-            Found::First
-        };
-        let mut left = ran.crash(8, &[(14, gate)]).expect(&rt, "memory");
-        expect_found(&rt, &mut left, RUNS[place % 4], found);
-    }
+    expect_gates(&rt, &ran(&rt));
 }
 
 // Where the script or the store is refused the head alone is read.
@@ -160,10 +194,9 @@ fn a_gate_is_open_where_all_its_bytes_say_so(rt: HostRuntime) {
 fn the_head_stands_in_the_trace_of_a_refused_run(rt: HostRuntime) {
     let ask = ask_for(RUNS[0], "begin");
     play(&rt, &[], ask, "2 fault: script line 1/", (ONE_EPOCH, 2));
-    let mut store = blank(&rt, CELLS, &[]);
     let ask = ask_for(RUNS[0], EMPTY);
     let told = "3 fault: not a store/";
-    expect(&rt, &mut store, ask, told, (ONE_EPOCH, 2));
+    expect_over(&rt, blank(&rt, CELLS, &[]), ask, told, (ONE_EPOCH, 2));
 }
 
 // Calls that fail behind a format of 62 writes and 10 syncs, how many lines of an epoch's the trace
@@ -190,13 +223,28 @@ const STORE: &str = "5 fault: store/";
 
 const UNSURE: &str = "5 fault: store, epoch 1 unsure/";
 
+fn expect_fail<R: AllocGlobal + Threads + Wait + Sync + Abort>(
+    rt: &R,
+    fail: Fail,
+    lines: usize,
+    last: &str,
+    told: &str,
+) {
+    let line = ONE_EPOCH.split_terminator('/').nth(lines.saturating_sub(1));
+    assert!(rt; line == Some(last));
+    play(
+        rt,
+        &[fail],
+        ask_for(RUNS[0], EMPTY),
+        told,
+        (ONE_EPOCH, lines),
+    );
+}
+
 #[test]
 fn a_trace_tells_of_a_failing_call_what_was_done(rt: HostRuntime) {
     for &(fail, lines, last, unsure) in &FAILS {
         let told = if unsure { UNSURE } else { STORE };
-        let line = ONE_EPOCH.split_terminator('/').nth(lines - 1);
-        assert!(&rt; line == Some(last));
-        let ask = ask_for(RUNS[0], EMPTY);
-        play(&rt, &[fail], ask, told, (ONE_EPOCH, lines));
+        expect_fail(&rt, fail, lines, last, told);
     }
 }
