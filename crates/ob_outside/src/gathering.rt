@@ -8,7 +8,7 @@ use std::alloc::{AllocError, Global};
 use std::fs::File;
 
 // How many cells are gathered at most.
-const MOST: usize = 512;
+const MOST: usize = 256;
 
 /// Cells that follow each other, which were written and not yet handed to the system.
 #[derive(Drop)]
@@ -16,12 +16,12 @@ pub struct Gathered {
     first: u64,
     many: usize,
     bytes: Vec<u8>,
-    ghost few: { many ≤ 512 },
-    ghost room: { vec_len bytes ≡ 65536 },
+    ghost few: { many ≤ 256 },
+    ghost room: { vec_len bytes ≡ 32768 },
 }
 
 impl Gathered {
-    /// Room for 512 cells, and none yet.
+    /// Room for 256 cells, and none yet.
     ///
     /// # Errors
     /// Memory was wanting.

@@ -28,7 +28,7 @@ pub enum OpenErr {
 /// back, up to 16, are kept open for the next ones: to look at a file's state before each batch of
 /// reads makes its next sync take longer.
 ///
-/// Cells that are written one behind the other are gathered, up to 512, and handed to the system
+/// Cells that are written one behind the other are gathered, up to 256, and handed to the system
 /// together: before a cell that doesn't follow them, a lane, and a sync. Where that fails, or a sync
 /// does, each later write, lane and sync fails too, since what the system has lost then would not be
 /// told again. What was not synced may be lost when the store is let go.
