@@ -1,6 +1,7 @@
 -- What the calls of a ring vault leave of the registers' gates.
-use Rattle.std.specs.Prelude.{◌≡◌, ℕ, suc, ◌-◌, ◌<◌, true, false, List, length, map, Option, Result, Ok, Err}
-use Rattle.std.proofs.Common.{arith, ap, subst, sym, ◌∙◌}
+use Rattle.std.specs.Prelude.{◌≡◌, ◌⊎◌, ℕ, suc, ◌+◌, ◌*◌, ◌-◌, ◌%◌, ◌<◌, ◌||◌, Bool, true, false, List, [], ◌∷◌, length, map, Option, Result, Ok, Err}
+use Rattle.std.proofs.Common.{arith, ap, inl, inr, refl, subst, sym, ◌∙◌, ⊎_elim}
+use Rattle.std.proofs.lemmas.Bool.{cases_eq}
 use Rattle.ob_base.specs.declared.fault.Fault.{Fault}
 use Rattle.ob_base.specs.declared.params.Params.{Params}
 use Rattle.ob_base.specs.declared.value.Write.{Write}
@@ -18,12 +19,14 @@ use Rattle.ob_store.specs.declared.watch.Note.{Note}
 use Rattle.ob_tables.specs.Content.{Content}
 use Rattle.ob_twin.proofs.Gating.{open_of}
 use Rattle.ob_twin.specs.Keyed.{tagging}
-use Rattle.ob_twin.specs.Opening.{GatesAre}
-use Rattle.ob_twin.specs.Register.{gate_at}
+use Rattle.ob_twin.specs.Opening.{GatesAre, is_marked, with_mark}
+use Rattle.ob_twin.specs.Register.{IsOpen, gate_at}
 use Rattle.ob_twin.specs.declared.gates.Gates.{Gates}
 use Rattle.ob_twin.specs.declared.gates.Open.{Open}
 use Rattle.ob_vault.specs.Acts.{is_answered}
-use Rattle.ob_vault.specs.Gated.{AreGatesBehind, AreGatesKnown, row_of_end}
+use Rattle.ob_recover.specs.Known.{gates_open}
+use Rattle.ob_serial.specs.VaultKinds.{Kind}
+use Rattle.ob_vault.specs.Gated.{AreGatesBehind, AreGatesKnown, ChainsKnowGates, FoundRunsKnowGenerations, RunsKnowGates, row_of_end}
 use Rattle.ob_vault.specs.RingVaults.{EndCalled, FetchCalled, HasPlanned, KeepsRun, RingCalled, Running, run_over, write_from}
 
 -- what is known of a register's gates is so where these have the same bytes
@@ -123,3 +126,62 @@ module _ {S : Type 0} (disk : S → Disk) (old new : Running S) (notes : List No
   pub refused_gated : (call : VaultCall) (answer : VaultAnswer) → AreGatesKnown old.run (disk old.store) → (s : RingStanding) → RunIsAt old.run s (disk old.store) → RingCalled disk old new notes call answer → is_answered answer ≡ false
       → (c : Content) (rs : List BatchRecord) → HasPlanned old.run c rs → (image : Image) → (disk new.store).may_leave image → AreGatesBehind old.run (disk old.store).cells (length (row_of_end old.run c rs) - length notes) call image
   refused_gated call answer known s at is refused c rs from image left = by_answer known s at c rs from image left call answer is refused
+
+-- ---- chains
+
+pub chains_known : {V S : Type 0} (k : Kind V) (disk : S → Disk) → ChainsKnowGates k disk
+chains_known k disk runs words first last [] known called answered =
+    subst (λ v. AreGatesKnown (runs v).run (disk (runs v).store) × ((((runs v).run).gates).generation ≡ (((runs first).run).gates).generation)) (sym called) (known, refl)
+chains_known k disk runs words first last (step ∷ steps) known (mid, one, rest) answered =
+    let here = calls_known disk (runs first) (runs mid) one.notes step.0 step.1 known (words.called first step.0 step.1 one.notes mid one.called) answered.0 in
+    let later = chains_known k disk runs words mid last steps here.0 rest answered.1 in
+    (later.0, later.1 ∙ here.1)
+
+-- ---- what an opening finds of the generations' register
+
+abbrev IsPlace : ℕ → Type 0
+IsPlace m = (m ≡ 0) ⊎ (m ≡ 1)
+
+two_places : (n : ℕ) → IsPlace (n % 2)
+two_places n = ⊎_elim (λ e. inl e) (λ ne. inr (omega arith)) (cases_eq (n % 2) 0)
+
+or_false : (b : Bool) → (b || false) ≡ b
+or_false true = refl
+or_false false = refl
+
+marked_generation : (gates : Gates) (m : ℕ) → IsPlace m → gates_open gates (1 + 2 * m + 1) ≡ is_marked gates.generation m
+marked_generation gates m (inl is) = subst (λ (n : ℕ). gates_open gates (1 + 2 * n + 1) ≡ is_marked gates.generation n) (sym is) (or_false ((gates.generation).zero || false) ∙ or_false (gates.generation).zero)
+marked_generation gates m (inr is) = subst (λ (n : ℕ). gates_open gates (1 + 2 * n + 1) ≡ is_marked gates.generation n) (sym is) (or_false (gates.generation).one)
+
+-- a gate that is known to be open stays so where another one is
+mark_stays : (known : Open) (a m : ℕ) → IsPlace a → IsPlace m → is_marked known m ≡ true → is_marked (with_mark known a) m ≡ true
+mark_stays known a m (inl x) (inl y) is = subst (λ (i : ℕ). is_marked (with_mark known i) m ≡ true) (sym x) (subst (λ (j : ℕ). is_marked (with_mark known 0) j ≡ true) (sym y) refl)
+mark_stays known a m (inl x) (inr y) is = subst (λ (i : ℕ). is_marked (with_mark known i) m ≡ true) (sym x) (subst (λ (j : ℕ). is_marked (with_mark known 0) j ≡ true) (sym y) (subst (λ (j : ℕ). is_marked known j ≡ true) y is))
+mark_stays known a m (inr x) (inl y) is = subst (λ (i : ℕ). is_marked (with_mark known i) m ≡ true) (sym x) (subst (λ (j : ℕ). is_marked (with_mark known 1) j ≡ true) (sym y) (subst (λ (j : ℕ). is_marked known j ≡ true) y is))
+mark_stays known a m (inr x) (inr y) is = subst (λ (i : ℕ). is_marked (with_mark known i) m ≡ true) (sym x) (subst (λ (j : ℕ). is_marked (with_mark known 1) j ≡ true) (sym y) refl)
+
+open_marked : (known : Open) (image : Image) (m : ℕ) → IsPlace m → GatesAre known 1 image → IsOpen 1 image m → is_marked known m ≡ true
+open_marked known image m (inl is) are = subst (λ (n : ℕ). IsOpen 1 image n → is_marked known n ≡ true) (sym is) (are.zero).1
+open_marked known image m (inr is) are = subst (λ (n : ℕ). IsOpen 1 image n → is_marked known n ≡ true) (sym is) (are.one).1
+
+pub generations_known : FoundRunsKnowGenerations
+generations_known keys p image f generation is stands next =
+    let found = is.found in
+    let known : Open = (found.gates).generation in
+    let own : ℕ = suc found.generation % 2 in
+    let begun : ((f.run).gates).generation ≡ with_mark known own = ap (λ (x : Gates). x.generation) (is.goes_on).gates in
+    let place : generation % 2 ≡ suc ((f.run).sealer).generation % 2 = omega (arith, next) in
+    let before : is_marked known (generation % 2) ≡ true = open_marked known image (generation % 2) (two_places generation) (is.found_in).generation_gates stands.open_at in
+    marked_generation (f.run).gates (suc ((f.run).sealer).generation % 2) (two_places (suc ((f.run).sealer).generation))
+    ∙ ap (λ (o : Open). is_marked o (suc ((f.run).sealer).generation % 2)) begun
+    ∙ subst (λ (m : ℕ). is_marked (with_mark known own) m ≡ true) place (mark_stays known own (generation % 2) (two_places (suc found.generation)) (two_places generation) before)
+
+-- both together
+pub runs_known : {V S : Type 0} (k : Kind V) (disk : S → Disk) → RunsKnowGates k disk
+runs_known k disk runs words keys p image f generation is stands next first last steps begun known called answered =
+    let there = chains_known k disk runs words first last steps known called answered in
+    let n : ℕ = suc ((f.run).sealer).generation in
+    let same : (((runs last).run).gates).generation ≡ ((f.run).gates).generation = there.1 ∙ ap (λ (x : Gates). x.generation) begun in (
+      there.0,
+      marked_generation ((runs last).run).gates (n % 2) (two_places n) ∙ ap (λ (o : Open). is_marked o (n % 2)) same ∙ sym (marked_generation (f.run).gates (n % 2) (two_places n)) ∙ generations_known keys p image f generation is stands next,
+    )

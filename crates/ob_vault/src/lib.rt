@@ -15,7 +15,10 @@ mod runs;
 mod vault;
 
 pub use acts::{calls_are_acts, ring_chains_are_runs, seals_are_public};
-pub use gates::{calls_know_gates, opened_runs_know_gates, refused_calls_leave_gates};
+pub use gates::{
+    calls_know_gates, chains_know_gates, found_runs_know_generations, opened_runs_know_gates,
+    refused_calls_leave_gates, runs_know_gates,
+};
 pub use lives::{
     calls_are_lives, calls_show_lives, chains_are_lives, openings_are_lives,
     openings_come_in_stages, stages_are_moments,
