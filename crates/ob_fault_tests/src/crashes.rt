@@ -195,23 +195,32 @@ pub fn expect_thirds<R: AllocGlobal + Threads + Wait + Sync + Abort>(
     cases
 }
 
+// How many cases there are behind each failing write and sync.
+fn count_cases<R: AllocGlobal + Threads + Wait + Sync + Abort>(rt: &R) -> u64 {
+    let mut cases: u64 = 0;
+    for call in 0..CALLS {
+        let next = behind_call(rt, call);
+        cases = expect_thirds(rt, &next, 11, cases);
+    }
+    cases
+}
+
 // Behind each failing write and sync what a crash leaves at once, and every eleventh crash of the
 // next run.
 #[test]
 fn each_failing_call_is_told_and_no_epoch_lost(rt: HostRuntime) {
-    let mut cases: u64 = 0;
-    for call in 0..CALLS {
-        cases = expect_thirds(&rt, &behind_call(&rt, call), 11, cases);
+    assert!(&rt; count_cases(&rt) > 18_000);
+}
+
+fn expect_images<R: AllocGlobal + Threads + Wait + Sync + Abort>(rt: &R, ran: &MemStore) {
+    for image in 0..IMAGES {
+        behind_crash(rt, ran, image);
     }
-    assert!(&rt; cases > 18_000);
 }
 
 #[test]
 fn a_crash_at_each_moment_leaves_one_of_two_epochs(rt: HostRuntime) {
-    let ran = ran(&rt);
-    for image in 0..IMAGES {
-        behind_crash(&rt, &ran, image);
-    }
+    expect_images(&rt, &ran(&rt));
 }
 
 // The next number of a row, below this one.

@@ -1,10 +1,7 @@
 //! Traces that have too little room: what is still done, and what is told.
 
-ghost use Rattle.std.specs.Prelude.{◌≡◌};
-ghost use Rattle.ob_mem.specs.Memory.{disk_of_store};
-
 use crate::playing::{
-    END, KEYS, WIDE, call_on, expect, formatted, left_after, lines_of, sink_of, source_of,
+    END, NEVER, WIDE, ask_for, call_on, expect, formatted, has, left_after, lines_of,
 };
 use ob_mem::{MemSink, MemStore};
 use std::process::Abort;
@@ -32,21 +29,6 @@ static RUNS: [&str; 4] = [
 // A script of an empty transaction.
 const EMPTY: &str = "client 1/begin/commit";
 
-// Makes a call, `(WORDS, SCRIPT)`, and answers its status.
-fn call_with<R: AllocGlobal + Threads + Wait + Sync + Abort>(
-    rt: &R,
-    store: &mut MemStore,
-    ask: (&str, &str),
-    output: &mut MemSink,
-    trace: &mut Option<MemSink>,
-) -> u8
-    requires { (disk_of_store store.old).out ≡ 0 }
-    ensures { (disk_of_store store.new).out ≡ 0 }
-{
-    let mut input = source_of(rt, lines_of(rt, ask.1).as_bytes(), &[]);
-    call_on(rt, store, (ask.0, Some(KEYS)), &mut input, output, trace)
-}
-
 // From how many bytes of room on a run of one epoch makes how many writes and syncs.
 static STEPS: [(usize, usize); 5] = [(0, 0), (6, 5), (127, 9), (179, 13), (246, 56)];
 
@@ -66,8 +48,9 @@ fn steps_of(room: usize) -> usize {
     made
 }
 
-// What is told of a run whose trace has so much room, where all would be told this.
-fn told_of<R: AllocGlobal + Abort>(rt: &R, room: usize, told: &str) -> String {
+// Whether the output has what is told of a run whose trace has so much room, where all would be told
+// this.
+fn is_told<R: AllocGlobal + Abort>(rt: &R, output: &MemSink, room: usize, told: &str) -> bool {
     let mut text = String::new(rt.alloc());
     if room >= ENDED {
         text.push_str(told).expect(rt, "memory");
@@ -75,7 +58,17 @@ fn told_of<R: AllocGlobal + Abort>(rt: &R, room: usize, told: &str) -> String {
     if room < WHOLE {
         text.push_str("fault: sink/").expect(rt, "memory");
     }
-    lines_of(rt, text.as_str())
+    has(rt, output, text.as_str())
+}
+
+// Whether this is the whole trace as far as there is so much room.
+fn is_cut<R: AllocGlobal + Abort>(rt: &R, trace: &Option<MemSink>, room: usize) -> bool {
+    let whole = lines_of(rt, TRACE);
+    let whole = whole.as_bytes();
+    match trace {
+        Some(trace) => trace.written() == &whole[..room.min(whole.len())],
+        None => false,
+    }
 }
 
 // What the next run is told: which epoch has ended tells how the one before went.
@@ -102,22 +95,17 @@ fn expect_cut<R: AllocGlobal + Threads + Wait + Sync + Abort>(
     room: usize,
 ) {
     let mut store = left_after(rt, made, END, None);
-    let mut output = sink_of(rt, WIDE, &[]);
-    let mut trace = Some(sink_of(rt, room, &[]));
-    let status = call_with(rt, &mut store, ask, &mut output, &mut trace);
-    assert!(rt; status == if room < WHOLE { 7 } else { 0 }, "{room}");
+    let mut ask = ask_for(ask.0, ask.1);
+    ask.trace = Some(room);
+    let answer = call_on(rt, &mut store, &ask);
+    let status = if room < WHOLE { 7 } else { 0 };
     assert!(rt;
-        output.written() == told_of(rt, room, told).as_bytes(),
+        answer.status == status
+            && is_told(rt, &answer.output, room, told)
+            && is_cut(rt, &answer.trace, room)
+            && store.moments() == steps_of(room),
         "{room}"
     );
-    let trace = trace.expect(rt, "a trace");
-    let whole = lines_of(rt, TRACE);
-    let whole = whole.as_bytes();
-    assert!(rt;
-        trace.written() == &whole[..room.min(whole.len())],
-        "{room}"
-    );
-    assert!(rt; store.moments() == steps_of(room), "{room}");
     expect_next(rt, &store, room >= ENDED);
 }
 
@@ -152,22 +140,22 @@ fn a_batch_of_its_own_is_delivered_behind_a_trace_that_ends(rt: HostRuntime) {
     expect_all_cut(&rt, "client 1/begin/get 5/commit", told);
 }
 
-// A report of which the output has room for so much, where the trace ends within the epoch's end.
+// A report of which the output has room for so much, and this write fails, where the trace ends
+// within the epoch's end.
 fn expect_short<R: AllocGlobal + Threads + Wait + Sync + Abort>(
     rt: &R,
     room: usize,
-    fails: &[u64],
+    bad_write: u64,
 ) {
     let mut store = formatted(rt, &[]);
-    let ask = (RUNS[1], EMPTY);
-    let mut output = sink_of(rt, room, fails);
-    let mut trace = Some(sink_of(rt, 300, &[]));
-    let status = call_with(rt, &mut store, ask, &mut output, &mut trace);
-    let told = output.written();
+    let mut ask = ask_for(RUNS[1], EMPTY);
+    (ask.room, ask.bad_write, ask.trace) = (room, bad_write, Some(300));
+    let answer = call_on(rt, &mut store, &ask);
+    let told = answer.output.written();
     let report = b"epoch 1\ntxn 1 client 1 committed\n";
-    assert!(rt; status == 7 && report.starts_with(told), "{room}");
+    let many = if bad_write == NEVER { room } else { 0 };
     assert!(rt;
-        told.len() == if fails.is_empty() { room } else { 0 },
+        answer.status == 7 && report.starts_with(told) && told.len() == many,
         "{room}"
     );
 }
@@ -175,18 +163,29 @@ fn expect_short<R: AllocGlobal + Threads + Wait + Sync + Abort>(
 #[test]
 fn no_fault_is_told_where_the_output_fails_too(rt: HostRuntime) {
     for room in [0, 1, 10, 32, 33] {
-        expect_short(&rt, room, &[]);
+        expect_short(&rt, room, NEVER);
     }
-    expect_short(&rt, WIDE, &[0]);
+    expect_short(&rt, WIDE, 0);
+}
+
+// Whether a sink is there that nothing was written to, and no write has failed.
+fn is_untouched(trace: &Option<MemSink>) -> bool {
+    match trace {
+        Some(trace) => trace.written().is_empty() && trace.faults() == 0,
+        None => false,
+    }
+}
+
+// A run that is handed a trace for which its words don't ask.
+fn expect_untraced<R: AllocGlobal + Threads + Wait + Sync + Abort>(rt: &R) {
+    let mut store = formatted(rt, &[]);
+    let mut ask = ask_for("run S K", EMPTY);
+    ask.trace = Some(WIDE);
+    let answer = call_on(rt, &mut store, &ask);
+    assert!(rt; answer.status == 0 && is_untouched(&answer.trace));
 }
 
 #[test]
 fn a_trace_without_the_option_is_left_as_it_is(rt: HostRuntime) {
-    let mut store = formatted(&rt, &[]);
-    let mut output = sink_of(&rt, WIDE, &[]);
-    let mut trace = Some(sink_of(&rt, WIDE, &[]));
-    let ask = ("run S K", EMPTY);
-    let status = call_with(&rt, &mut store, ask, &mut output, &mut trace);
-    let trace = trace.expect(&rt, "a trace");
-    assert!(&rt; status == 0 && trace.written().is_empty() && trace.faults() == 0);
+    expect_untraced(&rt);
 }

@@ -4,8 +4,6 @@ ghost use Rattle.std.specs.Prelude.{◌≡◌};
 ghost use Rattle.ob_mem.specs.Memory.{disk_of_store};
 
 use ob_desk::Eager;
-use ob_io::Sink;
-use ob_lanes::Lanes;
 use ob_mem::{Fail, MemSink, MemSource, MemStore};
 use ob_seal::ListTape;
 use ob_top::obladi;
@@ -65,16 +63,65 @@ pub fn lines_of<R: AllocGlobal + Abort>(rt: &R, text: &str) -> String {
     text.replace(rt.alloc(), "/", "\n").expect(rt, "memory")
 }
 
-/// A source of these bytes, of whose reads these fail.
-pub fn source_of<R: AllocGlobal + Abort>(rt: &R, bytes: &[u8], bad: &[u64]) -> MemSource {
-    let bytes = bytes.to_vec(rt.alloc()).expect(rt, "memory");
-    MemSource::new(bytes, bad.to_vec(rt.alloc()).expect(rt, "memory"))
+/// No call comes to this number.
+pub const NEVER: u64 = u64::MAX;
+
+/// What is asked for: the words, the keys, the script, in which a `/` stands for the end of a line,
+/// the read of it that fails, the write of the output that fails, the output's room, and the
+/// trace's, where there is one.
+#[derive(Clone, Copy)]
+pub struct Ask<'a> {
+    pub words: &'a str,
+    pub keys: Option<&'a str>,
+    pub script: &'a str,
+    pub bad_read: u64,
+    pub bad_write: u64,
+    pub room: usize,
+    pub trace: Option<usize>,
 }
 
-/// A sink with so much room, of whose writes these fail.
-pub fn sink_of<R: AllocGlobal + Abort>(rt: &R, room: usize, bad: &[u64]) -> MemSink {
-    let bad = bad.to_vec(rt.alloc()).expect(rt, "memory");
+/// These words and this script, under the keys, with wide room and no trace.
+pub fn ask_for<'a>(words: &'a str, script: &'a str) -> Ask<'a> {
+    Ask {
+        words,
+        keys: Some(KEYS),
+        script,
+        bad_read: NEVER,
+        bad_write: NEVER,
+        room: WIDE,
+        trace: None,
+    }
+}
+
+/// What a call answers: its status, the output and the trace.
+#[derive(Drop)]
+pub struct Answer {
+    pub status: u8,
+    pub output: MemSink,
+    pub trace: Option<MemSink>,
+}
+
+/// Whether a sink has just these lines.
+pub fn has<R: AllocGlobal + Abort>(rt: &R, sink: &MemSink, lines: &str) -> bool {
+    sink.written() == lines_of(rt, lines).as_bytes()
+}
+
+fn source_of<R: AllocGlobal + Abort>(rt: &R, script: &str, bad: u64) -> MemSource {
+    let bytes = lines_of(rt, script).as_bytes().to_vec(rt.alloc());
+    let bad = [bad].to_vec(rt.alloc()).expect(rt, "memory");
+    MemSource::new(bytes.expect(rt, "memory"), bad)
+}
+
+fn sink_of<R: AllocGlobal + Abort>(rt: &R, room: usize, bad: u64) -> MemSink {
+    let bad = [bad].to_vec(rt.alloc()).expect(rt, "memory");
     MemSink::new(rt.alloc(), room, bad).expect(rt, "memory")
+}
+
+fn trace_of<R: AllocGlobal + Abort>(rt: &R, room: Option<usize>) -> Option<MemSink> {
+    match room {
+        Some(room) => Some(sink_of(rt, room, NEVER)),
+        None => None,
+    }
 }
 
 // The words of a line.
@@ -86,31 +133,36 @@ fn words_of<'a, R: AllocGlobal + Abort>(rt: &R, line: &'a str) -> Vec<&'a str> {
     words
 }
 
-/// Makes a call, of these words and keys, over a store with a tape of zeros, and answers its status.
-pub fn call_on<R: AllocGlobal + Threads + Wait + Sync + Abort, S: Lanes, W: Sink>(
+/// Makes a call over a store with a tape of zeros.
+pub fn call_on<R: AllocGlobal + Threads + Wait + Sync + Abort>(
     rt: &R,
-    store: &mut S,
-    ask: (&str, Option<&str>),
-    input: &mut MemSource,
-    output: &mut MemSink,
-    trace: &mut Option<W>,
-) -> u8
-    requires { (S.disk store.old).out ≡ 0 }
-    ensures { (S.disk store.new).out ≡ 0 }
+    store: &mut MemStore,
+    ask: &Ask<'_>,
+) -> Answer
+    requires { (disk_of_store store.old).out ≡ 0 }
+    ensures { (disk_of_store store.new).out ≡ 0 }
 {
-    let words = words_of(rt, ask.0);
+    let words = words_of(rt, ask.words);
     let mut tape = ListTape::new(rt.alloc(), &[]).expect(rt, "memory");
-    obladi(
+    let mut input = source_of(rt, ask.script, ask.bad_read);
+    let mut output = sink_of(rt, ask.room, ask.bad_write);
+    let mut trace = trace_of(rt, ask.trace);
+    let status = obladi(
         rt,
         &words,
-        ask.1.map(str::as_bytes),
+        ask.keys.map(str::as_bytes),
         Some(store),
         &mut tape,
-        input,
+        &mut input,
+        &mut output,
+        &mut trace,
+        &mut Eager,
+    );
+    Answer {
+        status,
         output,
         trace,
-        &mut Eager,
-    )
+    }
 }
 
 /// Makes a call over a store with this script, and compares its status and what it tells.
@@ -125,15 +177,10 @@ pub fn expect<R: AllocGlobal + Threads + Wait + Sync + Abort>(
     requires { (disk_of_store store.old).out ≡ 0 }
     ensures { (disk_of_store store.new).out ≡ 0 }
 {
-    let mut input = source_of(rt, lines_of(rt, script).as_bytes(), &[]);
-    let mut output = sink_of(rt, WIDE, &[]);
-    let mut trace: Option<MemSink> = None;
-    let ask = (words, Some(KEYS));
-    let answer = call_on(rt, store, ask, &mut input, &mut output, &mut trace);
-    let wanted = lines_of(rt, told);
+    let answer = call_on(rt, store, &ask_for(words, script));
     assert!(rt;
-        answer == status && output.written() == wanted.as_bytes(),
-        "{words} {answer} {told}"
+        answer.status == status && has(rt, &answer.output, told),
+        "{words} {told}"
     );
     assert!(rt; store.starved() == 0);
 }

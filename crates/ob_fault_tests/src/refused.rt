@@ -2,10 +2,10 @@
 
 use crate::crashes::expect_next;
 use crate::playing::{
-    END, KEYS, ONE_EPOCH, PUT, READS, RUN, STEPS, WIDE, call_on, expect, formatted, left_after,
-    lines_of, made_before, sink_of, source_of,
+    END, NEVER, ONE_EPOCH, PUT, READS, RUN, STEPS, WIDE, ask_for, call_on, expect, formatted, has,
+    left_after, made_before,
 };
-use ob_mem::{Fail, MemSink, MemStore};
+use ob_mem::{Fail, MemStore};
 use std::process::Abort;
 use std::sync::Wait;
 use std::thread::Threads;
@@ -31,36 +31,34 @@ fn is_told<R: AllocGlobal + Threads + Wait + Sync + Abort>(
     steps: usize,
 ) -> bool {
     let mut store = formatted(rt, &[fail]);
-    let mut input = source_of(rt, lines_of(rt, PUT).as_bytes(), &[]);
-    let mut output = sink_of(rt, WIDE, &[]);
-    let mut trace: Option<MemSink> = None;
-    let status = call_on(
-        rt,
-        &mut store,
-        (words, Some(KEYS)),
-        &mut input,
-        &mut output,
-        &mut trace,
-    );
+    let answer = call_on(rt, &mut store, &ask_for(words, PUT));
     if store.faults() == 0 {
-        assert!(rt; status == 0 && output.written() == lines_of(rt, ONE_EPOCH).as_bytes());
-        assert!(rt; store.moments() == 72 + STEPS);
+        let ended = answer.status == 0 && has(rt, &answer.output, ONE_EPOCH);
+        assert!(rt; ended && store.moments() == 72 + STEPS);
         return false;
     }
-    assert!(rt; status == 5 && output.written() == b"fault: store\n".as_slice());
-    assert!(rt; store.moments() == steps.saturating_add(72), "{steps}");
+    let told = answer.status == 5 && has(rt, &answer.output, "fault: store/");
+    assert!(rt;
+        told && store.moments() == steps.saturating_add(72),
+        "{steps}"
+    );
     expect_not_ended(rt, &store);
     true
+}
+
+// Each read of a run, by these words.
+fn expect_reads<R: AllocGlobal + Threads + Wait + Sync + Abort>(rt: &R, words: &str) {
+    for place in 0..READS.len() {
+        let (cell, (writes, steps)) = (READS[place], made_before(place));
+        let fail = Fail::Read { cell, writes };
+        assert!(rt; is_told(rt, words, fail, steps), "{cell}");
+    }
 }
 
 #[test]
 fn each_failing_read_is_told(rt: HostRuntime) {
     for &words in &BY_LANES {
-        for place in 0..READS.len() {
-            let (cell, (writes, steps)) = (READS[place], made_before(place));
-            let fail = Fail::Read { cell, writes };
-            assert!(&rt; is_told(&rt, words, fail, steps), "{cell}");
-        }
+        expect_reads(&rt, words);
     }
 }
 
@@ -95,9 +93,6 @@ fn each_lane_that_cannot_be_had_is_told(rt: HostRuntime) {
 // what is written, how many writes and syncs are made, and whether the epoch has ended.
 type Ends = (u64, u64, usize, u8, &'static str, usize, bool);
 
-// No call comes to this number.
-const NEVER: u64 = u64::MAX;
-
 static ENDS: [Ends; 3] = [
     (NEVER, 0, WIDE, 7, "", STEPS, true),
     (NEVER, NEVER, 3, 7, "epo", STEPS, true),
@@ -106,21 +101,17 @@ static ENDS: [Ends; 3] = [
 
 // A run that ends so.
 fn expect_end<R: AllocGlobal + Threads + Wait + Sync + Abort>(rt: &R, row: &Ends) {
-    let (read, write, room, wanted, told, steps, ended) = *row;
+    let (bad_read, bad_write, room, status, told, steps, ended) = *row;
     let mut store = formatted(rt, &[]);
-    let mut input = source_of(rt, lines_of(rt, PUT).as_bytes(), &[read]);
-    let mut output = sink_of(rt, room, &[write]);
-    let mut trace: Option<MemSink> = None;
-    let status = call_on(
-        rt,
-        &mut store,
-        (RUN, Some(KEYS)),
-        &mut input,
-        &mut output,
-        &mut trace,
+    let mut ask = ask_for(RUN, PUT);
+    (ask.bad_read, ask.bad_write, ask.room) = (bad_read, bad_write, room);
+    let answer = call_on(rt, &mut store, &ask);
+    assert!(rt;
+        answer.status == status
+            && has(rt, &answer.output, told)
+            && store.moments() == steps.saturating_add(72),
+        "{told}"
     );
-    assert!(rt; status == wanted && output.written() == lines_of(rt, told).as_bytes());
-    assert!(rt; store.moments() == steps.saturating_add(72), "{told}");
     expect_next(rt, &mut store, 1 + ended as u64, ended);
 }
 

@@ -4,10 +4,8 @@ ghost use Rattle.std.specs.Prelude.{◌≡◌};
 ghost use Rattle.ob_mem.specs.Memory.{disk_of_store};
 
 use crate::harms::{harm_of, harm_store, number_of, parted};
-use crate::playing::{
-    CELLS, KEYS, WIDE, blank, call_on, expect, formatted, lines_of, sink_of, source_of,
-};
-use ob_mem::{Fail, MemSink, MemStore};
+use crate::playing::{Ask, CELLS, KEYS, NEVER, ask_for, blank, call_on, expect, formatted, has};
+use ob_mem::{Fail, MemStore};
 use std::process::Abort;
 use std::sync::Wait;
 use std::thread::Threads;
@@ -98,41 +96,50 @@ fn stand<R: AllocGlobal + Threads + Wait + Sync + Abort>(rt: &R, found: &str) ->
 }
 
 // The number of the call that fails: the first one, or none.
-fn bad_of(fails: bool) -> [u64; 1] {
-    [if fails { 0 } else { u64::MAX }]
+fn bad_of(fails: bool) -> u64 {
+    if fails { 0 } else { NEVER }
+}
+
+// A call, `WORDS < SCRIPT`, at what stands before it.
+fn ask_at<'a, R: Abort>(rt: &R, found: &str, call: &'a str) -> Ask<'a> {
+    let (words, script) = parted(rt, call, " < ");
+    let mut ask = ask_for(words, script);
+    ask.keys = match found {
+        "short" => Some(&KEYS[..190]),
+        "keyless" => None,
+        _ => Some(KEYS),
+    };
+    ask.bad_read = bad_of(found == "input");
+    ask.bad_write = bad_of(found == "output");
+    ask
 }
 
 // Plays a row: whether the store was written to, or synced.
 fn is_written<R: AllocGlobal + Threads + Wait + Sync + Abort>(rt: &R, line: &str) -> bool {
     let (found, row) = parted(rt, line, ": ");
     let (call, wanted) = parted(rt, row, " -> ");
-    let (words, script) = parted(rt, call, " < ");
     let (status, told) = parted(rt, wanted, " ");
-    let keys = match found {
-        "short" => Some(&KEYS[..190]),
-        "keyless" => None,
-        _ => Some(KEYS),
-    };
-    let script = lines_of(rt, script);
     let mut store = stand(rt, found);
     let before = store.moments();
-    let mut input = source_of(rt, script.as_bytes(), &bad_of(found == "input"));
-    let mut output = sink_of(rt, WIDE, &bad_of(found == "output"));
-    let mut trace: Option<MemSink> = None;
-    let ask = (words, keys);
-    let answer = call_on(rt, &mut store, ask, &mut input, &mut output, &mut trace);
+    let answer = call_on(rt, &mut store, &ask_at(rt, found, call));
+    let status = number_of(rt, status);
     assert!(rt;
-        answer as u64 == number_of(rt, status) && output.written() == lines_of(rt, told).as_bytes(),
-        "{line} {answer}"
+        answer.status as u64 == status && has(rt, &answer.output, told),
+        "{line}"
     );
     store.moments() != before
+}
+
+// Plays a row by which the store is neither written to nor synced.
+fn expect_idle<R: AllocGlobal + Threads + Wait + Sync + Abort>(rt: &R, line: &str) {
+    assert!(rt; !is_written(rt, line), "{line}");
 }
 
 // Want of memory alone, status 9, has no row: the store here has ample memory.
 #[test]
 fn each_refusal_of_words_is_told(rt: HostRuntime) {
     for row in WORDS.lines() {
-        assert!(&rt; !is_written(&rt, row), "{row}");
+        expect_idle(&rt, row);
     }
 }
 

@@ -4,9 +4,7 @@ ghost use Rattle.std.specs.Prelude.{◌≡◌};
 ghost use Rattle.ob_mem.specs.Memory.{disk_of_store};
 
 use crate::harms::{Harm, harm_store};
-use crate::playing::{
-    END, KEYS, PUT, WIDE, call_on, formatted, left_after, lines_of, sink_of, source_of,
-};
+use crate::playing::{Answer, END, PUT, WIDE, ask_for, call_on, formatted, has, left_after};
 use ob_mem::MemStore;
 use std::process::Abort;
 use std::sync::Wait;
@@ -23,22 +21,23 @@ fn expect_worn<R: AllocGlobal + Threads + Wait + Sync + Abort>(
 )
     requires { (disk_of_store store.old).out ≡ 0 }
 {
-    let mut input = source_of(rt, lines_of(rt, PUT).as_bytes(), &[]);
-    let mut output = sink_of(rt, WIDE, &[]);
-    let mut trace = Some(sink_of(rt, WIDE, &[]));
-    let words = "run S K --trace T";
-    let status = call_on(
-        rt,
-        store,
-        (words, Some(KEYS)),
-        &mut input,
-        &mut output,
-        &mut trace,
-    );
-    let told = b"fault: worn at 4611686018427387904\n";
-    assert!(rt; status == 8 && output.written() == told.as_slice());
+    let mut ask = ask_for("run S K --trace T", PUT);
+    ask.trace = Some(WIDE);
+    let Answer {
+        status,
+        output,
+        trace,
+    } = call_on(rt, store, &ask);
     let trace = trace.expect(rt, "a trace");
-    assert!(rt; trace.written() == lines_of(rt, shown).as_bytes());
+    assert!(rt; status == 8 && has(rt, &output, "fault: worn at 4611686018427387904/"));
+    assert!(rt; has(rt, &trace, shown));
+}
+
+// A store that was just formatted, with no call behind it.
+fn new_store<R: AllocGlobal + Threads + Wait + Sync + Abort>(rt: &R) -> MemStore
+    ensures { (disk_of_store result).out ≡ 0 }
+{
+    left_after(rt, &formatted(rt, &[]), END, None)
 }
 
 // The generation's register has it: the store is read, and neither written nor synced.
@@ -46,12 +45,16 @@ const READ: &str = "\
     O/R 0/R 1/R 2/R 3/R 4/R 5/R 6/R 7/R 8/R 17/R 18/R 19/R 20/R 21/R 22/R 23/R 24/R 25/R 26/R 27/\
     R 13/R 14/R 15/R 16/";
 
+fn expect_no_run<R: AllocGlobal + Threads + Wait + Sync + Abort>(rt: &R) {
+    let mut store = new_store(rt);
+    harm_store(rt, &mut store, Harm::Stamp(3, 0, LAST, 8));
+    expect_worn(rt, &mut store, READ);
+    assert!(rt; store.moments() == 1);
+}
+
 #[test]
 fn no_run_begins_behind_the_last_generation(rt: HostRuntime) {
-    let mut store = left_after(&rt, &formatted(&rt, &[]), END, None);
-    harm_store(&rt, &mut store, Harm::Stamp(3, 0, LAST, 8));
-    expect_worn(&rt, &mut store, READ);
-    assert!(&rt; store.moments() == 1);
+    expect_no_run(&rt);
 }
 
 // The epoch's register has it, and area 1 the checkpoint, which is that of a new store: the opening
@@ -61,14 +64,21 @@ const SHOWN: &str = "\
     R 9/R 10/R 11/R 12/S/W 1/S/W 2/S/W 9/S/W 10/S/L 0/R 41/R 46/R 56/L 0/R 42/R 47/R 57/W 11/S/\
     W 12/S/L 0/R 43/R 39/R 40/R 48/R 44/R 45/R 58/R 54/R 55/L 0/";
 
+fn wear<R: Abort>(rt: &R, store: &mut MemStore)
+    requires { (disk_of_store store.old).out ≡ 0 }
+    ensures { (disk_of_store store.new).out ≡ 0 }
+{
+    for i in 0..11 {
+        harm_store(rt, store, Harm::Move(17 + i, 28 + i));
+    }
+    harm_store(rt, store, Harm::Seal(28, 0, LAST, 8));
+    harm_store(rt, store, Harm::Stamp(7, 0, LAST, 8));
+    harm_store(rt, store, Harm::Open(8));
+}
+
 #[test]
 fn no_epoch_ends_behind_the_last(rt: HostRuntime) {
-    let mut store = left_after(&rt, &formatted(&rt, &[]), END, None);
-    for i in 0..11 {
-        harm_store(&rt, &mut store, Harm::Move(17 + i, 28 + i));
-    }
-    harm_store(&rt, &mut store, Harm::Seal(28, 0, LAST, 8));
-    harm_store(&rt, &mut store, Harm::Stamp(7, 0, LAST, 8));
-    harm_store(&rt, &mut store, Harm::Open(8));
+    let mut store = new_store(&rt);
+    wear(&rt, &mut store);
     expect_worn(&rt, &mut store, SHOWN);
 }
