@@ -17,8 +17,8 @@ const REFUSED: &str = "\
     keys run S K --trace T -> 5 fault: store/\n\
     keys run S K --mirror -> 2 fault: usage/\n\
     keys run S K --mirror M --mirror M -> 2 fault: usage/\n\
-    keys run S K --mirror M --trace T -> 2 fault: usage/\n\
-    none run --trace T S K --mirror=M --lanes 17 -> 2 fault: usage/\n\
+    keys run S K --mirror M --trace T -> 5 fault: store/\n\
+    none run --trace T S K --mirror=M --lanes 17 -> 2 fault: parameter LANES/\n\
     none run S K --mirror M --lanes 17 -> 2 fault: parameter LANES/\n\
     none run S K --mirror M -> 7 fault: source/\n\
     keys run S K --mirror M -> 5 fault: store/\n\
@@ -78,8 +78,8 @@ static WANTED: [(&str, Option<bool>, &str); 18] = [
     ("run S K --mirror M", Some(false), "M"),
     ("run --mirror M S K --turns", Some(false), "M"),
     ("run S K --mirror M --lanes 17", None, ""),
-    ("run S K --mirror M --trace T", None, ""),
-    ("run S K --trace T --mirror M", None, ""),
+    ("run S K --mirror M --trace T", Some(false), "TM"),
+    ("run S K --trace T --mirror M", Some(false), "TM"),
     ("format S K 8 2 2 3 2 2 2 2 8", Some(true), ""),
     ("format S K 8 2 2 3 2 2 2 2 8 --trace T", Some(true), "T"),
     ("format S K 8 2 2 3 2 2 2 2 8 --mirror M", None, ""),
@@ -94,8 +94,9 @@ fn expect_wanted<R: AllocGlobal + Abort>(rt: &R, line: &str, may_make: Option<bo
         Some(may_make) => (Some(("S", may_make)), Some("K")),
         None => (None, None),
     };
-    let trace = if beside == "T" { Some("T") } else { None };
-    let mirror = if beside == "M" { Some("M") } else { None };
+    let both = beside == "TM";
+    let trace = if both || beside == "T" { Some("T") } else { None };
+    let mirror = if both || beside == "M" { Some("M") } else { None };
     assert!(rt;
         paths.store == store
             && paths.keys == keys

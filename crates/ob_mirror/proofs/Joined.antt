@@ -34,10 +34,6 @@ pub all_as_far : {T E : Type 0} (events : List Event) (old new : Option (List Ev
 all_as_far events old new (Ok v) notes = notes
 all_as_far events old new (Err e) notes = all_first events old new notes
 
--- what a lane read as far as it went, its store has seen once it is back
-pub lane_first : (events : List Event) (old mid lane now new : Option (List Event)) → IsFreshLane old lane → Notes [] old mid → NotesFirst events lane now → NotesLane now mid new → NotesFirst events old new
-lane_first events old mid lane now new fresh still did back = (did.0, did.1, lane_noted (take did.0 events) old mid lane now new fresh still did.2 back)
-
 -- ---- the second half
 
 module _ (cells : ℕ) (a b c e f : Disk) (r : Result (Unit {0}) Failed) where
@@ -69,6 +65,11 @@ lane_cause before made now lane after le none rose on adds = omega arith
 pub copy_cause : (before made now lane after : ℕ) (Q : Type 0) → before ≤ made → lane ≡ 0 → made ≤ now → AddsFaults after made now → Rose lane after ⊎ Q → Rose before now ⊎ Q
 copy_cause before made now lane after Q le none on adds (inl rose) = inl (lane_cause before made now lane after le none rose on adds)
 copy_cause before made now lane after Q le none on adds (inr q) = inr q
+
+-- reads that may have been refused
+pub read_cause : (before made now lane after : ℕ) (r : Result (Unit {0}) Failed) → before ≤ made → lane ≡ 0 → made ≤ now → AddsFaults after made now → OnErr r (Rose lane after) → OnErr r (Rose before now)
+read_cause before made now lane after (Ok done) le none on adds rose = tt
+read_cause before made now lane after (Err failed) le none on adds rose = lane_cause before made now lane after le none rose on adds
 
 pub rest_on : (cells : ℕ) (b c f : Disk) → (b.tells → c.tells) → (b.tells → SameOff 0 cells c.cells b.cells) → Keeps c f → b.tells → SameOff 0 cells f.cells b.cells
 rest_on cells b c f tells rest kept t k off = kept.cells (tells t) k ∙ rest t k off

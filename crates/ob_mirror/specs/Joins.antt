@@ -1,7 +1,9 @@
 -- A second half that is made from the first.
 use Rattle.std.specs.Prelude.{◌≡◌, ◌<◌, ◌≤◌, ℕ, List, map, Option, Result, Ok, Err}
 use Rattle.ob_store.specs.declared.event.Event.{Event}
-use Rattle.ob_store.specs.declared.event.Event.TheVariants.{Read, Write}
+use Rattle.ob_store.specs.declared.event.Event.TheVariants.{Write}
+use Rattle.ob_store.specs.declared.watch.Note.{Note}
+use Rattle.ob_store.specs.declared.watch.Note.TheVariants.{Read}
 use Rattle.ob_store.specs.Disk.{Disk, Image}
 use Rattle.ob_store.specs.Images.{Same, Passes}
 use Rattle.ob_store.specs.Calls.{GoesOn, Keeps, Notes, NotesFirst}
@@ -19,11 +21,11 @@ pub record IsCopy (cells : ℕ) (first second : Disk) : Type 0 where
   pub reads : first.tells → second.tells → (k : ℕ) → k < cells → second.cells k ≡ first.cells k
   pub images : first.tells → second.tells → (c : Image) → second.may_leave c → (k : ℕ) → k < cells → c k ≡ first.cells k
 
--- a read of each of the first so many cells
-abbrev pub cell_reads : ℕ → List Event
-cell_reads cells = map (λ k. Read k) (from_on 0 cells)
+-- a read of each of so many cells, in rising order
+abbrev pub reads_from : (base count : ℕ) → List Note
+reads_from base count = map (λ k. Read k) (from_on base count)
 
--- a write of each of them
+-- a write of each of the first so many cells
 abbrev pub cell_writes : ℕ → List Event
 cell_writes cells = map (λ k. Write k) (from_on 0 cells)
 

@@ -6,6 +6,7 @@ mod joining;
 mod lane;
 mod mirror;
 mod places;
+mod reading;
 mod standing;
 
 pub use halves::Halves;
@@ -13,4 +14,5 @@ pub use joining::join;
 pub use lane::{MirrorLane, SecondLane};
 pub use mirror::Mirror;
 pub use places::Places;
+pub use reading::read_cells;
 pub use standing::{halves_follow, halves_stand};

@@ -8,6 +8,7 @@ use crate::spy::Spy;
 use crate::steps::{Step, new_spy, play, reads_as};
 use ob_mem::Fail;
 use ob_mirror::{Mirror, Places, join};
+use ob_store::Blind;
 use std::process::Abort;
 
 // Two stores of four cells: what fails in each (behind four writes and a sync), what is called of
@@ -145,7 +146,10 @@ fn each_half_is_asked_in_its_turn(rt: HostRuntime) {
         let row = &ROWS[i];
         let mut first = new_spy(&rt, rt.alloc(), [1, 2, 3, 4], row.fails_first);
         let mut second = new_spy(&rt, rt.alloc(), [0, 9, 0, 9], row.fails_second);
-        assert!(rt; join(&mut first, &mut second, 4).is_ok(), "row {i}");
+        assert!(rt;
+            join(&mut first, &mut second, 4, &mut Blind).is_ok(),
+            "row {i}"
+        );
         mirror_plays(&rt, &mut first, &mut second, row.steps);
         assert!(rt;
             are_asked(first.heard.as_slice(), &JOIN_FIRST, row.first),
@@ -196,7 +200,10 @@ fn a_refused_join_only_reads_the_first(rt: HostRuntime) {
         let row = &REFUSED[i];
         let mut first = new_spy(&rt, rt.alloc(), [1, 2, 3, 4], row.fails_first);
         let mut second = new_spy(&rt, rt.alloc(), [0, 9, 0, 9], row.fails_second);
-        assert!(rt; join(&mut first, &mut second, 4).is_err(), "row {i}");
+        assert!(rt;
+            join(&mut first, &mut second, 4, &mut Blind).is_err(),
+            "row {i}"
+        );
         assert!(rt;
             are_asked(first.heard.as_slice(), &[], row.first),
             "row {i}"

@@ -8,6 +8,7 @@ use crate::spy::Spy;
 use crate::steps::{Step, new_spy, play, reads_as};
 use ob_mem::{BareStore, MemStore};
 use ob_mirror::{Mirror, Places, join};
+use ob_store::Blind;
 use std::process::Abort;
 
 // What is called of a mirror whose halves have the bytes 1 to 4.
@@ -55,7 +56,7 @@ fn stands_alone(rt: &impl Abort, half: &Spy, began: usize) {
 fn each_half_stands_alone_at_each_moment(rt: HostRuntime) {
     let mut first = new_spy(&rt, rt.alloc(), [1, 2, 3, 4], &[]);
     let mut second = new_spy(&rt, rt.alloc(), [0, 9, 0, 9], &[]);
-    assert!(rt; join(&mut first, &mut second, 4).is_ok());
+    assert!(rt; join(&mut first, &mut second, 4, &mut Blind).is_ok());
     mirror_plays(&rt, &mut first, &mut second, STEPS);
     stands_alone(&rt, &first, FIRST_BEGAN);
     stands_alone(&rt, &second, SECOND_BEGAN);
@@ -74,7 +75,7 @@ const BARE: &[Step] = &[
 fn a_bare_store_is_mirrored(rt: HostRuntime) {
     let mut first = BareStore::new(rt.alloc(), 4).expect(&rt, "memory");
     let mut second = new_spy(&rt, rt.alloc(), [1, 2, 3, 4], &[]);
-    assert!(rt; join(&mut first, &mut second, 4).is_ok());
+    assert!(rt; join(&mut first, &mut second, 4, &mut Blind).is_ok());
     {
         let mut mirror = Mirror::over(&mut first, &mut second, Places::new());
         play(&rt, &mut mirror, BARE);

@@ -8,7 +8,7 @@ use crate::spy::Spy;
 use crate::steps::new_spy;
 use ob_mem::Fail;
 use ob_mirror::{Mirror, Places, join};
-use ob_store::Store;
+use ob_store::{Blind, Store};
 use std::alloc::Global;
 use std::process::Abort;
 
@@ -28,7 +28,7 @@ fn mirror_calls(first: &mut Spy, second: &mut Spy) -> Option<[bool; 4]>
     requires first { (disk_of_store first.old.store).out ≡ 0 }
     requires second { (disk_of_store second.old.store).out ≡ 0 }
 {
-    if join(first, second, 4).is_err() {
+    if join(first, second, 4, &mut Blind).is_err() {
         return None;
     }
     let mut mirror = Mirror::over(first, second, Places::new());

@@ -1,7 +1,13 @@
 -- What is left of the halves of a mirror, and what want of memory comes to.
-use Rattle.std.proofs.Common.{◌≡◌, ◌⊎◌, ℕ, ◌+◌, ◌-◌, ◌∷◌, List, Bool, false, Option, Some, None, inl, inr, refl, sym, ◌∙◌, subst, arith}
+use Rattle.std.proofs.Common.{◌≡◌, ◌≢◌, ◌⊎◌, ℕ, ◌+◌, ◌-◌, ◌∷◌, List, Bool, true, false, Option, Some, None, Result, Ok, Err, IfOk, MatchResult, inl, inr, refl, sym, ap, ◌∙◌, subst, arith}
+use Rattle.std.specs.Prelude.{is_some}
 use Rattle.std.specs.Borrow.{Bor, GName, MutBor}
-use Rattle.ob_base.specs.declared.fault.Fault.TheVariants.{Memory}
+use Rattle.ob_base.specs.declared.fault.Fault.{Fault}
+use Rattle.ob_base.specs.declared.fault.Fault.TheVariants.{Memory, Usage, BadScript, BadParams, NotStore, Damaged, StoreFault, StashFull, Worn, SourceFault, SinkFault}
+use Rattle.ob_base.specs.declared.fault.Field.{Field}
+use Rattle.ob_base.specs.declared.params.Params.{Params}
+use Rattle.ob_base.specs.declared.fault.Memory as wanting
+use Rattle.ob_mirrored.specs.declared.asked.MirrorRun.{MirrorRun}
 use Rattle.ob_desk.specs.Beats.{BeatKind}
 use Rattle.ob_io.specs.Streams.{Flow}
 use Rattle.ob_store.specs.Calls.{GoesOn}
@@ -9,11 +15,15 @@ use Rattle.ob_shares.specs.declared.shares.Shares.{Shares}
 use Rattle.ob_store.specs.Disk.{Disk, Image}
 use Rattle.ob_store.proofs.Serving.{goes_same}
 use Rattle.ob_mirror.specs.Mirrored.{Alike, Together}
-use Rattle.ob_words.specs.Reading.{AskedShares, run_asked}
-use Rattle.ob_words.specs.Work.{AreBadLanes, AreLanes, AreShares}
+use Rattle.ob_words.specs.Reading.{Asked, AskedShares, asked_by, format_asked, run_asked, audit_asked, drill_asked}
+use Rattle.ob_words.specs.declared.work.Command.TheVariants.{Format, Run}
+use Rattle.ob_words.specs.declared.work.Work.{Work}
+use Rattle.ob_words.specs.declared.work.Work.TheVariants.{Audit, Drill, OnStore}
+use Rattle.ob_words.specs.Work.{AreBadLanes, AreLanes, AreShares, AskFor, IsCommandOf, IsOutOfRange, IsRefusedFor}
+use Rattle.ob_top.specs.Begun.{AreFewLanes}
 use Rattle.ob_top.proofs.Headlines.{told_promised}
 use Rattle.ob_top.specs.Outside.{Given, IsOnlyTold, Left, Outside}
-use Rattle.ob_mirrored.specs.Asked.{AsksForMirror}
+use Rattle.ob_mirrored.specs.Asked.{AsksForMirror, IsAsked, IsMirrorAsked, IsRunOf, IsNoMirrorAsked, mirror_of}
 use Rattle.ob_mirrored.specs.Mirrored.{SecondIn, SecondStays, left_behind}
 use Rattle.ob_mirrored.specs.Tops.{TopDoes}
 
@@ -79,17 +89,110 @@ second_same two None none = tt
 
 -- ---- the words
 
-pub same_lanes : (words : List (List ℕ)) (one two : Option (List ℕ)) → AsksForMirror words one → AsksForMirror words two → one ≡ two
-same_lanes words one two a b =
-    let same : Some (run_asked a.store_path a.keys_path one a.turns a.trace (Some a.file) a.limits) ≡ Some (run_asked b.store_path b.keys_path two b.turns b.trace (Some b.file) b.limits) = sym a.asked ∙ b.asked in cc
+-- what the words ask for is one thing
+pub same_run : (words : List (List ℕ)) (one two : Option (List ℕ)) (a : AsksForMirror words one) (b : AsksForMirror words two) → (one ≡ two) × (a.turns ≡ b.turns) × (a.trace ≡ b.trace) × (a.limits ≡ b.limits)
+same_run words one two a b =
+    let same : Some (run_asked a.store_path a.keys_path one a.turns a.trace (Some a.file) a.limits) ≡ Some (run_asked b.store_path b.keys_path two b.turns b.trace (Some b.file) b.limits) = sym a.asked ∙ b.asked in (cc, cc, cc, cc)
+
+no_file : {A : Type 0} (x : A) → is_some (Some x) ≡ false → ⊥
+no_file x is = cc is
+
+-- a run with a mirror
+command_asks : (words : List (List ℕ)) (asked : Asked) (k : ℕ) (turns traced : Bool) (shares : Shares) → asked_by words ≡ Some asked → IsCommandOf asked (Run k turns traced true shares) → IsMirrorAsked words (record { lanes = k; turns = turns; traced = traced; shares = shares })
+command_asks words (run_asked store keys lanes by_hand trace (Some file) limits) k turns traced shares is (are, by, told, copied, given) = record {
+  lanes = lanes;
+  asks = record { store_path = store; keys_path = keys; turns = by_hand; trace = trace; file = file; limits = limits; asked = is };
+  own = record { in_range = are; turns = by; traced = told; shares = given };
+}
+command_asks words (run_asked store keys lanes by_hand trace None limits) k turns traced shares is (are, by, told, copied, given) = cc copied
+command_asks words (format_asked store keys numbers trace) k turns traced shares is of = absurd of
+command_asks words audit_asked k turns traced shares is of = absurd of
+command_asks words (drill_asked count) k turns traced shares is of = absurd of
+
+-- anything else asks for none
+run_alone : (words : List (List ℕ)) (asked : Asked) (k : ℕ) (turns traced : Bool) (shares : Shares) → asked_by words ≡ Some asked → IsCommandOf asked (Run k turns traced false shares) → IsNoMirrorAsked words
+run_alone words (run_asked store keys lanes by_hand trace mirror limits) k turns traced shares is (are, by, told, copied, given) own asks =
+    let same : ◌≡◌ {A = Option Asked} (Some (run_asked asks.store_path asks.keys_path own asks.turns asks.trace (Some asks.file) asks.limits)) (Some (run_asked store keys lanes by_hand trace mirror limits)) = sym asks.asked ∙ is in
+    let mirrors : Some asks.file ≡ mirror = cc same in
+    absurd (no_file asks.file (ap (λ (o : Option (List ℕ)). is_some o) mirrors ∙ sym copied))
+run_alone words (format_asked store keys numbers trace) k turns traced shares is of own asks = absurd of
+run_alone words audit_asked k turns traced shares is of own asks = absurd of
+run_alone words (drill_asked count) k turns traced shares is of own asks = absurd of
+
+other_asked : (words : List (List ℕ)) (asked : Asked) → asked_by words ≡ Some asked → ((store keys : List ℕ) (lanes : Option (List ℕ)) (turns : Bool) (trace mirror : Option (List ℕ)) (limits : AskedShares) → asked ≡ run_asked store keys lanes turns trace mirror limits → ⊥) → IsNoMirrorAsked words
+other_asked words asked is other own asks =
+    let same : ◌≡◌ {A = Option Asked} (Some asked) (Some (run_asked asks.store_path asks.keys_path own asks.turns asks.trace (Some asks.file) asks.limits)) = sym is ∙ asks.asked in
+    absurd (other asks.store_path asks.keys_path own asks.turns asks.trace (Some asks.file) asks.limits (cc same))
+
+format_alone : (words : List (List ℕ)) (asked : Asked) (p : Params) (traced : Bool) → asked_by words ≡ Some asked → IsCommandOf asked (Format p traced) → IsNoMirrorAsked words
+format_alone words (format_asked store keys numbers trace) p traced is of = other_asked words (format_asked store keys numbers trace) is (λ s k lanes turns t m limits same. cc same)
+format_alone words (run_asked store keys lanes by_hand trace mirror limits) p traced is of = absurd of
+format_alone words audit_asked p traced is of = absurd of
+format_alone words (drill_asked count) p traced is of = absurd of
+
+pub work_asks : (words : List (List ℕ)) (work : Work) → AskFor words work → IsAsked words (mirror_of work)
+work_asks words (OnStore (Run k turns traced true shares)) (asked, is, of) = command_asks words asked k turns traced shares is of
+work_asks words (OnStore (Run k turns traced false shares)) (asked, is, of) = run_alone words asked k turns traced shares is of
+work_asks words (OnStore (Format p traced)) (asked, is, of) = format_alone words asked p traced is of
+work_asks words Audit (asked, is, of) = other_asked words asked is (λ s k lanes turns t m limits same. cc (of, same))
+work_asks words (Drill n) (asked, is, (word, of, count)) = other_asked words asked is (λ s k lanes turns t m limits same. cc (of, same))
+
+-- words with a number out of its range ask for none, but for a number of lanes
+bad_lanes : (words : List (List ℕ)) (field : Field) (asked : Asked) → asked_by words ≡ Some asked → IsOutOfRange asked field → IsNoMirrorAsked words
+bad_lanes words field (run_asked store keys lanes by_hand trace mirror limits) is out =
+    λ own asks.
+    let same : ◌≡◌ {A = Option Asked} (Some (run_asked asks.store_path asks.keys_path own asks.turns asks.trace (Some asks.file) asks.limits)) (Some (run_asked store keys lanes by_hand trace mirror limits)) = sym asks.asked ∙ is in
+    let lanes_are : lanes ≡ own = cc same in
+    subst (λ (l : Option (List ℕ)). AreBadLanes l) lanes_are out.1
+bad_lanes words field (format_asked store keys numbers trace) is out = other_asked words (format_asked store keys numbers trace) is (λ s k lanes turns t m limits same. cc same)
+bad_lanes words field audit_asked is out = absurd out
+bad_lanes words field (drill_asked count) is out = other_asked words (drill_asked count) is (λ s k lanes turns t m limits same. cc same)
+
+-- nor do words that were refused, but for a number of lanes out of its range
+pub refusal_asks : (words : List (List ℕ)) (fault : Fault) → fault ≢ Memory → IsRefusedFor words fault → IsNoMirrorAsked words
+refusal_asks words Usage other none =
+    λ own asks. let none_asked : ◌≡◌ {A = Option Asked} None (Some (run_asked asks.store_path asks.keys_path own asks.turns asks.trace (Some asks.file) asks.limits)) = sym none ∙ asks.asked in absurd (cc none_asked)
+refusal_asks words (BadParams field) other (asked, is, out) = bad_lanes words field asked is out
+refusal_asks words Memory other refusal = absurd (other refl)
+refusal_asks words (BadScript line) other refusal = absurd refusal
+refusal_asks words NotStore other refusal = absurd refusal
+refusal_asks words (Damaged cell check kept computed) other refusal = absurd refusal
+refusal_asks words (StoreFault unsure) other refusal = absurd refusal
+refusal_asks words (StashFull rows) other refusal = absurd refusal
+refusal_asks words (Worn number) other refusal = absurd refusal
+refusal_asks words SourceFault other refusal = absurd refusal
+refusal_asks words SinkFault other refusal = absurd refusal
+
+pub refused_told : (words : List (List ℕ)) (fault : Fault) → IsRefusedFor words fault → (r : Result (Option MirrorRun) wanting.Memory) → MatchResult r (λ none. (none ≡ None) × (fault ≢ Memory)) (λ err. fault ≡ Memory) → IfOk r (λ run. IsAsked words run)
+refused_told words fault refusal (Ok run) (is, other) = subst (λ (o : Option MirrorRun). IsAsked words o) (sym is) (refusal_asks words fault other refusal)
+refused_told words fault refusal (Err wanting) is = tt
+
+-- so many lanes are few
+pub few_lanes : (lanes : Option (List ℕ)) (k : ℕ) → AreLanes lanes k → AreFewLanes k
+few_lanes None k are = (omega arith, omega arith)
+few_lanes (Some word) k are = (are.1, are.2)
 
 no_bad_lanes : (lanes : Option (List ℕ)) (k : ℕ) → AreLanes lanes k → AreBadLanes lanes → ⊥
 no_bad_lanes None k are bad = bad
 no_bad_lanes (Some word) k are bad = bad k are.1 are.2 are.0
 
 -- no number of lanes is in range, and that is what was told
-pub lanes_refused : {P P' Q Q' : Type 0} {R : ℕ → Shares → Type 0} {R' : ℕ → Type 0} (lanes : Option (List ℕ)) (limits : AskedShares) → AreBadLanes lanes
-    → P ⊎ ((AreBadLanes lanes × Q) ⊎ ((k : ℕ) × AreLanes lanes k × (shares : Shares) × AreShares limits shares × R k shares)) → (P → P') → (Q → Q') → P' ⊎ ((AreBadLanes lanes × Q') ⊎ ((k : ℕ) × AreLanes lanes k × R' k))
+pub lanes_refused : {P P' Q Q' R' : Type 0} {R : ℕ → Shares → Type 0} (lanes : Option (List ℕ)) (limits : AskedShares) → AreBadLanes lanes
+    → P ⊎ ((AreBadLanes lanes × Q) ⊎ ((k : ℕ) × AreLanes lanes k × (shares : Shares) × AreShares limits shares × R k shares)) → (P → P') → (Q → Q') → P' ⊎ ((AreBadLanes lanes × Q') ⊎ R')
 lanes_refused lanes limits bad (inl p) one two = inl (one p)
 lanes_refused lanes limits bad (inr (inl (worse, q))) one two = inr (inl (bad, two q))
 lanes_refused lanes limits bad (inr (inr (k, are, shares, given, r))) one two = absurd (no_bad_lanes lanes k are bad)
+
+-- so it is the run that is asked for
+pub is_run : (words : List (List ℕ)) (lanes : Option (List ℕ)) (asks : AsksForMirror words lanes) (run : MirrorRun) → IsMirrorAsked words run → IsRunOf asks run
+is_run words lanes asks run is =
+    let (same, turns, trace, limits) = same_run words is.lanes lanes is.asks asks in
+    record {
+      in_range = subst (λ (l : Option (List ℕ)). AreLanes l run.lanes) same is.own.in_range;
+      turns = is.own.turns ∙ turns;
+      traced = is.own.traced ∙ ap (λ (o : Option (List ℕ)). is_some o) trace;
+      shares = subst (λ (l : AskedShares). AreShares l run.shares) limits is.own.shares;
+    }
+
+pub has_trace : {W : Type 0} (was : Option W) (w : W) → was ≡ Some w → was ≡ None → ⊥
+has_trace was w some none = let both : Some w ≡ None = sym some ∙ none in cc both

@@ -10,6 +10,7 @@ use Rattle.ob_stand.specs.Stands.{RingStanding}
 use Rattle.ob_stand.specs.Stands as ring
 use Rattle.ob_stand.proofs.Frames.{stands_frame}
 use Rattle.ob_store.specs.Disk.{Disk, Image}
+use Rattle.ob_store.specs.Lines.{Trace}
 use Rattle.ob_tables.specs.Buckets.{version_at}
 use Rattle.ob_tables.specs.Version.{rank_at}
 use Rattle.ob_vault.specs.Kinds.{Stands}
@@ -62,8 +63,8 @@ module _ {X A B : Type 0} (disk : X → Disk) (first_of : X → A) (second_of : 
     (leaves : (x : X) → (one (first_of x)).leaves → (two (second_of x)).leaves → (disk x).leaves) (cells : (x : X) → (disk x).cells ≡ (one (first_of x)).cells)
     (images : (x : X) (c : Image) → (disk x).may_leave c → (one (first_of x)).may_leave c ⊎ (two (second_of x)).may_leave c) where
   module _ (keys : Keys) (p : Params) (at : Standing) (past : PastLife) (tape : Given) (a : A) (b : B) (x : X) (stood : Stood one keys p at past tape a) where
-    stood_with : AreJoined keys p (one a) (one (first_of x)) (two b) (two (second_of x)) → (two b).tells → (two b).leaves → (disk x).tells → Stood disk keys p at past tape x
-    stood_with joined tells leave all =
+    stood_with : (t u : Trace) → AreJoined keys p one a (first_of x) (two b) (two (second_of x)) t u → (two b).tells → (two b).leaves → (disk x).tells → Stood disk keys p at past tape x
+    stood_with t u joined tells leave all =
         let was = (one a).cells in
         let now = (one (first_of x)).cells in
         let kept : (k : ℕ) → k < ring_cells p → now k ≡ was k = λ k lt. joined.first.keeps.cells stood.tells.0 k in
@@ -79,6 +80,6 @@ module _ {X A B : Type 0} (disk : X → Disk) (first_of : X → A) (second_of : 
           words = stood.words;
         }
 
-    pub stood_joined : (q : Params) → AreJoined keys q (one a) (one (first_of x)) (two b) (two (second_of x)) → (two b).tells → (two b).leaves → (disk x).tells → Stood disk keys p at past tape x
-    stood_joined q joined = subst (λ (r : Params). AreJoined keys r (one a) (one (first_of x)) (two b) (two (second_of x)) → (two b).tells → (two b).leaves → (disk x).tells → Stood disk keys p at past tape x)
-        (sym (ring_keeps.one_head keys q p ((one a).cells 0) (joined.head stood.tells.0) (let (g, is) = stood.is_at.stands in ring_keeps.has_head keys p g (one a).cells at is))) stood_with joined
+    pub stood_joined : (q : Params) (t u : Trace) → AreJoined keys q one a (first_of x) (two b) (two (second_of x)) t u → (two b).tells → (two b).leaves → (disk x).tells → Stood disk keys p at past tape x
+    stood_joined q t u joined = subst (λ (r : Params). AreJoined keys r one a (first_of x) (two b) (two (second_of x)) t u → (two b).tells → (two b).leaves → (disk x).tells → Stood disk keys p at past tape x)
+        (sym (ring_keeps.one_head keys q p ((one a).cells 0) (joined.head.head stood.tells.0) (let (g, is) = stood.is_at.stands in ring_keeps.has_head keys p g (one a).cells at is))) (stood_with t u) joined

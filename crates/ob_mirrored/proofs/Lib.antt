@@ -2,3 +2,6 @@ mod OfHalves
 mod Doing
 mod Telling
 mod Joining
+mod Copied
+mod Anchored
+mod Ending

@@ -1,17 +1,20 @@
 -- What the top call does of a store and a second one.
-use Rattle.std.specs.Prelude.{◌≡◌, ◌⊎◌, ℕ, List, Option, Some, None}
+use Rattle.std.specs.Prelude.{◌≡◌, ◌⊎◌, ℕ, Bool, true, false, not, List, Option, Some, None}
 use Rattle.std.specs.Borrow.{Bor, MutBor}
 use Rattle.std.proofs.Common.{inl, inr}
 use Rattle.ob_base.specs.declared.fault.Fault.{Fault}
-use Rattle.ob_base.specs.declared.fault.Fault.TheVariants.{BadParams, Memory, StoreFault}
+use Rattle.ob_base.specs.declared.fault.Fault.TheVariants.{BadParams, Memory, SinkFault, StoreFault}
 use Rattle.ob_base.specs.declared.fault.Field.TheVariants.{LANES}
 use Rattle.ob_desk.specs.Beats.{BeatKind}
 use Rattle.ob_io.specs.Streams.{Flow}
 use Rattle.ob_seal.specs.declared.keys.Keys.{Keys}
 use Rattle.ob_store.specs.Disk.{Disk}
-use Rattle.ob_words.specs.Work.{AreBadLanes, AreLanes, HasKeys, IsKeysRefused}
-use Rattle.ob_top.specs.Outside.{Given, IsOnlyTold, Left, OfStore, Outside}
-use Rattle.ob_mirrored.specs.Asked.{AsksForMirror}
+use Rattle.ob_store.specs.Lines.{Trace, open_line}
+use Rattle.ob_words.specs.Work.{AreBadLanes, HasKeys, IsKeysRefused}
+use Rattle.ob_top.specs.Outside.{Given, HasTrace, IsOnlyTold, Left, OfStore, Outside, blind}
+use Rattle.ob_top.specs.Parts.{Manner, manner}
+use Rattle.ob_mirrored.specs.Asked.{AsksForMirror, IsRunOf}
+use Rattle.ob_mirrored.specs.declared.asked.MirrorRun.{MirrorRun}
 use Rattle.ob_mirrored.specs.Over.{OverBoth}
 use Rattle.ob_mirrored.specs.Tops.{TopDoes}
 
@@ -35,7 +38,29 @@ SecondStays two first last = OfSecond first last (Unit {0}) (λ b d. (two d).out
 abbrev pub StoreStays : {S : Type 0} → (S → Disk) → Option (MutBor S) → Left S → Type 0
 StoreStays disk entry exit = OfStore entry exit (Unit {0}) (λ old new. (disk new).out ≡ 0)
 
-module _ {X A B W : Type 0} (disk : X → Disk) (first_of : X → A) (second_of : X → B) (one : A → Disk) (two : B → Disk) (flow : W → Flow) (beat : BeatKind) (words : List (List ℕ)) (text : Option (Bor (List ℕ))) (entry : Option (MutBor A)) (exit : Left A) (first last : Option B) (was is : Option W)
+-- a trace is asked for, and none was handed in
+abbrev pub LacksTrace : {W : Type 0} → Option W → (traced : Bool) → Type 0
+LacksTrace was true = was ≡ None
+LacksTrace was false = ⊥
+
+module _ {X A B W : Type 0} (disk : X → Disk) (first_of : X → A) (second_of : X → B) (one : A → Disk) (two : B → Disk) (flow : W → Flow) (was is : Option W) (before after : Outside) (status : ℕ) (tape : Given) where
+  -- Nothing was touched but the output, and this was told.
+  abbrev pub LeavesBoth : (a c : A) → (first last : Option B) → Fault → Type 0
+  LeavesBoth a c first last fault = (c ≡ a) × (last ≡ first) × (is ≡ was) × IsOnlyTold fault before after status
+
+  -- Without `--trace` the trace is as it was. With it its first line, which tells of the mirror, is written first: where that broke it the output's
+  -- fault is told, before either store is touched; else both are run over under a watch of it.
+  abbrev pub UnderTrace : (traced : Bool) → Manner → Keys → (a c : A) → (b d : B) → Type 0
+  UnderTrace false by keys a c b d = (is ≡ was) × OverBoth disk first_of second_of one two by before after status tape keys a c b d blind blind
+  UnderTrace true by keys a c b d = (t : Trace) × (u : Trace) × HasTrace flow (open_line true) was is t u × (((t.broken ≡ true) × (u ≡ t) × (c ≡ a) × (d ≡ b) × IsOnlyTold SinkFault before after status)
+      ⊎ ((t.broken ≡ false) × OverBoth disk first_of second_of one two by before after status tape keys a c b d t u))
+
+  -- That no trace was handed in though one is asked for is told, and then that there is no second store, before anything is touched.
+  abbrev pub BothDo : (traced : Bool) → Manner → Keys → (a c : A) → (first last : Option B) → Type 0
+  BothDo traced by keys a c first last = (LacksTrace was traced × LeavesBoth a c first last SinkFault)
+      ⊎ ((LacksTrace was traced → ⊥) × OfSecond first last (LeavesBoth a c first last (StoreFault None)) (λ b d. UnderTrace traced by keys a c b d))
+
+module _ {X A B W : Type 0} (disk : X → Disk) (first_of : X → A) (second_of : X → B) (one : A → Disk) (two : B → Disk) (flow : W → Flow) (text : Option (Bor (List ℕ))) (entry : Option (MutBor A)) (exit : Left A) (first last : Option B) (was is : Option W)
     (before after : Outside) (status : ℕ) (tape : Given) where
   -- Nothing was touched but the output, and this was told.
   abbrev pub RefusesBoth : Fault → Type 0
@@ -45,15 +70,17 @@ module _ {X A B W : Type 0} (disk : X → Disk) (first_of : X → A) (second_of 
   abbrev pub KeysRefused : Type 0
   KeysRefused = (fault : Fault) × IsKeysRefused text fault × RefusesBoth fault
 
-  -- A run with a mirror, the numbers being in range: what is wrong with the keys is told, then that there is no store or no second one, before
-  -- anything is touched. Else the head of the first is read, both are joined, and it is run over both.
-  abbrev pub MirrorDoes : Type 0
-  MirrorDoes = KeysRefused ⊎ ((keys : Keys) × HasKeys text keys × OfStore entry exit (RefusesBoth (StoreFault None)) (λ a c. OfSecond first last (RefusesBoth (StoreFault None)) (λ b d.
-      OverBoth disk first_of second_of one two flow beat words text was is before after status tape keys a c b d)))
+  -- A run with a mirror, the numbers being in range: what is wrong with the keys is told, then that there is no store, before anything is touched.
+  -- Else, where a trace that is asked for and a second store are there too, the head of the first is read, both are joined, and it is run over both.
+  abbrev pub MirrorDoes : (traced : Bool) → Manner → Type 0
+  MirrorDoes traced by = KeysRefused ⊎ ((keys : Keys) × HasKeys text keys × OfStore entry exit (RefusesBoth (StoreFault None)) (λ a c.
+      BothDo disk first_of second_of one two flow was is before after status tape traced by keys a c first last))
 
-  -- Before that want of memory for the words is told, and then lanes out of their range.
-  abbrev pub MirroredDoes : Type 0
-  MirroredDoes = (lanes : Option (List ℕ)) → AsksForMirror words lanes → RefusesBoth Memory ⊎ ((AreBadLanes lanes × RefusesBoth (BadParams LANES)) ⊎ ((k : ℕ) × AreLanes lanes k × MirrorDoes))
+  -- Before that want of memory for the words is told, and then lanes out of their range. With `--turns` all clients are made by hand; so many
+  -- lanes share a phase's reads; and each client has these shares.
+  abbrev pub MirroredDoes : BeatKind → List (List ℕ) → Type 0
+  MirroredDoes beat words = (lanes : Option (List ℕ)) (asks : AsksForMirror words lanes) → RefusesBoth Memory ⊎ ((AreBadLanes lanes × RefusesBoth (BadParams LANES))
+      ⊎ ((run : MirrorRun) × IsRunOf asks run × MirrorDoes run.traced (manner beat (not run.turns) run.lanes run.shares)))
 
 -- Words that ask for no mirror: the top call does what it does, and the second store is as it was.
 abbrev pub AloneDoes : {S B W : Type 0} → (S → Disk) → (W → Flow) → BeatKind → List (List ℕ) → Option (Bor (List ℕ)) → Option (MutBor S) → Left S → (first last : Option B) → (was is : Option W) → (before after : Outside) → (status : ℕ) → (tape : Given) → Type 0

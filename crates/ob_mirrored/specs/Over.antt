@@ -1,95 +1,132 @@
 -- What is done over a mirror, and what is left of its halves.
-use Rattle.std.specs.Prelude.{◌≡◌, ◌⊎◌, ℕ, List, ◌∷◌, ◌++◌, [], Option, Some, None, Ok, Err}
-use Rattle.std.specs.Borrow.{Bor, MutBor}
-use Rattle.std.proofs.Common.{inl, inr}
+use Rattle.std.specs.Prelude.{◌≡◌, ◌⊎◌, ℕ, true, false, List, ◌∷◌, ◌++◌, [], Option, Some, None}
+use Rattle.std.specs.Borrow.{Bor}
 use Rattle.ob_base.specs.Causes.{Rose}
 use Rattle.ob_base.specs.Layout.{ring_cells}
-use Rattle.ob_base.specs.declared.fault.Fault.{Fault}
 use Rattle.ob_base.specs.declared.fault.Fault.TheVariants.{StoreFault}
 use Rattle.ob_base.specs.declared.params.Params.{Params}
-use Rattle.ob_desk.specs.Beats.{BeatKind}
+use Rattle.ob_conduct.specs.declared.run_err.RunErr.{RunErr}
+use Rattle.ob_conduct.specs.declared.run_err.RunErr.TheVariants as failed
 use Rattle.ob_io.specs.Streams.{Flow}
-use Rattle.ob_mirror.specs.Joins.{IsCopy, IsOnlyRead, cell_reads, cell_writes}
+use Rattle.ob_mirror.specs.Joins.{IsCopy, IsOnlyRead, cell_writes, reads_from}
 use Rattle.ob_mirror.specs.Mirrored.{Alike}
 use Rattle.ob_mirror.specs.Standing.{EachStands}
+use Rattle.ob_script.specs.Script.{Scripts}
 use Rattle.ob_seal.specs.declared.keys.Keys.{Keys}
-use Rattle.ob_start.specs.Heads.{IsHeadFault, IsHeadRead}
-use Rattle.ob_store.specs.Calls.{GoesOn, IsStoreFault, Notes, NotesFirst, NotesReads}
+use Rattle.ob_serial.specs.Vaults.{Standing}
+use Rattle.ob_shares.specs.declared.shares.Shares.{Shares}
+use Rattle.ob_store.specs.Calls.{GoesOn, Notes, NotesFirst}
 use Rattle.ob_store.specs.Disk.{Disk}
 use Rattle.ob_store.specs.Images.{Passes, SameOff}
-use Rattle.ob_store.specs.declared.event.Event.TheVariants.{Read, Sync}
-use Rattle.ob_top.specs.Outside.{Given, IsOnlyTold, Outside}
+use Rattle.ob_store.specs.Lines.{Trace}
+use Rattle.ob_store.specs.Told.{Tells, TellsFirst}
+use Rattle.ob_store.specs.declared.event.Event.TheVariants.{Sync}
+use Rattle.ob_store.specs.declared.watch.Note.{Note}
+use Rattle.ob_top.specs.Begun.{EndsAtHead, HasReadHead}
+use Rattle.ob_top.specs.Complete.{CanRun, StopsFull}
+use Rattle.ob_top.specs.Headline.{Stood}
+use Rattle.ob_top.specs.Outside.{Given, IsCommandFinished, Outside}
+use Rattle.ob_top.specs.Parts.{Manner, reading}
+use Rattle.ob_top.specs.Pasts.{PastLife}
+use Rattle.ob_top.specs.Promised.{Promised}
+use Rattle.ob_top.specs.Runs.{RunDone}
+use Rattle.ob_vault.specs.RingKind.{ring_kind}
+use Rattle.ob_vault.specs.RingLives.{ring_lives}
 use Rattle.ob_mirrored.specs.Halves.{HalfKeeps}
-use Rattle.ob_mirrored.specs.Tops.{TopDoes}
 
--- no lane of either is out
-abbrev pub NoLaneOut : Disk → Disk → Type 0
-NoLaneOut one two = (one.out ≡ 0) × (two.out ≡ 0)
+-- What is read of the first half behind its head, and shown: the register of the epoch, by which nothing is decided so far, and then each cell.
+abbrev pub join_notes : Params → List Note
+join_notes p = reads_from 5 4 ++ reads_from 0 (ring_cells p)
 
--- The head of the first was refused, for its cause, and that is told. The first was only read, and the second wasn't touched.
-pub record HeadRefused {B : Type 0} (keys : Keys) (one then : Disk) (b d : B) (before after : Outside) (status : ℕ) : Type 0 where
-  pub fault : Fault
-  pub kind : IsHeadFault fault
-  pub read : one.tells → IsHeadRead keys 1 (one.cells 0) (Err fault)
-  pub cause : IsStoreFault fault → Rose one.faults then.faults
-  pub first : IsOnlyRead one then
-  pub seen : NotesReads {V = Params} (Read 0 ∷ []) one.seen then.seen (Err fault)
+-- The head of the first was refused, or the watch broke at its read. The first was only read, and the second wasn't touched.
+pub record HeadRefused {B : Type 0} (keys : Keys) (one then : Disk) (b d : B) (t u : Trace) (err : RunErr) : Type 0 where
+  pub ends : (most : ℕ) (shares : Shares) (input : Flow) → EndsAtHead keys most shares one then t u input input err
   pub second : d ≡ b
-  pub told : IsOnlyTold fault before after status
 
--- The head is that of a store with these parameters.
-abbrev pub HasHead : Keys → Params → Disk → Type 0
-HasHead keys p one = one.tells → IsHeadRead keys 1 (one.cells 0) (Ok p)
-
--- The join was refused, for a fault of either, and that is told. The first was only read; of the second other cells than the first's are as they
--- were.
-pub record JoinRefused (keys : Keys) (one then two last : Disk) (before after : Outside) (status : ℕ) : Type 0 where
+-- The join was refused, for a fault of either. The first was only read; of the second other cells than the first's are as they were.
+pub record JoinRefused {A : Type 0} (keys : Keys) (one : A → Disk) (a c : A) (two last : Disk) (t u : Trace) (err : RunErr) : Type 0 where
+  pub is : err ≡ failed.Fault (StoreFault None)
   pub p : Params
-  pub head : HasHead keys p one
-  pub first : IsOnlyRead one then
-  pub seen : NotesFirst (Read 0 ∷ cell_reads (ring_cells p)) one.seen then.seen
+  pub read : A
+  pub between : Trace
+  pub head : HasReadHead keys p (one a) (one read) t between
+  pub first : IsOnlyRead (one a) (one c)
+  pub does : TellsFirst (join_notes p) (one read).seen (one c).seen between u
   pub second : GoesOn two last
   pub second_seen : NotesFirst (cell_writes (ring_cells p) ++ Sync ∷ []) two.seen last.seen
   pub second_passes : Passes (SameOff 0 (ring_cells p)) two last
-  pub cause : Rose one.faults then.faults ⊎ Rose two.faults last.faults
-  pub told : IsOnlyTold (StoreFault None) before after status
+  pub cause : Rose (one a).faults (one c).faults ⊎ Rose two.faults last.faults
 
--- The second half was made from the first. That was only read; the second has each cell of its store, whatever a crash does.
-pub record AreJoined (keys : Keys) (p : Params) (one then two last : Disk) : Type 0 where
-  pub head : HasHead keys p one
-  pub first : IsOnlyRead one then
-  pub seen : Notes (Read 0 ∷ cell_reads (ring_cells p)) one.seen then.seen
+-- The second half was made from the first. That was only read; the second has each cell of its store, whatever a crash does. Behind the head's
+-- read the watch was whole.
+pub record AreJoined {A : Type 0} (keys : Keys) (p : Params) (one : A → Disk) (a c : A) (two last : Disk) (t u : Trace) : Type 0 where
+  pub read : A
+  pub between : Trace
+  pub head : HasReadHead keys p (one a) (one read) t between
+  pub first : IsOnlyRead (one a) (one c)
+  pub does : Tells (join_notes p) (join_notes p) (one read).seen (one c).seen between u
   pub second : GoesOn two last
   pub second_seen : Notes (cell_writes (ring_cells p) ++ Sync ∷ []) two.seen last.seen
   pub second_passes : Passes (SameOff 0 (ring_cells p)) two last
   pub second_tells : two.tells → last.tells
-  pub copied : IsCopy (ring_cells p) then last
+  pub copied : IsCopy (ring_cells p) (one c) last
 
--- What the words ask for was done over a mirror of these two halves, which are left so. The mirror was whole when it was lent, and tells its
--- cells where both do and read alike; and of it the top call says all that it says of a store. What a crash leaves of either half alone, at any
+-- They were joined, and the watch had broken by then.
+pub record BreaksInJoin {A : Type 0} (keys : Keys) (one : A → Disk) (a c : A) (two last : Disk) (t u : Trace) (err : RunErr) : Type 0 where
+  pub is : err ≡ failed.Unwatched
+  pub p : Params
+  pub joined : AreJoined keys p one a c two last t u
+  pub broken : u.broken ≡ true
+
+-- why nothing is run over both
+abbrev pub AreUnjoined : {A B : Type 0} → Keys → (A → Disk) → (B → Disk) → A → A → B → B → Trace → Trace → RunErr → Type 0
+AreUnjoined keys one two a c b d t u err = HeadRefused keys (one a) (one c) b d t u err ⊎ (JoinRefused keys one a c (two b) (two d) t u err ⊎ BreaksInJoin keys one a c (two b) (two d) t u err)
+
+-- A script was run over a mirror of these two halves, which are left so: of the mirror all is told that is told of a store whose head was read
+-- before. The mirror was whole when it was lent, and tells its cells where both do and read alike. What a crash leaves of either half alone, at any
 -- moment since then, is what it leaves of the mirror: so what the headline says of the mirror's images is true of those of each half.
-module _ {X A B W : Type 0} (disk : X → Disk) (first_of : X → A) (second_of : X → B) (one : A → Disk) (two : B → Disk) (flow : W → Flow) (beat : BeatKind) (words : List (List ℕ)) (text : Option (Bor (List ℕ))) (was is : Option W) (before after : Outside) (status : ℕ) (tape : Given) where
-  pub record IsDoneOver (a c : A) (b d : B) : Type 0 where
-    pub lent : MutBor X
-    pub left : MutBor X
-    pub first : first_of lent.now ≡ a
-    pub second : second_of lent.now ≡ b
-    pub tells : (one a).tells → (two b).tells → Alike (one a) (two b) → (disk lent.now).tells
-    pub first_left : first_of left.now ≡ c
-    pub second_left : second_of left.now ≡ d
-    pub does : TopDoes disk flow beat words text (Some lent) (inr (inl (left, tt))) was is before after status tape
-    pub each : EachStands (one (first_of lent.now)) (one (first_of left.now)) (two (second_of lent.now)) (two (second_of left.now)) (disk lent.now) (disk left.now)
+module _ {X A B : Type 0} (disk : X → Disk) (first_of : X → A) (second_of : X → B) (one : A → Disk) (two : B → Disk) (by : Manner) (before after : Outside) (status : ℕ) (tape : Given) (keys : Keys) where
+  pub record IsDoneOver (a c : A) (b d : B) (t u : Trace) : Type 0 where
+    pub lent : X
+    pub left : X
+    pub first : first_of lent ≡ a
+    pub second : second_of lent ≡ b
+    pub tells : (one a).tells → (two b).tells → Alike (one a) (two b) → (disk lent).tells
+    pub first_left : first_of left ≡ c
+    pub second_left : second_of left ≡ d
+    pub goes : GoesOn (disk lent) (disk left)
+    pub run : RunDone ring_kind ring_lives disk (reading [] by) tape keys lent left before after t u status
+    -- the headline, from the join on
+    pub headline : (p : Params) (at : Standing) (past : PastLife) → Stood disk keys p at past tape lent → Promised disk keys p at past (record {
+      old = lent;
+      new = left;
+      before = before;
+      after = after;
+      lacks_trace = false;
+      traced_before = t.faults;
+      traced_after = u.faults;
+      by = reading [] by;
+      tape = tape;
+      status = status;
+    })
+    -- what can be run is run, but for want of memory, or of room in the stash
+    pub complete : (words : List (List ℕ)) (text : Option (Bor (List ℕ))) (was is : Option Flow) (script : Scripts) (can : CanRun (λ (f : Flow). f) words text (disk lent) (disk left) was is before after ring_kind script) → can.keys ≡ keys → by.shares ≡ can.shares → (Rose t.faults u.faults → ⊥)
+        → (status ≡ 0) ⊎ ((status ≡ 9) ⊎ StopsFull disk (λ (f : Flow). f) by.beat tape words text was is before after status (reading [] by) can.keys can.p lent left)
+    pub each : EachStands (one (first_of lent)) (one (first_of left)) (two (second_of lent)) (two (second_of left)) (disk lent) (disk left)
     pub first_keeps : HalfKeeps disk (λ x. one (first_of x))
     pub second_keeps : HalfKeeps disk (λ x. two (second_of x))
 
-  -- Both were joined, and then what the words ask for was done over them.
-  pub record AreRunOver (keys : Keys) (a c : A) (b d : B) : Type 0 where
+  -- Both were joined, the watch is whole, and then the script was run over them.
+  pub record AreRunOver (a c : A) (b d : B) (t u : Trace) : Type 0 where
     pub p : Params
     pub a_joined : A
     pub b_joined : B
-    pub joined : AreJoined keys p (one a) (one a_joined) (two b) (two b_joined)
-    pub done : IsDoneOver a_joined c b_joined d
+    pub midway : Trace
+    pub joined : AreJoined keys p one a a_joined (two b) (two b_joined) t midway
+    pub whole : midway.broken ≡ false
+    pub done : IsDoneOver a_joined c b_joined d midway u
 
-  -- What comes of two stores and keys: the head of the first was refused, or the join, or it was done over both.
-  abbrev pub OverBoth : Keys → A → A → B → B → Type 0
-  OverBoth keys a c b d = (((is ≡ was) × HeadRefused keys (one a) (one c) b d before after status) ⊎ ((is ≡ was) × JoinRefused keys (one a) (one c) (two b) (two d) before after status)) ⊎ AreRunOver keys a c b d
+  -- What comes of two stores and keys, under a watch that is whole at first: they weren't joined, or the watch broke by then, and that is told; or
+  -- it was run over both.
+  abbrev pub OverBoth : A → A → B → B → Trace → Trace → Type 0
+  OverBoth a c b d t u = ((err : RunErr) × AreUnjoined keys one two a c b d t u err × (after.input ≡ before.input) × IsCommandFinished before.output after.output (Some err) status) ⊎ AreRunOver a c b d t u

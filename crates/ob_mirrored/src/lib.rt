@@ -1,7 +1,9 @@
 //! The top call with a second store: a run over a mirror of both.
 #![tactic(auto)]
 
+mod asked;
 mod halves;
+mod joined;
 mod mirrored;
 mod over;
 

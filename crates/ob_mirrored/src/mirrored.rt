@@ -1,35 +1,36 @@
 //! The top call with a second store.
 
-ghost use Rattle.std.specs.Prelude.{◌≡◌, ◌≢◌, false, map, Some, IfOk, MatchBool, MatchResult};
-ghost use Rattle.ob_base.specs.declared.fault.Fault.TheVariants as faults;
+ghost use Rattle.std.specs.Prelude.{◌≡◌, true, not, map, MatchBool, Some};
+ghost use Rattle.ob_base.specs.declared.fault.Fault.{Fault};
 ghost use Rattle.ob_io.specs.Streams.{inflow, outflow};
 ghost use Rattle.ob_desk.specs.Beats.{beat_kind};
+ghost use Rattle.ob_top.specs.Begun.{AreFewLanes};
 ghost use Rattle.ob_top.specs.Outside.{IsFinished, NoneOut, outside, words_given};
-ghost use Rattle.ob_base.specs.declared.fault.Fault.{Fault};
-ghost use Rattle.ob_mirrored.specs.Asked.{IsMirrorAsked, IsNoMirrorAsked, mirrored_of};
-ghost use Rattle.ob_mirrored.specs.Over.{OverBoth};
-ghost use Rattle.ob_mirrored.specs.Mirrored.{AloneDoes, IsToldWithout, MirrorDoes, MirroredDoes, SecondIn, SecondStays, StoreStays, left_behind};
+ghost use Rattle.ob_top.specs.Parts.{manner};
+ghost use Rattle.ob_mirrored.specs.Mirrored.{AloneDoes, IsToldWithout, LacksTrace, MirrorDoes, MirroredDoes, SecondIn, SecondStays, StoreStays, UnderTrace, left_behind};
 
-use crate::over::{Room, do_over};
+use crate::asked::{MirrorRun, mirror_asked};
+use crate::joined::do_joined;
+use crate::over::Room;
 use ob_bare::BareStore;
-use ob_base::{Failed, Fault, Memory, ring_cells};
+use ob_base::{Fault, Memory};
+use ob_conduct::RunErr;
 use ob_desk::Beat;
 use ob_io::{Sink, Source};
 use ob_lanes::Lanes;
-use ob_mirror::{Mirror, join};
-use ob_recover::head;
+use ob_mirror::Mirror;
 use ob_seal::{Keys, Tape};
-use ob_store::{Blind, Store};
-use ob_top::{finish, obladi};
-use ob_words::{Command, Work, keys_of, work_of};
+use ob_store::{Blind, SinkWatch, Start, Store, Watch};
+use ob_top::{Means, finish, finish_run, obladi};
+use ob_words::keys_of;
 use std::alloc::Global;
 use std::sync::Wait;
 use std::thread::Threads;
 
-// Makes the second half from the first, and then does what the words ask for over both.
-fn do_joined<
+// Joins both and runs over them under a watch of the trace, whose first line tells of the mirror.
+fn do_traced<
     'a,
-    R: AllocGlobal + Threads + Wait + Sync,
+    R: Threads + Wait + Sync,
     S: Lanes + 'a,
     M: Store + 'a,
     T: Tape,
@@ -39,8 +40,7 @@ fn do_joined<
     W: Sink,
 >(
     rt: &R,
-    words: &[&str],
-    text: Option<&[u8]>,
+    alloc: Global,
     keys: &Keys,
     first: &mut S,
     second: &mut M,
@@ -50,71 +50,40 @@ fn do_joined<
     output: &mut O,
     trace: &mut Option<W>,
     beat: &mut B,
+    means: Means,
 ) -> u8
     requires none_out { (S.disk first.old).out ≡ 0 }
     requires second_in { (M.disk second.old).out ≡ 0 }
     requires unstarted { T.present tape.old ≡ 0 }
+    requires lanes { AreFewLanes means.lanes }
     ensures none_out { (S.disk first.new).out ≡ 0 }
     ensures second_in { (M.disk second.new).out ≡ 0 }
-    ensures done { OverBoth ⟦<Mirror<'a, S, M> as Store>⟧.disk (λ m. m.halves.first.now)
-        (λ m. m.halves.second.now) S.disk M.disk (λ w. outflow W.Sink w)
-        (beat_kind B.passes B.exact) (map (λ w. w.now) words.entry.now) text.entry trace.old
-        trace.new (outside (inflow I.Source input.old) (outflow O.Sink output.old))
+    ensures done { (LacksTrace trace.old true → ⊥)
+        → UnderTrace ⟦<Mirror<'a, S, M> as Store>⟧.disk (λ m. m.halves.first.now)
+        (λ m. m.halves.second.now) S.disk M.disk (λ w. outflow W.Sink w) trace.old trace.new
+        (outside (inflow I.Source input.old) (outflow O.Sink output.old))
         (outside (inflow I.Source input.new) (outflow O.Sink output.new)) result
-        (words_given (T.present tape.new) (T.drawn tape.new)) keys.now first.old first.new
-        second.old second.new }
+        (words_given (T.present tape.new) (T.drawn tape.new)) true
+        (manner (beat_kind B.passes B.exact) means.threads means.lanes means.shares) keys.now
+        first.old first.new second.old second.new }
 {
-    let params = match head(first, keys, &mut Blind) {
-        Ok(params) => params,
-        Err(fault) => return finish(output, Err(fault)),
+    let Some(sink) = trace else {
+        return finish_run(output, Err(RunErr::Unwatched));
     };
-    match join(first, second, ring_cells(&params)) {
-        Ok(()) => {}
-        Err(Failed) => return finish(output, Err(Fault::StoreFault { unsure: None })),
+    let mut watch = SinkWatch::new(sink);
+    watch.start(&Start::Run { mirrored: true });
+    if watch.broken() {
+        return finish_run(output, Err(RunErr::Unwatched));
     }
-    do_over(
-        rt, words, text, first, second, room, tape, input, output, trace, beat,
+    do_joined(
+        rt, alloc, keys, first, second, room, tape, input, output, beat, means, &mut watch,
     )
 }
 
-// Whether there is more to be said of the words than want of memory.
-fn refused_for(fault: Fault) -> Result<bool, Memory>
-    ensures { MatchResult result (λ yes. (yes ≡ false) × (fault ≢ faults.Memory))
-        (λ err. fault ≡ faults.Memory) }
-{
-    match fault {
-        Fault::Memory => Err(Memory),
-        _ => Ok(false),
-    }
-}
-
-// Whether a mirror is asked for.
-fn is_mirrored(work: &Work) -> bool
-    ensures { result ≡ mirrored_of work.now }
-{
-    match *work {
-        Work::OnStore(Command::Run { mirrored, .. }) => mirrored,
-        Work::OnStore(Command::Format { .. }) => false,
-        Work::Audit => false,
-        Work::Drill { .. } => false,
-    }
-}
-
-// Whether the words ask for a mirror.
-fn mirror_asked(alloc: Global, words: &[&str]) -> Result<bool, Memory>
-    ensures { IfOk result (λ yes. MatchBool yes (IsMirrorAsked (map (λ w. w.now) words.entry.now))
-        (IsNoMirrorAsked (map (λ w. w.now) words.entry.now))) }
-{
-    match work_of(alloc, words) {
-        Ok(work) => Ok(is_mirrored(&work)),
-        Err(fault) => refused_for(fault),
-    }
-}
-
-// Runs over a mirror of a store and the second one, if there is one.
-fn do_with_first<
+// Joins both and runs over them, with a trace or without one.
+fn do_both<
     'a,
-    R: AllocGlobal + Threads + Wait + Sync,
+    R: Threads + Wait + Sync,
     S: Lanes + 'a,
     M: Store + 'a,
     T: Tape,
@@ -124,7 +93,73 @@ fn do_with_first<
     W: Sink,
 >(
     rt: &R,
-    words: &[&str],
+    alloc: Global,
+    traced: bool,
+    keys: &Keys,
+    first: &mut S,
+    second: &mut M,
+    room: Room<S::Lane, M::Lane>,
+    tape: &mut T,
+    input: &mut I,
+    output: &mut O,
+    trace: &mut Option<W>,
+    beat: &mut B,
+    means: Means,
+) -> u8
+    requires none_out { (S.disk first.old).out ≡ 0 }
+    requires second_in { (M.disk second.old).out ≡ 0 }
+    requires unstarted { T.present tape.old ≡ 0 }
+    requires lanes { AreFewLanes means.lanes }
+    ensures none_out { (S.disk first.new).out ≡ 0 }
+    ensures second_in { (M.disk second.new).out ≡ 0 }
+    ensures done { (LacksTrace trace.old traced → ⊥)
+        → UnderTrace ⟦<Mirror<'a, S, M> as Store>⟧.disk (λ m. m.halves.first.now)
+        (λ m. m.halves.second.now) S.disk M.disk (λ w. outflow W.Sink w) trace.old trace.new
+        (outside (inflow I.Source input.old) (outflow O.Sink output.old))
+        (outside (inflow I.Source input.new) (outflow O.Sink output.new)) result
+        (words_given (T.present tape.new) (T.drawn tape.new)) traced
+        (manner (beat_kind B.passes B.exact) means.threads means.lanes means.shares) keys.now
+        first.old first.new second.old second.new }
+{
+    if traced {
+        return do_traced(
+            rt, alloc, keys, first, second, room, tape, input, output, trace, beat, means,
+        );
+    }
+    do_joined(
+        rt, alloc, keys, first, second, room, tape, input, output, beat, means, &mut Blind,
+    )
+}
+
+// Whether a trace is asked for and wasn't handed in.
+fn lacks_trace<W>(traced: bool, trace: &Option<W>) -> bool
+    ensures { MatchBool result (LacksTrace trace.now traced) (LacksTrace trace.now traced → ⊥) }
+{
+    if !traced {
+        return false;
+    }
+    match trace {
+        Some(_) => false,
+        None => true,
+    }
+}
+
+// Runs over a mirror of a store and the second one, if there is one, and where a trace is asked for
+// there is one too.
+fn do_with_first<
+    'a,
+    R: Threads + Wait + Sync,
+    S: Lanes + 'a,
+    M: Store + 'a,
+    T: Tape,
+    I: Source,
+    O: Sink,
+    B: Beat,
+    W: Sink,
+>(
+    rt: &R,
+    alloc: Global,
+    run: MirrorRun,
     text: Option<&[u8]>,
     first: &mut S,
     mirror: &mut Option<M>,
@@ -138,23 +173,33 @@ fn do_with_first<
     requires none_out { (S.disk first.old).out ≡ 0 }
     requires second_in { SecondIn M.disk mirror.old }
     requires unstarted { T.present tape.old ≡ 0 }
+    requires lanes { AreFewLanes run.lanes }
     ensures none_out { (S.disk first.new).out ≡ 0 }
     ensures second_stays { SecondStays M.disk mirror.old mirror.new }
     ensures done { MirrorDoes ⟦<Mirror<'a, S, M> as Store>⟧.disk (λ m. m.halves.first.now)
-        (λ m. m.halves.second.now) S.disk M.disk (λ w. outflow W.Sink w)
-        (beat_kind B.passes B.exact) (map (λ w. w.now) words.entry.now) text.entry
+        (λ m. m.halves.second.now) S.disk M.disk (λ w. outflow W.Sink w) text.entry
         (Some first.entry) (left_behind first.exit) mirror.old mirror.new trace.old trace.new
         (outside (inflow I.Source input.old) (outflow O.Sink output.old))
         (outside (inflow I.Source input.new) (outflow O.Sink output.new)) result
-        (words_given (T.present tape.new) (T.drawn tape.new)) }
+        (words_given (T.present tape.new) (T.drawn tape.new)) run.traced
+        (manner (beat_kind B.passes B.exact) (not run.turns) run.lanes run.shares) }
 {
     let keys = match keys_of(text) {
         Ok(keys) => keys,
         Err(fault) => return finish(output, Err(fault)),
     };
+    let means = Means {
+        lanes: run.lanes,
+        threads: !run.turns,
+        shares: run.shares,
+    };
+    if lacks_trace(run.traced, trace) {
+        return finish_run(output, Err(RunErr::Unwatched));
+    }
     match mirror {
-        Some(second) => do_joined(
-            rt, words, text, &keys, first, second, room, tape, input, output, trace, beat,
+        Some(second) => do_both(
+            rt, alloc, run.traced, &keys, first, second, room, tape, input, output, trace, beat,
+            means,
         ),
         None => finish(output, Err(Fault::StoreFault { unsure: None })),
     }
@@ -207,18 +252,33 @@ fn do_with<
         (outside (inflow I.Source input.new) (outflow O.Sink output.new)) result
         (words_given (T.present tape.new) (T.drawn tape.new)) }
     ensures mirrored { MirroredDoes ⟦<Mirror<'a, S, M> as Store>⟧.disk (λ m. m.halves.first.now)
-        (λ m. m.halves.second.now) S.disk M.disk (λ w. outflow W.Sink w)
-        (beat_kind B.passes B.exact) (map (λ w. w.now) words.entry.now) text.entry
+        (λ m. m.halves.second.now) S.disk M.disk (λ w. outflow W.Sink w) text.entry
         (Some first.entry) (left_behind first.exit) mirror.old mirror.new trace.old trace.new
         (outside (inflow I.Source input.old) (outflow O.Sink output.old))
         (outside (inflow I.Source input.new) (outflow O.Sink output.new)) result
-        (words_given (T.present tape.new) (T.drawn tape.new)) }
+        (words_given (T.present tape.new) (T.drawn tape.new)) (beat_kind B.passes B.exact)
+        (map (λ w. w.now) words.entry.now) }
 {
-    match mirror_asked(rt.alloc(), words) {
-        Ok(true) => do_with_first(
-            rt, words, text, first, mirror, room, tape, input, output, trace, beat,
+    let asked = match mirror_asked(rt.alloc(), words) {
+        Ok(asked) => asked,
+        Err(Memory) => return finish(output, Err(Fault::Memory)),
+    };
+    match asked {
+        Some(run) => do_with_first(
+            rt,
+            rt.alloc(),
+            run,
+            text,
+            first,
+            mirror,
+            room,
+            tape,
+            input,
+            output,
+            trace,
+            beat,
         ),
-        Ok(false) => obladi(
+        None => obladi(
             rt,
             words,
             text,
@@ -229,19 +289,20 @@ fn do_with<
             trace,
             beat,
         ),
-        Err(Memory) => finish(output, Err(Fault::Memory)),
     }
 }
 
 /// The top call with a second store, which `--mirror` names: `mirror` is that store, or none where
 /// it wasn't opened. Where the words ask for no mirror it is left as it is, and all is done that
-/// `obladi` does. A run with a mirror first reads the head of the store and copies all its cells to
-/// the second one, whatever that had; from then on each write and sync goes to both, and a read
-/// that the first refuses is made of the second.
+/// `obladi` does. A run with a mirror first reads the head of the store, then the register of the
+/// epoch, and copies all its cells to the second one, whatever that had; from then on each write and
+/// sync goes to both, and a read that the first refuses is made of the second. With `--trace` all
+/// that the first sees is written there, as it sees it, behind a first line that tells of the
+/// mirror.
 ///
 /// The status is that of `obladi`. Before anything is touched `fault: store` and 5 stand where
-/// either store is missing, behind what is wrong with the words and the keys; and so they do where
-/// the copy failed.
+/// either store is missing, behind what is wrong with the words and the keys, and for the second one
+/// behind a trace that is asked for and missing; and so they do where the copy failed.
 pub fn obladi_mirrored<
     'a,
     R: AllocGlobal + Threads + Wait + Sync,
@@ -278,30 +339,32 @@ pub fn obladi_mirrored<
         (outside (inflow I.Source input.new) (outflow O.Sink output.new)) result
         (words_given (T.present tape.new) (T.drawn tape.new)) }
     ensures mirrored { MirroredDoes ⟦<Mirror<'a, S, M> as Store>⟧.disk (λ m. m.halves.first.now)
-        (λ m. m.halves.second.now) S.disk M.disk (λ w. outflow W.Sink w)
-        (beat_kind B.passes B.exact) (map (λ w. w.now) words.entry.now) text.entry store.entry
+        (λ m. m.halves.second.now) S.disk M.disk (λ w. outflow W.Sink w) text.entry store.entry
         store.exit mirror.old mirror.new trace.old trace.new
         (outside (inflow I.Source input.old) (outflow O.Sink output.old))
         (outside (inflow I.Source input.new) (outflow O.Sink output.new)) result
-        (words_given (T.present tape.new) (T.drawn tape.new)) }
+        (words_given (T.present tape.new) (T.drawn tape.new)) (beat_kind B.passes B.exact)
+        (map (λ w. w.now) words.entry.now) }
 {
     match store {
         Some(first) => do_with(
             rt, words, text, first, mirror, room, tape, input, output, trace, beat,
         ),
         None => match mirror_asked(rt.alloc(), words) {
-            Ok(true) => tell_without(text, output),
-            Ok(false) => obladi(
-                rt,
-                words,
-                text,
-                None::<&mut BareStore>,
-                tape,
-                input,
-                output,
-                trace,
-                beat,
-            ),
+            Ok(asked) => match asked {
+                Some(_) => tell_without(text, output),
+                None => obladi(
+                    rt,
+                    words,
+                    text,
+                    None::<&mut BareStore>,
+                    tape,
+                    input,
+                    output,
+                    trace,
+                    beat,
+                ),
+            },
             Err(Memory) => finish(output, Err(Fault::Memory)),
         },
     }

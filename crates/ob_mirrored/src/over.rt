@@ -1,18 +1,23 @@
-//! What the words ask for, over a mirror.
+//! A script is run over a mirror.
 
-ghost use Rattle.std.specs.Prelude.{◌≡◌, map};
+ghost use Rattle.std.specs.Prelude.{◌≡◌, false};
 ghost use Rattle.ob_io.specs.Streams.{inflow, outflow};
 ghost use Rattle.ob_desk.specs.Beats.{beat_kind};
+ghost use Rattle.ob_vault.specs.RingKind.{ring_kind};
+ghost use Rattle.ob_top.specs.Begun.{AreFewLanes};
 ghost use Rattle.ob_top.specs.Outside.{outside, words_given};
+ghost use Rattle.ob_top.specs.Parts.{manner};
 ghost use Rattle.ob_mirrored.specs.Over.{IsDoneOver};
 
+use ob_base::Params;
 use ob_desk::Beat;
 use ob_io::{Sink, Source};
 use ob_lanes::Lanes;
 use ob_mirror::{Mirror, Places};
-use ob_seal::Tape;
-use ob_store::Store;
-use ob_top::obladi;
+use ob_seal::{Keys, Tape};
+use ob_store::{Store, Watch};
+use ob_top::{Means, finish_run, run_behind_head};
+use std::alloc::Global;
 use std::sync::Wait;
 use std::thread::Threads;
 
@@ -40,57 +45,66 @@ fn hand_back<A, B>(first: &mut A, second: &mut B)
     ensures second { second.exit.now ≡ second.entry.now }
 {}
 
-/// Does what the words ask for over a mirror of both.
+/// Runs the script that comes in over a mirror of both, of which the head was read. Its status is
+/// told.
 pub fn do_over<
     'a,
-    R: AllocGlobal + Threads + Wait + Sync,
+    R: Threads + Wait + Sync,
     S: Lanes + 'a,
     M: Store + 'a,
     T: Tape,
     I: Source,
     O: Sink,
     B: Beat,
-    W: Sink,
+    W: Watch,
 >(
     rt: &R,
-    words: &[&str],
-    keys: Option<&[u8]>,
+    alloc: Global,
+    keys: &Keys,
+    params: Params,
     first: &mut S,
     second: &mut M,
     room: Room<S::Lane, M::Lane>,
     tape: &mut T,
     input: &mut I,
     output: &mut O,
-    trace: &mut Option<W>,
     beat: &mut B,
+    means: Means,
+    watch: &mut W,
 ) -> u8
     requires none_out { (S.disk first.old).out ≡ 0 }
     requires second_in { (M.disk second.old).out ≡ 0 }
     requires unstarted { T.present tape.old ≡ 0 }
+    requires lanes { AreFewLanes means.lanes }
+    requires whole { (W.trace watch.old).broken ≡ false }
+    requires head { (S.disk first.old).tells
+        → ring_kind.is_head keys.now params ((S.disk first.old).cells 0) }
     ensures none_out { (S.disk first.new).out ≡ 0 }
     ensures second_in { (M.disk second.new).out ≡ 0 }
     ensures done { IsDoneOver ⟦<Mirror<'a, S, M> as Store>⟧.disk (λ m. m.halves.first.now)
-        (λ m. m.halves.second.now) S.disk M.disk (λ w. outflow W.Sink w)
-        (beat_kind B.passes B.exact) (map (λ w. w.now) words.entry.now) keys.entry trace.old
-        trace.new (outside (inflow I.Source input.old) (outflow O.Sink output.old))
+        (λ m. m.halves.second.now) S.disk M.disk
+        (manner (beat_kind B.passes B.exact) means.threads means.lanes means.shares)
+        (outside (inflow I.Source input.old) (outflow O.Sink output.old))
         (outside (inflow I.Source input.new) (outflow O.Sink output.new)) result
-        (words_given (T.present tape.new) (T.drawn tape.new)) first.old first.new second.old
-        second.new }
+        (words_given (T.present tape.new) (T.drawn tape.new)) keys.now first.old first.new
+        second.old second.new (W.trace watch.old) (W.trace watch.new) }
 {
     let Room { places, .. } = room;
     let mut mirror = Mirror::over(first, second, places);
-    let status = obladi(
+    let ended = run_behind_head(
         rt,
-        words,
-        keys,
-        Some(&mut mirror),
+        alloc,
+        &mut mirror,
         tape,
+        keys,
+        params,
         input,
         output,
-        trace,
         beat,
+        means,
+        watch,
     );
     let (first, second) = mirror.into_lent();
     hand_back(first, second);
-    status
+    finish_run(output, ended)
 }

@@ -13,3 +13,5 @@ mod noting;
 mod playing;
 #[cfg(test)]
 mod refused;
+#[cfg(test)]
+mod traced;

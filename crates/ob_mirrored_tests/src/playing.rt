@@ -56,7 +56,7 @@ fn words_of<'a, R: AllocGlobal + Abort>(rt: &R, line: &'a str) -> Vec<&'a str> {
     words
 }
 
-/// Makes a call with a tape of zeros: its status, and its output.
+/// Makes a call with a tape of zeros and no trace: its status, and its output.
 pub fn call_on<'a, R: AllocGlobal + Threads + Wait + Sync + Abort, S: Lanes + 'a, M: Store + 'a>(
     rt: &R,
     first: &mut S,
@@ -70,13 +70,36 @@ pub fn call_on<'a, R: AllocGlobal + Threads + Wait + Sync + Abort, S: Lanes + 'a
     ensures first { (S.disk first.new).out ≡ 0 }
     ensures second { SecondStays M.disk second.old second.new }
 {
+    let mut trace: Option<MemSink> = None;
+    call_traced(rt, first, second, room, words, script, &mut trace)
+}
+
+/// The same with what is handed in as its trace.
+pub fn call_traced<
+    'a,
+    R: AllocGlobal + Threads + Wait + Sync + Abort,
+    S: Lanes + 'a,
+    M: Store + 'a,
+>(
+    rt: &R,
+    first: &mut S,
+    second: &mut Option<M>,
+    room: Room<S::Lane, M::Lane>,
+    words: &str,
+    script: &str,
+    trace: &mut Option<MemSink>,
+) -> (u8, MemSink)
+    requires first { (S.disk first.old).out ≡ 0 }
+    requires second { SecondIn M.disk second.old }
+    ensures first { (S.disk first.new).out ≡ 0 }
+    ensures second { SecondStays M.disk second.old second.new }
+{
     let words = words_of(rt, words);
     let mut tape = ListTape::new(rt.alloc(), &[]).expect(rt, "memory");
     let script = lines_of(rt, script).as_bytes().to_vec(rt.alloc());
     let mut input = MemSource::new(script.expect(rt, "memory"), Vec::new(rt.alloc()));
     let made = MemSink::new(rt.alloc(), WIDE, Vec::new(rt.alloc()));
     let mut output = made.expect(rt, "memory");
-    let mut trace: Option<MemSink> = None;
     let status = obladi_mirrored(
         rt,
         &words,
@@ -87,7 +110,7 @@ pub fn call_on<'a, R: AllocGlobal + Threads + Wait + Sync + Abort, S: Lanes + 'a
         &mut tape,
         &mut input,
         &mut output,
-        &mut trace,
+        trace,
         &mut Eager,
     );
     (status, output)

@@ -1,4 +1,4 @@
--- Private: what a run over a ring store is begun with.
+-- What a run over a ring store is begun with: what is told from its head's read on, and behind that.
 use Rattle.std.specs.Prelude.{ℕ, ◌≡◌, ◌≤◌, false, List, [], ◌∷◌, length}
 use Rattle.ob_base.specs.declared.params.Params.{Params}
 use Rattle.ob_io.specs.Streams.{Flow}

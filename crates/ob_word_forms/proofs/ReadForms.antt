@@ -9,7 +9,7 @@ use Rattle.clap.specs.Faults.{fault_of, level_fault, stray_fault, turn_fault, wa
 use Rattle.clap.specs.Simple.{Shape}
 use Rattle.clap.proofs.OnLiterals.{clap_on_literals}
 use Rattle.ob_words.specs.Commands.{program}
-use Rattle.ob_word_forms.specs.Forms.{Choice, AreChoices, AreOfFormat, ArePlain, IsPlain, IsNoName, are_both, lanes_in, mirror_in, reads_in, writes_in, trace_in, turns_in}
+use Rattle.ob_word_forms.specs.Forms.{Choice, AreChoices, AreOfFormat, ArePlain, IsPlain, IsNoName, lanes_in, mirror_in, reads_in, writes_in, trace_in, turns_in}
 use Rattle.ob_words.specs.Reading.{Asked, AskedShares, asked_at_all, asked_command, asked_by, text_at, shares_asked, run_asked, format_asked, audit_asked, drill_asked}
 use Rattle.ob_words.proofs.Built.{run_built, format_built, audit_built, drill_built}
 use Rattle.ob_word_forms.proofs.Few.{few_fail}
@@ -17,7 +17,7 @@ use Rattle.ob_word_forms.proofs.PlainWords.{at, plain_turn-idle}
 use Rattle.ob_word_forms.proofs.Run.{choice_row, flag_text, run_end, run_keys, run_lanes_read, run_mirror_read, run_passes, run_reads, run_reads_read, run_store, run_trace_read, run_writes_read, run_turns_text, run_words}
 use Rattle.ob_word_forms.proofs.Drill.{count_walked, counted, drill_passes, drill_reads}
 use Rattle.ob_word_forms.proofs.Format.{format_asks, format_end, format_passes, format_reads, format_trace_read, format_words}
-use Rattle.ob_words.proofs.Passed.{both_is, read_is, refused_is}
+use Rattle.ob_words.proofs.Passed.{read_is, refused_is}
 use Rattle.ob_words.proofs.Top.{IsNoCommand, no_command_fails, no_words_fail, format_fault, format_subcommand, run_fault, run_subcommand, audit_fault, audit_subcommand, drill_fault, drill_subcommand}
 
 abbrev reads_by : Option (Text × List Row) → Option Asked
@@ -48,16 +48,12 @@ run_is_read store keys cs ps pk fine =
     let five = ap₂ (λ (q w : Option Text). run_asked store keys (lanes_in cs) (turns_in cs) (trace_in cs) (mirror_in cs) (shares_asked q w)) (run_reads_read store keys cs _ refl) (run_writes_read store keys cs _ refl) in
     read ∙ ap (λ (a : Asked). Some a) (one ∙ two ∙ three ∙ four ∙ five)
 
-pub run_law : (store keys : Text) (cs : List Choice) → IsPlain store → IsPlain keys → AreChoices cs → are_both cs ≡ false
+pub run_law : (store keys : Text) (cs : List Choice) → IsPlain store → IsPlain keys → AreChoices cs
     → asked_by (codes "run" ∷ run_words store keys cs) ≡ Some (run_asked store keys (lanes_in cs) (turns_in cs) (trace_in cs) (mirror_in cs) (shares_asked (reads_in cs) (writes_in cs)))
-run_law store keys cs ps pk fine alone =
+run_law store keys cs ps pk fine =
     let rest = run_words store keys cs in
     let none = run_fault rest ∙ ap (λ k. or_else k []) (run_passes store keys cs ps pk fine) in
-    read_is (codes "run" ∷ rest) _ none (run_is_read store keys cs ps pk fine) alone
-
-pub run_both : (store keys : Text) (cs : List Choice) → IsPlain store → IsPlain keys → AreChoices cs → are_both cs ≡ true
-    → asked_by (codes "run" ∷ run_words store keys cs) ≡ None
-run_both store keys cs ps pk fine both = both_is (codes "run" ∷ run_words store keys cs) _ (run_is_read store keys cs ps pk fine) both
+    read_is (codes "run" ∷ rest) _ none (run_is_read store keys cs ps pk fine)
 
 pub format_law : (store keys n l z s r br bw e t : Text) (cs : List Choice) → ArePlain (store ∷ keys ∷ n ∷ l ∷ z ∷ s ∷ r ∷ br ∷ bw ∷ e ∷ t ∷ []) → AreChoices cs → AreOfFormat cs
     → asked_by (codes "format" ∷ format_words store keys n l z s r br bw e t cs) ≡ Some (format_asked store keys (n ∷ l ∷ z ∷ s ∷ r ∷ br ∷ bw ∷ e ∷ t ∷ []) (trace_in cs))
@@ -69,7 +65,6 @@ format_law store keys n l z s r br bw e t cs plain fine only =
     (ap reads_by (format_subcommand rest) ∙ ap (λ x. asked_command (codes "format") x) (format_reads store keys n l z s r br bw e t cs plain fine only)
     ∙ format_asks store keys n l z s r br bw e t cs
     ∙ ap (λ (o : Option Text). Some (format_asked store keys (n ∷ l ∷ z ∷ s ∷ r ∷ br ∷ bw ∷ e ∷ t ∷ []) o)) (format_trace_read store keys n l z s r br bw e t cs only))
-    refl
 
 -- nothing is wanted behind `audit`
 audit_passes : level_fault audit_built [] nothing_held [] false [] ≡ []
@@ -80,13 +75,11 @@ pub audit_law : asked_by (codes "audit" ∷ []) ≡ Some audit_asked
 audit_law = read_is (codes "audit" ∷ []) _
     (audit_fault [] ∙ ap (λ k. or_else k []) audit_passes)
     (ap reads_by (audit_subcommand []))
-    refl
 
 pub drill_law : (count : Text) → IsPlain count → asked_by (codes "drill" ∷ count ∷ []) ≡ Some (drill_asked count)
 drill_law count plain = read_is (codes "drill" ∷ count ∷ []) _
     (drill_fault (count ∷ []) ∙ ap (λ k. or_else k []) (drill_passes count plain))
     (ap reads_by (drill_subcommand (count ∷ [])) ∙ ap (λ r. asked_command (codes "drill") r) (drill_reads count plain))
-    refl
 
 empty_left : (a b : Kinds) → or_else a b ≡ [] → a ≡ []
 empty_left [] b e = refl

@@ -1,5 +1,5 @@
 -- The forms of a command line: a command's name, its operands, then some of its options.
-use Rattle.std.specs.Prelude.{◌≡◌, ◌≢◌, ◌<◌, Bool, true, false, ◌&&◌, Option, Some, None, is_some, List, [], ◌∷◌, length, slice_index, codes}
+use Rattle.std.specs.Prelude.{◌≡◌, ◌≢◌, ◌<◌, Bool, true, false, Option, Some, None, List, [], ◌∷◌, length, slice_index, codes}
 use Rattle.std.specs.Str.{bytes_eq}
 use Rattle.clap.specs.Walk.{Text}
 
@@ -120,10 +120,6 @@ turns_in (mirror file ∷ choices) = turns_in choices
 turns_in (reads q ∷ choices) = turns_in choices
 turns_in (writes w ∷ choices) = turns_in choices
 turns_in (trace file ∷ choices) = turns_in choices
-
--- both `--mirror` and `--trace` are among them
-abbrev pub are_both : List Choice → Bool
-are_both choices = is_some (mirror_in choices) && is_some (trace_in choices)
 
 -- the word is no command's name
 abbrev pub IsNoName : Text → Type 0

@@ -1,5 +1,5 @@
 -- What the words ask for, as texts.
-use Rattle.std.specs.Prelude.{◌≡◌, Bool, true, false, ◌&&◌, List, [], ◌∷◌, Option, Some, None, is_some, unwrap_or, option_map, option_and_then, if◌then◌else◌, codes}
+use Rattle.std.specs.Prelude.{Bool, List, [], ◌∷◌, Option, Some, None, unwrap_or, option_map, option_and_then, if◌then◌else◌, codes}
 use Rattle.std.specs.Str.{bytes_eq}
 use Rattle.clap.specs.Walk.{Row, Text, first_of}
 use Rattle.clap.specs.Simple.{subcommand_of}
@@ -64,21 +64,9 @@ unless_refused (kind ∷ kinds) asked = None
 abbrev pub asked_at_all : List Text → Option Asked
 asked_at_all words = option_and_then (λ p. asked_command p.0 p.1) (subcommand_of program words)
 
--- a run with both a mirror and a trace, which isn't made
-abbrev pub has_both : Asked → Bool
-has_both (run_asked store keys lanes turns trace mirror limits) = is_some mirror && is_some trace
-has_both _ = false
-
-abbrev pub unless_both : Asked → Option Asked
-unless_both asked = if has_both asked then None else Some asked
-
--- the words ask for such a run
-abbrev pub HasBoth : List Text → Type 0
-HasBoth words = (asked : Asked) × (asked_at_all words ≡ Some asked) × (has_both asked ≡ true)
-
--- what the words ask for: nothing where the parse has a fault, or where they ask for a run with both a mirror and a trace
+-- what the words ask for: nothing where the parse has a fault
 unfoldable pub asked_by : List Text → Option Asked
-asked_by words = unless_refused (fault_of program words) (option_and_then unless_both (asked_at_all words))
+asked_by words = unless_refused (fault_of program words) (asked_at_all words)
 
 -- what an error of the words is among the program's faults
 abbrev pub fault_for : WordsErr → Fault

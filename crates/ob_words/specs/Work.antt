@@ -99,8 +99,7 @@ Asks words command = (asked : Asked) × (asked_by words ≡ Some asked) × IsCom
 abbrev pub AskFor : List (List ℕ) → Work → Type 0
 AskFor words work = (asked : Asked) × (asked_by words ≡ Some asked) × IsWorkOf asked work
 
--- They ask for nothing, since they are no command with its operands and options, or a run with both a mirror and a trace, or since a number
--- is out of its range; or memory was wanting.
+-- They ask for nothing, since they are no command with its operands and options, or since a number is out of its range; or memory was wanting.
 abbrev pub IsRefusedFor : List (List ℕ) → Fault → Type 0
 IsRefusedFor words Usage = asked_by words ≡ None
 IsRefusedFor words (BadParams field) = (asked : Asked) × (asked_by words ≡ Some asked) × IsOutOfRange asked field

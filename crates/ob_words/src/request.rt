@@ -1,9 +1,9 @@
 //! What the words ask for.
 
-ghost use Rattle.std.specs.Prelude.{◌≡◌, ◌≢◌, ◌⊎◌, true, false, [], map, option_map, option_and_then, Some, None, MatchResult, codes};
+ghost use Rattle.std.specs.Prelude.{◌≡◌, ◌≢◌, ◌⊎◌, [], map, option_map, option_and_then, Some, None, MatchResult, codes};
 ghost use Rattle.clap.specs.Words.{first_of, found_of, rows_of, fault_of, kind_of, subcommand_rows_of};
 ghost use Rattle.ob_words.specs.Commands.{program};
-ghost use Rattle.ob_words.specs.Reading.{text_at, asked_of, asked_command, asked_by, has_both, HasBoth, fault_for};
+ghost use Rattle.ob_words.specs.Reading.{text_at, asked_of, asked_command, asked_by, fault_for};
 
 use crate::commands::program_command;
 use clap::error::ErrorKind;
@@ -143,22 +143,6 @@ fn request_of<'a>(matches: &ArgMatches<'a>) -> Option<Request<'a>>
     }
 }
 
-// The request, but for a run with both a mirror and a trace, which isn't made.
-fn unless_both<'a>(request: Request<'a>) -> Result<Request<'a>, WordsErr>
-    ensures { MatchResult result
-        (λ r. (r ≡ request.entry) × (has_both (asked_of request.entry) ≡ false))
-        (λ e. (e ≡ WordsErr.Usage) × (has_both (asked_of request.entry) ≡ true)) }
-{
-    match request {
-        Request::Run {
-            trace: Some(_),
-            mirror: Some(_),
-            ..
-        } => Err(WordsErr::Usage),
-        _ => Ok(request),
-    }
-}
-
 // Whether memory was wanting, or the words were refused.
 fn cause_of(error: &Error) -> WordsErr
     ensures { ((kind_of error.now ≡ ErrorKind.OutOfMemory) × (result ≡ WordsErr.Memory))
@@ -174,26 +158,25 @@ fn cause_of(error: &Error) -> WordsErr
 /// them.
 ///
 /// # Errors
-/// `Usage` where the parse refuses them for another cause than memory, or where they ask for a run
-/// with both a mirror and a trace, and then only; `Memory`.
+/// `Usage` where the parse refuses them for another cause than memory, and then only; `Memory`.
 pub fn read_words<'a>(alloc: Global, words: &'a [&'a str]) -> Result<Request<'a>, WordsErr>
     ensures asked { MatchResult result (λ r. asked_by (map (λ w. w.now) words.entry.now)
         ≡ Some (asked_of r))
         (λ e. (e ≡ WordsErr.Memory)
         ⊎ ((e ≡ WordsErr.Usage) × (asked_by (map (λ w. w.now) words.entry.now) ≡ None))) }
     // The parse's own list of faults is empty where they are read, and isn't where they are
-    // refused, but where both a mirror and a trace are given.
+    // refused.
     ensures faults { MatchResult result (λ r. fault_of program (map (λ w. w.now) words.entry.now)
         ≡ [])
-        (λ e. (e ≡ WordsErr.Memory) ⊎ (fault_of program (map (λ w. w.now) words.entry.now) ≢ [])
-        ⊎ HasBoth (map (λ w. w.now) words.entry.now)) }
+        (λ e. (e ≡ WordsErr.Memory)
+        ⊎ (fault_of program (map (λ w. w.now) words.entry.now) ≢ [])) }
 {
     let Ok(command) = program_command(alloc) else {
         return Err(WordsErr::Memory);
     };
     match command.try_get_matches_from(words) {
         Ok(matches) => match request_of(&matches) {
-            Some(request) => unless_both(request),
+            Some(request) => Ok(request),
             None => Err(WordsErr::Usage),
         },
         Err(error) => Err(cause_of(&error)),

@@ -209,8 +209,8 @@ fn work_in(request: &Request<'_>) -> Result<Work, Field>
 /// What the words ask for.
 ///
 /// # Errors
-/// `Usage` for words that are no command with its operands and options, or a run with both a mirror
-/// and a trace; `BadParams` for a number out of its range, the first one; and `Memory`.
+/// `Usage` for words that are no command with its operands and options; `BadParams` for a number out
+/// of its range, the first one; and `Memory`.
 pub fn work_of(alloc: Global, words: &[&str]) -> Result<Work, Fault>
     ensures work { IfOk result (λ work. AskFor (map (λ w. w.now) words.entry.now) work) }
     ensures refused { IfErr result

@@ -30,6 +30,14 @@ static WORDS: [(&str, &str); 92] = [
         "run S K --mirror M --turns --lanes 2",
         "run [S] [K] lanes [2] turns mirror [M]",
     ),
+    (
+        "run S K --mirror M --trace T",
+        "run [S] [K] trace [T] mirror [M]",
+    ),
+    (
+        "run S K --trace T --mirror M",
+        "run [S] [K] trace [T] mirror [M]",
+    ),
     ("run S K --reads 1", "run [S] [K] reads [1]"),
     ("run S K --writes x", "run [S] [K] writes [x]"),
     (
@@ -56,6 +64,18 @@ static WORDS: [(&str, &str); 92] = [
     ("run --mirror M S K", "run [S] [K] mirror [M]"),
     ("run S --mirror=M K", "run [S] [K] mirror [M]"),
     ("run S --mirror K X", "run [S] [X] mirror [K]"),
+    (
+        "run --trace T S --mirror M K",
+        "run [S] [K] trace [T] mirror [M]",
+    ),
+    (
+        "run --mirror M S K --turns --trace T",
+        "run [S] [K] turns trace [T] mirror [M]",
+    ),
+    (
+        "run S K --lanes 2 --mirror=M --trace=T",
+        "run [S] [K] lanes [2] trace [T] mirror [M]",
+    ),
     ("run -- --mirror M", "run [--mirror] [M]"),
     ("run -- S K", "run [S] [K]"),
     ("run --turns -- -S --lanes", "run [-S] [--lanes] turns"),
@@ -91,11 +111,6 @@ static WORDS: [(&str, &str); 92] = [
     ("run --mirror S K", "refused"),
     ("run S K --mirror M N", "refused"),
     ("run S K --mirrors M", "refused"),
-    ("run S K --mirror M --trace T", "refused"),
-    ("run S K --trace T --mirror M", "refused"),
-    ("run --trace T S --mirror M K", "refused"),
-    ("run --mirror M S K --turns --trace T", "refused"),
-    ("run S K --lanes 2 --mirror=M --trace=T", "refused"),
     ("run S K --mirror M --mirror M --trace T", "refused"),
     ("format S K 8 2 2 3 2 2 2 2 8 --mirror M", "refused"),
     (

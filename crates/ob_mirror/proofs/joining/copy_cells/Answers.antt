@@ -1,27 +1,30 @@
 use Rattle.std.proofs.Common.{rules, ◌≡◌, ◌+◌, inl, inr, subst, arith}
-use Rattle.ob_store.specs.declared.event.Event.TheVariants.{Read, Write}
+use Rattle.ob_store.specs.declared.event.Event.TheVariants.{Write}
 use Rattle.ob_store.specs.Calls.{Notes}
-use Rattle.ob_store.proofs.Events.{none_noted}
+use Rattle.ob_store.specs.Told.{Tells}
+use Rattle.ob_store.proofs.Doing.{does_all, does_err, tells_none}
 use Rattle.ob_store.proofs.Serving.{goes_then, rose_later}
-use Rattle.ob_mirror.specs.Joins.{cell_reads, cell_writes}
+use Rattle.ob_mirror.specs.Joins.{cell_writes, reads_from}
 use Rattle.ob_mirror.proofs.Copying.{copied_one, copying_none, elsewhere_one, passes_one, row_first, row_next}
+use Rattle.ob_mirror.proofs.EachRead.{copied_next, first_reads}
 use Rattle.ob_mirror.proofs.joining.copy_cells.Goals as goal
 
 pub loop-cell-init : goal.loop-cell-init
 loop-cell-init g c = record {
   copying = copying_none c.args.cells (g.A.Store.disk c.args.first.now) (g.B.Store.disk c.args.second.now) (search rules);
-  reads = none_noted _;
+  reads = tells_none _ _;
   later = omega arith;
 }
 
 -- ---- a read was refused
 
 pub returns-in-Err-clause-later : goal.returns-in-Err-clause-later
-returns-in-Err-clause-later g c = let was = c.loop-cell.invariant.later in let on = c.read.ensures.cause.later in omega (arith, was, on)
+returns-in-Err-clause-later g c = let was = c.loop-cell.invariant.later in let on = c.read_noted.ensures.cause.later in omega (arith, was, on)
 
 pub returns-in-Err-clause-reads : goal.returns-in-Err-clause-reads
 returns-in-Err-clause-reads g c =
-    row_first (λ k. Read k) c.args.cells (c.loop-cell.cell + 1) _ _ (omega (arith, c.loop-cell-test.true)) (row_next (λ k. Read k) c.loop-cell.cell _ _ _ c.loop-cell.invariant.reads c.read.ensures.seen)
+    does_err _ _ _ _ (reads_from 0 c.args.cells) _
+    (first_reads 0 c.args.cells (c.loop-cell.cell + 1) _ _ _ _ (omega (arith, c.loop-cell-test.true)) (copied_next c.loop-cell.cell _ _ _ _ _ _ c.loop-cell.invariant.reads c.read_noted.ensures.told))
 
 pub returns-in-Err-clause-writes : goal.returns-in-Err-clause-writes
 returns-in-Err-clause-writes g c = row_first (λ k. Write k) c.args.cells c.loop-cell.cell _ _ (omega (arith, c.loop-cell-test.true)) c.loop-cell.invariant.copying.writes
@@ -47,11 +50,12 @@ pub write-requires : goal.write-requires
 write-requires g c = c.loop-cell.invariant.copying.out
 
 pub returns-in-Err-write-clause-later : goal.returns-in-Err-write-clause-later
-returns-in-Err-write-clause-later g c = let was = c.loop-cell.invariant.later in let on = c.read.ensures.cause.later in omega (arith, was, on)
+returns-in-Err-write-clause-later g c = let was = c.loop-cell.invariant.later in let on = c.read_noted.ensures.cause.later in omega (arith, was, on)
 
 pub returns-in-Err-write-clause-reads : goal.returns-in-Err-write-clause-reads
 returns-in-Err-write-clause-reads g c =
-    row_first (λ k. Read k) c.args.cells (c.loop-cell.cell + 1) _ _ (omega (arith, c.loop-cell-test.true)) (row_next (λ k. Read k) c.loop-cell.cell _ _ _ c.loop-cell.invariant.reads c.read.ensures.seen)
+    does_err _ _ _ _ (reads_from 0 c.args.cells) _
+    (first_reads 0 c.args.cells (c.loop-cell.cell + 1) _ _ _ _ (omega (arith, c.loop-cell-test.true)) (copied_next c.loop-cell.cell _ _ _ _ _ _ c.loop-cell.invariant.reads c.read_noted.ensures.told))
 
 pub returns-in-Err-write-clause-writes : goal.returns-in-Err-write-clause-writes
 returns-in-Err-write-clause-writes g c =
@@ -86,8 +90,8 @@ loop-cell-preserved g c =
     record {
       copying = copied_one c.args.cells c.loop-cell.cell (g.A.Store.disk c.args.first.now) (g.B.Store.disk c.args.second.now) (g.B.Store.disk c.loop-cell.second) (g.B.Store.disk c.write.new.self)
           c.loop-cell-test.true so_far.copying _ c.in-Ok.ensures.bytes e.serves e.written e.rest e.crash e.time e.seen;
-      reads = row_next (λ k. Read k) c.loop-cell.cell _ _ _ so_far.reads c.read.ensures.seen;
-      later = (let was = so_far.later in let on = c.read.ensures.cause.later in omega (arith, was, on));
+      reads = copied_next c.loop-cell.cell _ _ _ _ _ _ so_far.reads c.read_noted.ensures.told;
+      later = (let was = so_far.later in let on = c.read_noted.ensures.cause.later in omega (arith, was, on));
     }
 
 -- ---- all were copied
@@ -98,7 +102,8 @@ returns-clause-later g c = c.loop-cell.invariant.later
 pub returns-clause-reads : goal.returns-clause-reads
 returns-clause-reads g c =
     let whole : c.loop-cell.cell ≡ c.args.cells = omega (arith, c.loop-cell-test.false, c.loop-cell.auto.cell-end) in
-    subst (λ n. Notes (cell_reads n) (g.A.Store.lane_seen c.args.lane.now) (g.A.Store.lane_seen c.loop-cell.lane)) whole c.loop-cell.invariant.reads
+    does_all _ _ _ _ (reads_from 0 c.args.cells) tt
+    (subst (λ n. Tells (reads_from 0 n) (reads_from 0 n) (g.A.Store.lane_seen c.args.lane.now) (g.A.Store.lane_seen c.loop-cell.lane) (g.W.Watch.trace c.args.watch.now) (g.W.Watch.trace c.loop-cell.watch)) whole c.loop-cell.invariant.reads)
 
 pub returns-clause-writes : goal.returns-clause-writes
 returns-clause-writes g c =

@@ -1,12 +1,14 @@
-use Rattle.std.proofs.Common.{rules, [], ◌∷◌, ◌++◌, inl, refl, arith}
+use Rattle.std.proofs.Common.{rules, [], ◌∷◌, ◌++◌, Ok, inl, refl, arith}
+use Rattle.ob_base.specs.declared.fault.Failed.{Failed}
 use Rattle.ob_store.specs.declared.event.Event.TheVariants.{Sync}
 use Rattle.ob_store.specs.Images.{SameOff}
 use Rattle.ob_store.proofs.Events.{first_more, joined, none_noted}
-use Rattle.ob_store.proofs.Lanes.{lane_noted}
+use Rattle.ob_store.proofs.Doing.{does_both, does_err}
+use Rattle.ob_store.proofs.Lanes.{first_none, lane_does}
 use Rattle.ob_store.proofs.Moments.{passed_none, passed_still}
 use Rattle.ob_store.proofs.Serving.{goes_same, goes_then}
-use Rattle.ob_mirror.specs.Joins.{cell_reads, cell_writes}
-use Rattle.ob_mirror.proofs.Joined.{all_as_far, copy_cause, is_copy, lane_first, none_as_far, only_read_both, only_read_one, rest_on, sync_cause, tells_on}
+use Rattle.ob_mirror.specs.Joins.{cell_writes, reads_from}
+use Rattle.ob_mirror.proofs.Joined.{all_as_far, copy_cause, is_copy, none_as_far, only_read_both, only_read_one, rest_on, sync_cause, tells_on}
 use Rattle.ob_mirror.proofs.joining.join.Goals as goal
 
 -- ---- no lane was made
@@ -14,8 +16,8 @@ use Rattle.ob_mirror.proofs.joining.join.Goals as goal
 pub returns-in-Err-clause-first : goal.returns-in-Err-clause-first
 returns-in-Err-clause-first g c = let made = c.in-Err.ensures in only_read_one (g.A.Store.disk c.args.first.now) (g.A.Store.disk c.lane.new.self) made.goes made.keeps made.crash made.time made.out_err
 
-pub returns-in-Err-clause-first_seen : goal.returns-in-Err-clause-first_seen
-returns-in-Err-clause-first_seen g c = none_as_far _ _ _ c.in-Err.ensures.seen
+pub returns-in-Err-clause-first_does : goal.returns-in-Err-clause-first_does
+returns-in-Err-clause-first_does g c = does_err _ _ _ _ (reads_from 0 c.args.cells) _ (first_none (reads_from 0 c.args.cells) _ _ _ c.in-Err.ensures.seen)
 
 pub returns-in-Err-clause-second : goal.returns-in-Err-clause-second
 returns-in-Err-clause-second g c = goes_same _
@@ -49,13 +51,13 @@ returns-in-Ok-copied-clause-first g c =
     let back = c.absorb.ensures in
     only_read_both (g.A.Store.disk c.args.first.now) (g.A.Store.disk c.lane.new.self) (g.A.Store.disk c.absorb.new.self) made.goes made.keeps made.crash made.time made.out back.goes back.keeps back.crash back.time back.out
 
-pub returns-in-Ok-copied-clause-first_seen : goal.returns-in-Ok-copied-clause-first_seen
-returns-in-Ok-copied-clause-first_seen g c =
+pub returns-in-Ok-copied-clause-first_does : goal.returns-in-Ok-copied-clause-first_does
+returns-in-Ok-copied-clause-first_does g c =
     let seen = g.A.Store.lane_seen in
     let made = c.in-Ok.ensures in
     let disk = g.A.Store.disk in
-    all_as_far (cell_reads c.args.cells) (disk c.args.first.now).seen (disk c.absorb.new.self).seen c.sync.result
-    (lane_noted (cell_reads c.args.cells) (disk c.args.first.now).seen (disk c.lane.new.self).seen (seen c.in-Ok.lane) (seen c.copy_cells-copied.new.lane) (disk c.absorb.new.self).seen made.fresh_seen made.seen c.in-Ok-copied.ensures.reads c.absorb.ensures.seen)
+    does_both _ _ _ _ (reads_from 0 c.args.cells) c.sync.result
+    (lane_does {T = Unit {0}} {E = Failed} (reads_from 0 c.args.cells) (disk c.args.first.now).seen (disk c.lane.new.self).seen (seen c.in-Ok.lane) (seen c.copy_cells-copied.new.lane) (disk c.absorb.new.self).seen _ _ (Ok tt) made.fresh_seen made.seen c.in-Ok-copied.ensures.reads c.absorb.ensures.seen).all
 
 pub returns-in-Ok-copied-clause-second : goal.returns-in-Ok-copied-clause-second
 returns-in-Ok-copied-clause-second g c = goes_then (g.B.Store.disk c.args.second.now) (g.B.Store.disk c.copy_cells-copied.new.second) (g.B.Store.disk c.sync.new.self) c.copy_cells-copied.ensures.goes c.sync.ensures.serves.goes
@@ -99,12 +101,12 @@ returns-in-Err-copied-clause-first g c =
     let back = c.absorb.ensures in
     only_read_both (g.A.Store.disk c.args.first.now) (g.A.Store.disk c.lane.new.self) (g.A.Store.disk c.absorb.new.self) made.goes made.keeps made.crash made.time made.out back.goes back.keeps back.crash back.time back.out
 
-pub returns-in-Err-copied-clause-first_seen : goal.returns-in-Err-copied-clause-first_seen
-returns-in-Err-copied-clause-first_seen g c =
+pub returns-in-Err-copied-clause-first_does : goal.returns-in-Err-copied-clause-first_does
+returns-in-Err-copied-clause-first_does g c =
     let seen = g.A.Store.lane_seen in
     let made = c.in-Ok.ensures in
     let disk = g.A.Store.disk in
-    lane_first (cell_reads c.args.cells) (disk c.args.first.now).seen (disk c.lane.new.self).seen (seen c.in-Ok.lane) (seen c.copy_cells-copied.new.lane) (disk c.absorb.new.self).seen made.fresh_seen made.seen c.in-Err-copied.ensures.reads c.absorb.ensures.seen
+    lane_does (reads_from 0 c.args.cells) (disk c.args.first.now).seen (disk c.lane.new.self).seen (seen c.in-Ok.lane) (seen c.copy_cells-copied.new.lane) (disk c.absorb.new.self).seen _ _ _ made.fresh_seen made.seen c.in-Err-copied.ensures.reads c.absorb.ensures.seen
 
 pub returns-in-Err-copied-clause-second : goal.returns-in-Err-copied-clause-second
 returns-in-Err-copied-clause-second g c = c.copy_cells-copied.ensures.goes

@@ -1,27 +1,24 @@
-use Rattle.std.proofs.Common.{inl, inr, refl, subst, Some}
+use Rattle.std.proofs.Common.{inl, inr, refl, Some}
 use Rattle.ob_io.specs.Streams.{outflow}
-use Rattle.ob_words.specs.Work.{AreLanes}
-use Rattle.ob_mirrored.proofs.Doing.{lanes_refused, memory_with, same_lanes, second_same}
+use Rattle.ob_mirrored.proofs.Doing.{is_run, lanes_refused, memory_with, second_same}
 use Rattle.ob_mirrored.proofs.Telling.{told_memory}
 use Rattle.ob_mirrored.proofs.mirrored.do_with.Goals as goal
 
 -- ---- over a mirror
 
-pub returns-in-Ok-true-clause-alone : goal.returns-in-Ok-true-clause-alone
-returns-in-Ok-true-clause-alone g c = λ none. let (lanes, asks, ranged) = (rw c.in-Ok-true.field-0-test at c.in-Ok-true.ensures) in absurd (none lanes asks)
+pub returns-in-Some-clause-alone : goal.returns-in-Some-clause-alone
+returns-in-Some-clause-alone g c = λ none. let is = (rw c.in-Some.is at c.in-Ok.ensures) in absurd (none is.lanes is.asks)
 
-pub returns-in-Ok-true-clause-mirrored : goal.returns-in-Ok-true-clause-mirrored
-returns-in-Ok-true-clause-mirrored g c = λ lanes asks.
-    let (own, same, (k, are)) = (rw c.in-Ok-true.field-0-test at c.in-Ok-true.ensures) in
-    inr (inr (k, subst (λ l. AreLanes l k) (same_lanes _ own lanes same asks) are, c.do_with_first.ensures.done))
+pub returns-in-Some-clause-mirrored : goal.returns-in-Some-clause-mirrored
+returns-in-Some-clause-mirrored g c = λ lanes asks. inr (inr (_, is_run _ lanes asks _ (rw c.in-Some.is at c.in-Ok.ensures), c.do_with_first.ensures.done))
 
 -- ---- without a mirror
 
-pub returns-in-Ok-false-clause-second_stays : goal.returns-in-Ok-false-clause-second_stays
-returns-in-Ok-false-clause-second_stays g c = second_same g.M.Store.disk c.args.mirror.now c.requires.second_in
+pub returns-in-None-clause-second_stays : goal.returns-in-None-clause-second_stays
+returns-in-None-clause-second_stays g c = second_same g.M.Store.disk c.args.mirror.now c.requires.second_in
 
-pub returns-in-Ok-false-clause-alone : goal.returns-in-Ok-false-clause-alone
-returns-in-Ok-false-clause-alone g c = λ none.
+pub returns-in-None-clause-alone : goal.returns-in-None-clause-alone
+returns-in-None-clause-alone g c = λ none.
     let does = c.obladi.ensures in (
       record {
         goes = does.goes;
@@ -38,9 +35,9 @@ returns-in-Ok-false-clause-alone g c = λ none.
       refl,
     )
 
-pub returns-in-Ok-false-clause-mirrored : goal.returns-in-Ok-false-clause-mirrored
-returns-in-Ok-false-clause-mirrored g c = λ lanes asks.
-    lanes_refused lanes asks.limits ((rw c.in-Ok-false.field-0-test at c.in-Ok-false.ensures) lanes asks) (c.obladi.ensures.run asks.store_path asks.keys_path lanes asks.turns asks.trace (Some asks.file) asks.limits asks.asked)
+pub returns-in-None-clause-mirrored : goal.returns-in-None-clause-mirrored
+returns-in-None-clause-mirrored g c = λ lanes asks.
+    lanes_refused lanes asks.limits ((rw c.in-None.is at c.in-Ok.ensures) lanes asks) (c.obladi.ensures.run asks.store_path asks.keys_path lanes asks.turns asks.trace (Some asks.file) asks.limits asks.asked)
     (λ p. (p.0.0, refl, p.0.1, p.1)) (λ p. (p.0.0, refl, p.0.1, p.1))
 
 -- ---- memory was wanting for the words

@@ -1,7 +1,6 @@
-use Rattle.std.proofs.Common.{inl, inr, refl, subst, Some}
+use Rattle.std.proofs.Common.{inl, inr, refl, Some}
 use Rattle.ob_io.specs.Streams.{outflow}
-use Rattle.ob_words.specs.Work.{AreLanes}
-use Rattle.ob_mirrored.proofs.Doing.{lanes_refused, memory_alone, same_lanes, second_same}
+use Rattle.ob_mirrored.proofs.Doing.{is_run, lanes_refused, memory_alone, second_same}
 use Rattle.ob_mirrored.proofs.Telling.{told_keys, told_memory, told_none}
 use Rattle.ob_mirrored.proofs.mirrored.obladi_mirrored.Goals as goal
 
@@ -33,27 +32,26 @@ returns-in-Some-clause-mirrored g c = rw c.in-Some.is c.do_with.ensures.mirrored
 
 -- ---- without a store
 
-pub returns-in-Ok-true-clause-second_stays : goal.returns-in-Ok-true-clause-second_stays
-returns-in-Ok-true-clause-second_stays g c = second_same g.M.Store.disk c.args.mirror.now c.requires.second_in
+pub returns-in-Some-asked-clause-second_stays : goal.returns-in-Some-asked-clause-second_stays
+returns-in-Some-asked-clause-second_stays g c = second_same g.M.Store.disk c.args.mirror.now c.requires.second_in
 
-pub returns-in-Ok-true-clause-alone : goal.returns-in-Ok-true-clause-alone
-returns-in-Ok-true-clause-alone g c = λ none. let (lanes, asks, ranged) = (rw c.in-Ok-true.field-0-test at c.in-Ok-true.ensures) in absurd (none lanes asks)
+pub returns-in-Some-asked-clause-alone : goal.returns-in-Some-asked-clause-alone
+returns-in-Some-asked-clause-alone g c = λ none. let is = (rw c.in-Some-asked.is at c.in-Ok.ensures) in absurd (none is.lanes is.asks)
 
-pub returns-in-Ok-true-clause-mirrored : goal.returns-in-Ok-true-clause-mirrored
-returns-in-Ok-true-clause-mirrored g c = λ lanes asks.
-    let (own, same, (k, are)) = (rw c.in-Ok-true.field-0-test at c.in-Ok-true.ensures) in
+pub returns-in-Some-asked-clause-mirrored : goal.returns-in-Some-asked-clause-mirrored
+returns-in-Some-asked-clause-mirrored g c = rw c.in-None.is (λ lanes asks.
     let (fault, refusal, done) = c.tell_without.ensures in
     inr (inr (
-      k,
-      subst (λ l. AreLanes l k) (same_lanes _ own lanes same asks) are,
-      rw c.in-None.is (elim refusal [
+      _,
+      is_run _ lanes asks _ (rw c.in-Some-asked.is at c.in-Ok.ensures),
+      elim refusal [
         | inl key ↦ inl (fault, key, (tt, refl, refl, told_keys c.args.text fault _ _ _ _ key done))
         | inr ((keys, has), none) ↦ inr (keys, has, (tt, refl, refl, told_none _ _ _ _ fault none done))
-      ]),
-    ))
+      ],
+    )))
 
-pub returns-in-Ok-false-clause-alone : goal.returns-in-Ok-false-clause-alone
-returns-in-Ok-false-clause-alone g c = λ none.
+pub returns-in-Ok-clause-alone : goal.returns-in-Ok-clause-alone
+returns-in-Ok-clause-alone g c = λ none.
     let does = c.obladi.ensures in
     rw c.in-None.is (
       record {
@@ -71,9 +69,9 @@ returns-in-Ok-false-clause-alone g c = λ none.
       refl,
     )
 
-pub returns-in-Ok-false-clause-mirrored : goal.returns-in-Ok-false-clause-mirrored
-returns-in-Ok-false-clause-mirrored g c = rw c.in-None.is (λ lanes asks.
-    lanes_refused lanes asks.limits ((rw c.in-Ok-false.field-0-test at c.in-Ok-false.ensures) lanes asks) (c.obladi.ensures.run asks.store_path asks.keys_path lanes asks.turns asks.trace (Some asks.file) asks.limits asks.asked)
+pub returns-in-Ok-clause-mirrored : goal.returns-in-Ok-clause-mirrored
+returns-in-Ok-clause-mirrored g c = rw c.in-None.is (λ lanes asks.
+    lanes_refused lanes asks.limits ((rw c.in-None-asked.is at c.in-Ok.ensures) lanes asks) (c.obladi.ensures.run asks.store_path asks.keys_path lanes asks.turns asks.trace (Some asks.file) asks.limits asks.asked)
     (λ p. (p.0.0, refl, p.0.1, p.1)) (λ p. (p.0.0, refl, p.0.1, p.1)))
 
 pub returns-clause-alone : goal.returns-clause-alone

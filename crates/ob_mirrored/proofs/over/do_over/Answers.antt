@@ -1,57 +1,68 @@
 use Rattle.std.proofs.Common.{◌≡◌, ◌∙◌, sym, subst}
+use Rattle.ob_mirror.specs.Laws.{includes_reads_of_first, only_now_of_either}
 use Rattle.ob_mirror.specs.Mirrored.{Together}
 use Rattle.ob_mirror.proofs.Alone.{each_stands}
 use Rattle.ob_mirrored.proofs.Doing.{both_in, each_in, mirror_tells, name_first, name_second}
+use Rattle.ob_vault.specs.RingKind.{ring_kind}
+use Rattle.ob_desk.specs.Beats.{beat_kind}
+use Rattle.ob_top.specs.Parts.{Manner, manner}
+use Rattle.ob_mirrored.proofs.Ending.{ended_complete, ended_headline, ended_run}
 use Rattle.ob_mirrored.proofs.OfHalves.{half_keeps, is_first, is_second}
 use Rattle.ob_mirrored.proofs.over.do_over.Goals as goal
 
-pub obladi-status-requires-clause-none_out : goal.obladi-status-requires-clause-none_out
-obladi-status-requires-clause-none_out g c κs within =
+pub run_behind_head-ended-requires-clause-none_out : goal.run_behind_head-ended-requires-clause-none_out
+run_behind_head-ended-requires-clause-none_out g c κs within =
     both_in _ _ (subst (λ x. (g.S.Store.disk x).out ≡ 0) (sym c.over-mirror.ensures.first) c.requires.none_out) (subst (λ x. (g.M.Store.disk x).out ≡ 0) (sym c.over-mirror.ensures.second) c.requires.second_in)
 
-pub obladi-status-requires-clause-unstarted : goal.obladi-status-requires-clause-unstarted
-obladi-status-requires-clause-unstarted g c κs within = c.requires.unstarted
+pub run_behind_head-ended-requires-clause-unstarted : goal.run_behind_head-ended-requires-clause-unstarted
+run_behind_head-ended-requires-clause-unstarted g c κs within = c.requires.unstarted
+
+pub run_behind_head-ended-requires-clause-lanes : goal.run_behind_head-ended-requires-clause-lanes
+run_behind_head-ended-requires-clause-lanes g c κs within = c.requires.lanes
+
+pub run_behind_head-ended-requires-clause-whole : goal.run_behind_head-ended-requires-clause-whole
+run_behind_head-ended-requires-clause-whole g c κs within = c.requires.whole
+
+pub run_behind_head-ended-requires-clause-head : goal.run_behind_head-ended-requires-clause-head
+run_behind_head-ended-requires-clause-head g c κs within = λ tells.
+    subst (λ x. ring_kind.is_head c.args.keys.now c.args.params ((g.S.Store.disk x).cells 0)) (sym c.over-mirror.ensures.first) (c.requires.head (subst (λ x. (g.S.Store.disk x).tells) c.over-mirror.ensures.first tells.1))
 
 pub returns-clause-none_out : goal.returns-clause-none_out
 returns-clause-none_out g c =
-    let names : c.over-arg-1.given ≡ c.into_lent-first.result.0.ghost_name = sym (c.into_lent-first.ensures.name ∙ name_first _ _ _ _ c.obladi-status.ensures.goes.0.anchors ∙ c.over-mirror.ensures.name) in
-    subst (λ x. (g.S.Store.disk x).out ≡ 0) (sym (c.first-1.given.1 names ∙ c.hand_back.ensures.first ∙ c.into_lent-first.ensures.first)) (each_in _ _ c.obladi-status.ensures.goes.1).0
+    let names : c.over-arg-1.given ≡ c.into_lent-first.result.0.ghost_name = sym (c.into_lent-first.ensures.name ∙ name_first _ _ _ _ c.run_behind_head-ended.ensures.goes.anchors ∙ c.over-mirror.ensures.name) in
+    subst (λ x. (g.S.Store.disk x).out ≡ 0) (sym (c.first-1.given.1 names ∙ c.hand_back.ensures.first ∙ c.into_lent-first.ensures.first)) (each_in _ _ c.run_behind_head-ended.ensures.none_out).0
 
 pub returns-clause-second_in : goal.returns-clause-second_in
 returns-clause-second_in g c =
-    let names : c.over-arg-2-1.given ≡ c.into_lent-first.result.1.ghost_name = sym (c.into_lent-first.ensures.second_name ∙ name_second _ _ _ _ _ _ c.obladi-status.ensures.goes.0.anchors ∙ c.over-mirror.ensures.second_name) in
-    subst (λ x. (g.M.Store.disk x).out ≡ 0) (sym (c.second-1.given.1 names ∙ c.hand_back.ensures.second ∙ c.into_lent-first.ensures.second)) (each_in _ _ c.obladi-status.ensures.goes.1).1
+    let names : c.over-arg-2-1.given ≡ c.into_lent-first.result.1.ghost_name = sym (c.into_lent-first.ensures.second_name ∙ name_second _ _ _ _ _ _ c.run_behind_head-ended.ensures.goes.anchors ∙ c.over-mirror.ensures.second_name) in
+    subst (λ x. (g.M.Store.disk x).out ≡ 0) (sym (c.second-1.given.1 names ∙ c.hand_back.ensures.second ∙ c.into_lent-first.ensures.second)) (each_in _ _ c.run_behind_head-ended.ensures.none_out).1
 
 pub returns-clause-done : goal.returns-clause-done
 returns-clause-done g c =
     let one = g.S.Store.disk in
     let two = g.M.Store.disk in
     let made = c.over-mirror.ensures in
-    let does = c.obladi-status.ensures in
+    let does = c.run_behind_head-ended.ensures in
     let begun = c.over-mirror.result.halves in
-    let ended = c.obladi-status.new.store.0.halves in
-    let names : c.over-arg-1.given ≡ c.into_lent-first.result.0.ghost_name = sym (c.into_lent-first.ensures.name ∙ name_first _ _ _ _ does.goes.0.anchors ∙ made.name) in
-    let second_names : c.over-arg-2-1.given ≡ c.into_lent-first.result.1.ghost_name = sym (c.into_lent-first.ensures.second_name ∙ name_second _ _ _ _ _ _ does.goes.0.anchors ∙ made.second_name) in
+    let ended = c.run_behind_head-ended.new.store.halves in
+    let names : c.over-arg-1.given ≡ c.into_lent-first.result.0.ghost_name = sym (c.into_lent-first.ensures.name ∙ name_first _ _ _ _ does.goes.anchors ∙ made.name) in
+    let second_names : c.over-arg-2-1.given ≡ c.into_lent-first.result.1.ghost_name = sym (c.into_lent-first.ensures.second_name ∙ name_second _ _ _ _ _ _ does.goes.anchors ∙ made.second_name) in
+    let by : Manner = manner (beat_kind g.B.Beat.passes g.B.Beat.exact) c.args.means.threads c.args.means.lanes c.args.means.shares in
+    let run = ended_run _ by _ c.args.keys.now c.over-mirror.result c.run_behind_head-ended.new.store _ _ _ _ _ _ c.finish_run.result _ _ does.done.1 c.finish_run.ensures in
     record {
-      lent = record { ref_ptr = c.args.first.ref_ptr; ghost_name = c.args.first.ghost_name; now = c.over-mirror.result };
-      left = record { ref_ptr = c.args.first.ref_ptr; ghost_name = c.args.first.ghost_name; now = c.obladi-status.new.store.0 };
+      lent = c.over-mirror.result;
+      left = c.run_behind_head-ended.new.store;
       first = made.first;
       second = made.second;
       tells = mirror_tells one two begun.apart begun.first_then.value begun.first.now _ begun.second_then.value begun.second.now _ made.apart made.first_then made.second_then made.first made.second;
       first_left = sym (c.first-1.given.1 names ∙ c.hand_back.ensures.first ∙ c.into_lent-first.ensures.first);
       second_left = sym (c.second-1.given.1 second_names ∙ c.hand_back.ensures.second ∙ c.into_lent-first.ensures.second);
-      does = record {
-        goes = does.goes;
-        usage = does.usage;
-        audit = does.audit;
-        drill = does.drill;
-        format = does.format;
-        run = does.run;
-        headline = does.headline;
-        complete = does.complete;
-        drill_complete = does.drill_complete;
-        audit_complete = does.audit_complete;
-      };
+      goes = does.goes;
+      run = run;
+      headline = ended_headline _ by _ c.args.keys.now c.over-mirror.result c.run_behind_head-ended.new.store _ _ _ _ _ _ c.finish_run.result c.requires.whole run
+          (λ m image left. only_now_of_either (one m.halves.first.now) (two m.halves.second.now) (g.met.S.Store.only_now m.halves.first.now) (g.met.M.Store.only_now m.halves.second.now) image left)
+          (λ m tells leaves. includes_reads_of_first (one m.halves.first.now) (two m.halves.second.now) _ (g.met.S.Store.includes_reads m.halves.first.now) tells leaves) does.goes;
+      complete = ended_complete _ by _ c.args.keys.now c.over-mirror.result c.run_behind_head-ended.new.store _ _ _ _ _ _ c.finish_run.result c.requires.whole run;
       each = each_stands begun.first.ghost_name begun.second.ghost_name ended.first.ghost_name ended.second.ghost_name (Together begun.apart (one begun.first_then.value) (two begun.second_then.value)) (Together ended.apart (one ended.first_then.value) (two ended.second_then.value))
           (one begun.first.now) (one ended.first.now) (two begun.second.now) (two ended.second.now) ended.agree;
       first_keeps = half_keeps _ _ (is_first _ (λ m. one m.halves.first.now) (λ m. two m.halves.second.now) (λ x y. each_stands x.halves.first.ghost_name x.halves.second.ghost_name y.halves.first.ghost_name y.halves.second.ghost_name (Together x.halves.apart (one x.halves.first_then.value) (two x.halves.second_then.value)) (Together y.halves.apart (one y.halves.first_then.value) (two y.halves.second_then.value))

@@ -5,7 +5,7 @@ use Rattle.ob_words.specs.Commands.{program}
 use Rattle.ob_words.specs.Reading.{Asked, asked_command}
 use Rattle.ob_words.proofs.Built.{is_simple_program}
 use Rattle.ob_words.proofs.Asks.{among_some, is_simple_alone, passes_asks}
-use Rattle.ob_words.proofs.Passed.{told, faults_told, refused_is}
+use Rattle.ob_words.proofs.Passed.{read_is, refused_is}
 use Rattle.ob_words.proofs.request.read_words.Goals as goal
 
 abbrev reads_by : Option (Text × List Row) → Option Asked
@@ -18,10 +18,9 @@ returns-in-Some c =
     let met = c.in-Ok-try_get_matches_from.ensures.matches (ap is_simple app ∙ is_simple_alone) in
     let stops = met.1 ∙ ap (λ (a : App). subcommand_of a (map (λ w. w.now) c.args.words.now)) app in
     let passes = sym (ap (λ (a : App). fault_of a (map (λ w. w.now) c.args.words.now)) app) ∙ none in
-    let read = ap reads_by (sym stops) ∙ sym c.in-Some.ensures in
     record {
-      asked = told (map (λ w. w.now) c.args.words.now) _ passes read c.unless_both.result c.unless_both.ensures;
-      faults = faults_told (map (λ w. w.now) c.args.words.now) _ passes read c.unless_both.result c.unless_both.ensures;
+      asked = read_is (map (λ w. w.now) c.args.words.now) _ passes (ap reads_by (sym stops) ∙ sym c.in-Some.ensures);
+      faults = passes;
     }
 
 pub returns-in-Ok-try_get_matches_from : goal.returns-in-Ok-try_get_matches_from
@@ -44,6 +43,6 @@ returns c =
         | inl memory ↦ absurd (usage.0 memory)
         | inr among ↦
             let refused : fault_of program (map (λ w. w.now) c.args.words.now) ≢ [] = λ e. among_some _ _ among (same ∙ e) in
-            record { asked = inr (usage.1, refused_is _ refused); faults = inr (inl refused) }
+            record { asked = inr (usage.1, refused_is _ refused); faults = inr refused }
       ]
     ]

@@ -1,0 +1,10 @@
+use Rattle.std.proofs.Common.{◌≤◌}
+use Rattle.ob_store.specs.Told.{Tells}
+use Rattle.ob_mirror.specs.Joins.{reads_from}
+use Rattle.ob_mirror.proofs.reading.read_each.Given as goal
+
+abbrev pub invariant-loop-cell : goal.invariant-loop-cell
+invariant-loop-cell g l = record {
+  reads : Tells (reads_from l.base l.cell) (reads_from l.base l.cell) (g.A.Store.lane_seen l.initial.lane) (g.A.Store.lane_seen l.lane) (g.W.Watch.trace l.initial.watch) (g.W.Watch.trace l.watch);
+  later : g.A.Store.lane_faults l.initial.lane ≤ g.A.Store.lane_faults l.lane;
+}
