@@ -1,9 +1,8 @@
--- For tests: two runners that have made no call, the pass of a client of the tests' halls that has made none, and when a desk may be opened.
+-- For tests: two runners that have made no call, and when a desk may be opened.
 use Rattle.std.specs.Prelude.{◌≡◌, ◌≤◌, ◌^◌, ℕ, suc, false, All, List, [], map}
 use Rattle.ob_base.specs.declared.params.Params.{Params}
 use Rattle.ob_serial.specs.Vaults.{VaultCounts}
-use Rattle.ob_hall.specs.Passes.{Steps, Hall, Pass, opening_of}
-use Rattle.ob_hall.specs.Calling.{IsReady, IsBetween}
+use Rattle.ob_hall.specs.Passes.{Steps}
 use Rattle.ob_driver.specs.Testing.{two_clients}
 
 -- it is this client's, names only the keys of the tests' stores, and has made no call
@@ -17,12 +16,6 @@ pub record AreTwo {U : Type 0} (client bound : U → ℕ) (fits : U → Steps �
   pub named : map client runners ≡ two_clients
   pub below : All (λ u. bound u ≤ 8) runners
   pub unsaid : All (λ u. fits u []) runners
-
--- it may begin, at a hall of the tests' keys
-pub record IsSession (hall : Hall) (pass : Pass) : Type 0 where
-  pub ready : IsReady hall pass
-  pub between : IsBetween pass
-  pub keys : 8 ≤ (opening_of hall).setup.params.keys
 
 -- a vault that serves, over a store of the tests
 pub record CanOpen (p : Params) (c : VaultCounts) : Type 0 where

@@ -1,5 +1,5 @@
 //! Tests of clients in threads beside the driver: faults, a batch that is read meanwhile, an end that
-//! is held meanwhile, want of memory, sessions, and that no thread is left behind.
+//! is held meanwhile, want of memory, and that no thread is left behind.
 #![tactic(auto)]
 
 #[cfg(test)]
@@ -13,8 +13,6 @@ mod overlap;
 mod ring;
 #[cfg(test)]
 mod runs;
-#[cfg(test)]
-mod sessions;
 #[cfg(test)]
 mod starved;
 

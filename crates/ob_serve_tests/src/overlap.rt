@@ -12,7 +12,6 @@ ghost use Rattle.ob_serve_tests.specs.declared.first.First.TheVariants as firsts
 use crate::first::First;
 use crate::ring::{new_store, new_tape, open_ring};
 use crate::runs::{NEVER, both, new_output, run_over, runner_of};
-use crate::sessions::TURNS;
 use ob_base::{Fault, Key, Params};
 use ob_conduct::RunErr;
 use ob_desk::{Begun, Desk, Done, Txn};
@@ -273,6 +272,9 @@ struct Row {
 // The first cell of the checkpoint that the first epoch's end writes. Counted from 0 that is write
 // 93; the register's body is 106, and its gate, the end's last write, 107.
 const CELL: u64 = 28;
+
+// So often the store gives way before it waits no more.
+const TURNS: u64 = 10_000_000;
 
 const SCRIPT: &[u8] =
     b"client 1\nbegin\nput 5 a\ncommit\nclient 2\nbegin\nabort\nbegin\nput 6 b\ncommit\n";

@@ -5,11 +5,10 @@ ghost use Rattle.ob_hall.specs.Passes.{opening_of};
 ghost use Rattle.ob_hall.specs.Calling.{IsReady, IsBetween};
 ghost use Rattle.ob_hall.specs.Testing.{IsInTxn, IsInTxnOrNot};
 ghost use Rattle.ob_driver.specs.Drives.{IsFirstPass};
-ghost use Rattle.ob_serve_tests.specs.Pairs.{IsSession};
+ghost use Rattle.ob_session_tests.specs.Sessions.{IsSession};
 ghost use denote.Param.Send.{IsSync};
 
-use crate::runs::{NEVER, desk_at, formatted, new_output, open};
-use crate::starved::Starved;
+use crate::served::{desk_at, formatted, new_output, open};
 use ob_base::{Key, Params, Value};
 use ob_calls::Refused;
 use ob_conduct::RunErr;
@@ -17,6 +16,7 @@ use ob_desk::{Begun, Eager};
 use ob_hall::{Hall, Pass};
 use ob_mem::{HoldStore, MemSink};
 use ob_run::serve;
+use ob_runner::ScriptRunner;
 use ob_serial::{Outcome, Vault, Why};
 use ob_store::{Blind, Store};
 use ob_threads::Client;
@@ -29,8 +29,8 @@ use std::thread;
 use std::thread::Threads;
 use std::time::Duration;
 
-/// So often a thread gives way before it waits no more.
-pub const TURNS: u64 = 10_000_000;
+// So often a thread gives way before it waits no more.
+const TURNS: u64 = 10_000_000;
 
 // The body of the place where the first epoch's end sets the epoch's register.
 const REGISTER: u64 = 7;
@@ -335,7 +335,7 @@ fn drive_alone<R: Threads + Wait + Sync, V: Vault>(
     requires params { V.params vault.old ≡ params.now }
     requires driver { IsFirstPass hall.now driver.old params.now (V.counts vault.old) }
 {
-    let mut none: Vec<Client<Starved>> = Vec::new(alloc);
+    let mut none: Vec<Client<ScriptRunner>> = Vec::new(alloc);
     let result = serve(
         rt, alloc, params, hall, driver, &mut none, vault, &mut Blind, &mut Eager, output, 0,
     );
@@ -408,7 +408,7 @@ fn end_so<R: Threads + Wait + Sync + Abort>(
     lines: &[u8],
 ) -> bool {
     let mut output = new_output(rt, alloc, 1000);
-    let store = formatted(rt, alloc, NEVER);
+    let store = formatted(rt, alloc);
     let mut held = HoldStore::new(store, REGISTER, TURNS, &clock.reached, &clock.release);
     let ended = run_sessions(rt, alloc, &mut held, clock, &mut output);
     ended.is_ok() && clock.right.load(SeqCst) == right && output.written() == lines

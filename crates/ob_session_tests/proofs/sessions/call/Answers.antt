@@ -1,5 +1,5 @@
 use Rattle.ob_calls.proofs.Inside.{is_inside, is_between, begun_inside, refused_between}
-use Rattle.ob_serve_tests.proofs.sessions.call.Goals as goal
+use Rattle.ob_session_tests.proofs.sessions.call.Goals as goal
 
 pub call_inside-requires-clause-inside : goal.call_inside-requires-clause-inside
 call_inside-requires-clause-inside g c = is_inside c.args.inside c.args.pass.now c.if-inside.true c.requires.stands

@@ -1,5 +1,5 @@
 use Rattle.ob_calls.proofs.Inside.{stays_inside, its_txn}
-use Rattle.ob_serve_tests.proofs.sessions.call_inside.Goals as goal
+use Rattle.ob_session_tests.proofs.sessions.call_inside.Goals as goal
 
 pub get-got-requires-clause-inside : goal.get-got-requires-clause-inside
 get-got-requires-clause-inside g c = its_txn c.args.pass.now c.requires.inside

@@ -1,4 +1,4 @@
-use Rattle.ob_serve_tests.proofs.sessions.follow.Goals as goal
+use Rattle.ob_session_tests.proofs.sessions.follow.Goals as goal
 
 pub sign_off-requires-clause-between : goal.sign_off-requires-clause-between
 sign_off-requires-clause-between g c = c.durable.ensures.stands.0 c.follow_all.ensures.between

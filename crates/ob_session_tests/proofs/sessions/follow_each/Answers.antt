@@ -6,9 +6,9 @@ use Rattle.ob_turn.proofs.bell.Bell.TheSendSync as bell_law
 use Rattle.ob_hall.proofs.hall.Held.TheSendSync as held_law
 use Rattle.ob_hall.specs.Passes.{Pass}
 use Rattle.ob_hall.proofs.Sent.{pass_sent, hall_shared, both_shared}
-use Rattle.ob_serve_tests.proofs.sessions.Clock.TheSendSync as clock_law
-use Rattle.ob_serve_tests.specs.Pairs.{IsSession}
-use Rattle.ob_serve_tests.proofs.sessions.follow_each.Goals as goal
+use Rattle.ob_session_tests.proofs.sessions.Clock.TheSendSync as clock_law
+use Rattle.ob_session_tests.specs.Sessions.{IsSession}
+use Rattle.ob_session_tests.proofs.sessions.follow_each.Goals as goal
 
 pub for_each_mut-requires-send-T : goal.for_each_mut-requires-send-T
 for_each_mut-requires-send-T g c κs = search (sendable, held_law.the_send, pass_sent, seat_law.the_send) depth 40

@@ -2,8 +2,8 @@ use Rattle.std.proofs.Common.{◌∙◌, refl}
 use Rattle.ob_desk.specs.Desk.{setup_of}
 use Rattle.ob_shares.proofs.Fitting.{none_fit}
 use Rattle.ob_conduct.proofs.Quitting.{two_open}
-use Rattle.ob_serve_tests.proofs.Pairing.{driver_first, sessions_are}
-use Rattle.ob_serve_tests.proofs.sessions.open_hall.Goals as goal
+use Rattle.ob_session_tests.proofs.Opening.{driver_first, sessions_are}
+use Rattle.ob_session_tests.proofs.sessions.open_hall.Goals as goal
 
 pub new-requires : goal.new-requires
 new-requires g c = record {

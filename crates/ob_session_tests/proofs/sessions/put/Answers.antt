@@ -1,5 +1,5 @@
 use Rattle.ob_calls.proofs.Inside.{stays_inside, its_txn}
-use Rattle.ob_serve_tests.proofs.sessions.put.Goals as goal
+use Rattle.ob_session_tests.proofs.sessions.put.Goals as goal
 
 pub put-requires-clause-inside : goal.put-requires-clause-inside
 put-requires-clause-inside g c = its_txn c.args.pass.now c.requires.inside
