@@ -26,7 +26,7 @@ use Rattle.ob_top.specs.Begun.{EndsAtHead, HasReadHead}
 use Rattle.ob_top.specs.Complete.{CanRun, StopsFull}
 use Rattle.ob_top.specs.Headline.{Stood}
 use Rattle.ob_top.specs.Outside.{Given, IsCommandFinished, Outside}
-use Rattle.ob_top.specs.Parts.{Manner, reading}
+use Rattle.ob_top.specs.Parts.{Manner, reading_head}
 use Rattle.ob_top.specs.Pasts.{PastLife}
 use Rattle.ob_top.specs.Promised.{Promised}
 use Rattle.ob_top.specs.Runs.{RunDone}
@@ -95,7 +95,7 @@ module _ {X A B : Type 0} (disk : X → Disk) (first_of : X → A) (second_of : 
     pub first_left : first_of left ≡ c
     pub second_left : second_of left ≡ d
     pub goes : GoesOn (disk lent) (disk left)
-    pub run : RunDone ring_kind ring_lives disk (reading [] by) tape keys lent left before after t u status
+    pub run : RunDone ring_kind ring_lives disk (reading_head [] by) tape keys lent left before after t u status
     -- the headline, from the join on
     pub headline : (p : Params) (at : Standing) (past : PastLife) → Stood disk keys p at past tape lent → Promised disk keys p at past (record {
       old = lent;
@@ -105,13 +105,13 @@ module _ {X A B : Type 0} (disk : X → Disk) (first_of : X → A) (second_of : 
       lacks_trace = false;
       traced_before = t.faults;
       traced_after = u.faults;
-      by = reading [] by;
+      by = reading_head [] by;
       tape = tape;
       status = status;
     })
     -- what can be run is run, but for want of memory, or of room in the stash
     pub complete : (words : List (List ℕ)) (text : Option (Bor (List ℕ))) (was is : Option Flow) (script : Scripts) (can : CanRun (λ (f : Flow). f) words text (disk lent) (disk left) was is before after ring_kind script) → can.keys ≡ keys → by.shares ≡ can.shares → (Rose t.faults u.faults → ⊥)
-        → (status ≡ 0) ⊎ ((status ≡ 9) ⊎ StopsFull disk (λ (f : Flow). f) by.beat tape words text was is before after status (reading [] by) can.keys can.p lent left)
+        → (status ≡ 0) ⊎ ((status ≡ 9) ⊎ StopsFull disk (λ (f : Flow). f) by.beat tape words text was is before after status (reading_head [] by) can.keys can.p lent left)
     pub each : EachStands (one (first_of lent)) (one (first_of left)) (two (second_of lent)) (two (second_of left)) (disk lent) (disk left)
     pub first_keeps : HalfKeeps disk (λ x. one (first_of x))
     pub second_keeps : HalfKeeps disk (λ x. two (second_of x))

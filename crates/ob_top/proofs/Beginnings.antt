@@ -47,7 +47,7 @@ use Rattle.ob_start.specs.Orders.{registers_notes}
 use Rattle.ob_opening.specs.Openings.{IsOpenFault, IsOpenRefusal, IsStandingRefusal, OpensWhatStood}
 use Rattle.ob_opening.specs.declared.opening.Opening.{Opening}
 use Rattle.ob_top.proofs.Running.{IsQuiet}
-use Rattle.ob_top.specs.Begun.{EndsAtHead, IsBegun, MayGoOn, MayServe}
+use Rattle.ob_top.specs.Begun.{EndsAtHead, IsBegun, RunsOnBegun, MayServe}
 use Rattle.ob_top.specs.Formats.{FormatEnds, IsFormatted}
 use Rattle.ob_top.specs.Runs.{BreaksAtHead, BreaksAtOpening, EndsEarly}
 use Rattle.ob_top.specs.Parts.{CameIn, SharesFit, head_cells}
@@ -146,7 +146,7 @@ module _ {S : Type 0} (disk : S → Disk) (keys : Keys) (most : ℕ) (some : 1 �
       }))
 
 -- a run goes on from what an opening found
-pub may_go_on : {S L : Type 0} (disk : S → Disk) (keys : Keys) (most : ℕ) (p : Params) (old new : S) (before later : Trace) (o : Opening L) (is : IsRingOpened disk keys most p old new before later o) → MayGoOn keys p o (found_ring is.found o)
+pub may_go_on : {S L : Type 0} (disk : S → Disk) (keys : Keys) (most : ℕ) (p : Params) (old new : S) (before later : Trace) (o : Opening L) (is : IsRingOpened disk keys most p old new before later o) → RunsOnBegun keys p o (found_ring is.found o)
 may_go_on disk keys most p old new before later o is = record {
   run = refl;
   found = is.found;

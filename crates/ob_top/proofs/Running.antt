@@ -23,8 +23,8 @@ use Rattle.ob_store.proofs.Showing.{shows_then}
 use Rattle.ob_serial.specs.Serial.{EpochRecord}
 use Rattle.ob_script.specs.Script.{Scripts}
 use Rattle.ob_top.specs.Outside.{Given, Outside, outside}
-use Rattle.ob_top.specs.Runs.{AreSharesRefused, EndsEarly, IsInputRefused, beginning_notes, head_notes, IsReadAndOpened, LivesUnserved, ServedOver, Ran, Went, RunOn, ShownBehindHead}
-use Rattle.ob_top.specs.Parts.{Manner, IsOpened, SharesFit, begin_phases, reading}
+use Rattle.ob_top.specs.Runs.{AreSharesRefused, EndsEarly, IsInputRefused, beginning_notes, notes_of_head, IsReadAndOpened, LivesUnserved, ServedOver, Ran, Went, RunOn, ShownBehindHead}
+use Rattle.ob_top.specs.Parts.{Manner, IsOpened, SharesFit, begin_phases, reading_head}
 use Rattle.ob_top.specs.Staged.{OpensInStages}
 use Rattle.ob_top.proofs.Lines.{Stand, stand_all, stand_unless}
 use Rattle.ob_top.proofs.Living.{whole_clear}
@@ -42,7 +42,7 @@ not_sink p shares before after (inr (field, is, script, came, never)) = cc is
 
 -- what was served is so whatever was read as the head
 pub served_reading : (head : List ℕ) (store : StoreKind) (life : LifeWords store) {S : Type 0} (disk : S → Disk) (by : Manner) (keys : Keys) (p : Params) (found : store.Found) (sealing : Sealing) (script : Scripts) (tape : Given) (old new : S) (before after : Flow) (t u : Trace) (err : Option RunErr)
-    → ServedOver store life disk by keys p found sealing script tape old new before after t u err → ServedOver store life disk (reading head by) keys p found sealing script tape old new before after t u err
+    → ServedOver store life disk by keys p found sealing script tape old new before after t u err → ServedOver store life disk (reading_head head by) keys p found sealing script tape old new before after t u err
 served_reading head store life disk by keys p found sealing script tape old new before after t u err s =
     let i = s.is_served in
     record {
@@ -114,7 +114,7 @@ module _ (store : StoreKind) (quiet : IsQuiet store) (life : LifeWords store) wh
       → ServedOver store life disk by keys p found sealing script tape between new output output_new midway u err
       → RunOn store life disk by tape keys old new (outside input output) (outside input_new output_new) t u err
   ran laws disk counts_now by tape keys old between new input input_new output output_new p script found start sealing t midway u err shown whole later opened fits seen durable stood before opens begun found_so s =
-      let begins : Shows (beginning_notes store by.head p found start) t midway = shows_then (head_notes by.head) (store.open_notes p found start) t shown.between midway shown.head shown.behind in
+      let begins : Shows (beginning_notes store by.head p found start) t midway = shows_then (notes_of_head by.head) (store.open_notes p found start) t shown.between midway shown.head shown.behind in
       let its : Ran store life disk by tape keys old new (outside input output) (outside input_new output_new) t u s.records err = record {
         p = p;
         script = script;

@@ -43,7 +43,7 @@ pub record IsBegun (head_is : List ℕ) (keys : Keys) (most : ℕ) (p : Params) 
   pub stood : (at : Standing) → old.tells → Stands ring_kind keys p old.cells at → IsOpenedAt ring_kind keys p at f new
 
 -- The run of an opening goes on from this, with a planner that has shown its batches.
-pub record MayGoOn {L : Type 0} (keys : Keys) (p : Params) (o : Opening L) (f : RingFound) : Type 0 where
+pub record RunsOnBegun {L : Type 0} (keys : Keys) (p : Params) (o : Opening L) (f : RingFound) : Type 0 where
   pub run : f.run ≡ run_over o
   pub found : Found
   pub goes_on : GoesOnFrom keys p found f

@@ -109,8 +109,8 @@ abbrev pub manner : BeatKind → Bool → ℕ → Shares → Manner
 manner beat threads lanes shares = record { head = head_cells; beat = beat; threads = threads; lanes = lanes; shares = shares }
 
 -- the same, where these cells are read as the head
-abbrev pub reading : List ℕ → Manner → Manner
-reading head by = record { head = head; beat = by.beat; threads = by.threads; lanes = by.lanes; shares = by.shares }
+abbrev pub reading_head : List ℕ → Manner → Manner
+reading_head head by = record { head = head; beat = by.beat; threads = by.threads; lanes = by.lanes; shares = by.shares }
 
 -- What stands in the clear behind a run: each cell of the head and of the registers is as it was, or has what a register writes there, byte
 -- by byte. Where something cut the run off: but for one whose write the store refused, which was the last call; so where the store doesn't tell

@@ -55,17 +55,17 @@ use Rattle.ob_top.specs.Parts.{begin_phases, head_cells, IsTraced, CameIn, IsSha
 abbrev pub head_reads : List ℕ → List Event
 head_reads head = map (λ cell. event.Read cell) head
 
-abbrev pub head_notes : List ℕ → List Note
-head_notes head = map (λ cell. note.Read cell) head
+abbrev pub notes_of_head : List ℕ → List Note
+notes_of_head head = map (λ cell. note.Read cell) head
 
 -- What the watch is shown of the opening: the head's read, and the notes that the kind of store gives.
 abbrev pub beginning_notes : (store : StoreKind) → (head : List ℕ) → Params → store.Found → store.Start → List Note
-beginning_notes store head p found start = head_notes head ++ store.open_notes p found start
+beginning_notes store head p found start = notes_of_head head ++ store.open_notes p found start
 
 -- The head's read was shown, behind which the watch was whole, and then these notes were.
 pub record ShownBehindHead (head_is : List ℕ) (notes : List Note) (before after : Trace) : Type 0 where
   pub between : Trace
-  pub head : Shows (head_notes head_is) before between
+  pub head : Shows (notes_of_head head_is) before between
   pub whole : between.broken ≡ false
   pub behind : Shows notes between after
 
@@ -139,7 +139,7 @@ module _ (store : StoreKind) (life : LifeWords store) (head_is : List ℕ) (keys
     -- a crash leaves what it might have left before
     pub passes : Passes Same old new
     pub seen : Notes (head_reads head_is) old.seen new.seen
-    pub shown : Shows (head_notes head_is) t u
+    pub shown : Shows (notes_of_head head_is) t u
     pub whole : u.broken ≡ false
 
   -- Opening was refused, once the script had come in.

@@ -11,7 +11,7 @@ ghost use Rattle.ob_recover.specs.declared.found.Found.{Found};
 ghost use Rattle.ob_vault.specs.RingKind.{GoesOnFrom, RingFound, ring_kind};
 ghost use Rattle.ob_vault.specs.RingLives.{ring_lives};
 ghost use Rattle.ob_vault.specs.RingVaults.{HasPlanned, run_over};
-ghost use Rattle.ob_top.specs.Begun.{AreFewLanes, BegunBehindHead, EndsAtHead, FromHeadAndBehind, HasReadHead, MayGoOn, MayServe, NotBegun};
+ghost use Rattle.ob_top.specs.Begun.{AreFewLanes, BegunBehindHead, EndsAtHead, FromHeadAndBehind, HasReadHead, RunsOnBegun, MayServe, NotBegun};
 ghost use Rattle.ob_desk.specs.Desk.{DeskState, MayOpen, new_desk, setup_with};
 ghost use Rattle.ob_desk.specs.Beats.{beat_kind};
 ghost use Rattle.ob_script.specs.Script.{AreSound};
@@ -24,7 +24,7 @@ ghost use Rattle.ob_serial.specs.VaultKinds.{kind_of};
 ghost use Rattle.ob_top.specs.Runs.{IsInputRefused, LivesUnserved, ServedOver, RunOn};
 ghost use Rattle.ob_shares.specs.declared.shares.Shares.{Shares};
 ghost use Rattle.ob_shares.specs.Shares.{AreFitting};
-ghost use Rattle.ob_top.specs.Parts.{manner, reading, CameIn, ShareFits, SharesFit, IsShareRefused};
+ghost use Rattle.ob_top.specs.Parts.{manner, reading_head, CameIn, ShareFits, SharesFit, IsShareRefused};
 ghost use Rattle.ob_top.specs.Endings.{err_of};
 ghost use Rattle.ob_top.specs.Outside.{words_given, outside};
 
@@ -171,7 +171,7 @@ fn open_on<R: Threads + Sync, S: Lanes, T: Tape, I: Source, W: Watch>(
     ensures runners { IfOk result (λ begun. AreRunners begun.scripts begun.runners.items) }
     ensures keys { IfOk result (λ begun. begun.scripts.keys ≡ begun.params.keys) }
     ensures begun { IfOk result (λ begun. (f : RingFound)
-        × MayGoOn keys.now begun.params begun.opening f
+        × RunsOnBegun keys.now begun.params begun.opening f
         × FromHeadAndBehind S.disk keys.now params store.old (W.trace watch.old)
         (λ head first before. BegunBehindHead S.disk head keys.now means.now.lanes begun.params
         begun.scripts begun.opening.sealer first store.new before (W.trace watch.new)
@@ -368,7 +368,7 @@ pub fn run_behind_head<
     ensures goes { GoesOn (S.disk store.old) (S.disk store.new) }
     ensures none_out { (S.disk store.new).out ≡ 0 }
     ensures done { FromHeadAndBehind S.disk keys.now params store.old (W.trace watch.old)
-        (λ head first before. RunOn ring_kind ring_lives S.disk (reading head
+        (λ head first before. RunOn ring_kind ring_lives S.disk (reading_head head
         (manner (beat_kind B.passes B.exact) means.threads means.lanes means.shares))
         (words_given (T.present tape.new) (T.drawn tape.new)) keys.now first store.new
         (outside (inflow I.Source input.old) (outflow O.Sink output.old))
