@@ -95,8 +95,16 @@ fn expect_wanted<R: AllocGlobal + Abort>(rt: &R, line: &str, may_make: Option<bo
         None => (None, None),
     };
     let both = beside == "TM";
-    let trace = if both || beside == "T" { Some("T") } else { None };
-    let mirror = if both || beside == "M" { Some("M") } else { None };
+    let trace = if both || beside == "T" {
+        Some("T")
+    } else {
+        None
+    };
+    let mirror = if both || beside == "M" {
+        Some("M")
+    } else {
+        None
+    };
     assert!(rt;
         paths.store == store
             && paths.keys == keys
