@@ -99,7 +99,7 @@ fn open_trace(rt: &HostRuntime, path: Option<&str>) -> Option<StdSink<File>> {
 // Opens and locks the files that the words call for, before anything is read, and before anything is
 // written but that a trace is emptied: none where they call for none, or where it can't be had.
 // Where two of them are one file the lock of the first refuses the other: the key file comes first,
-// then the store, then its mirror or the trace.
+// then the store, then its mirror, and the trace.
 fn open_files<'a>(rt: &'a HostRuntime, words: &[&str]) -> Result<Files<'a>, Fault>
     ensures store { IfOk result (λ files. files.keys ≡ None → files.store ≡ None) }
     ensures mirror { IfOk result (λ files. files.store ≡ None → files.mirror ≡ None) }
