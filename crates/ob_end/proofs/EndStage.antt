@@ -1,5 +1,5 @@
 -- Between what an end makes and what it writes: what the writing asks for, and what the run is at behind it.
-use Rattle.std.specs.Prelude.{◌≡◌, ℕ, suc, ◌+◌, ◌*◌, ◌<◌, ◌≤◌, ◌^◌, false, List, [], ◌∷◌, ◌++◌, Some, length}
+use Rattle.std.specs.Prelude.{◌≡◌, ℕ, suc, ◌+◌, ◌*◌, ◌<◌, ◌≤◌, ◌^◌, false, List, [], ◌∷◌, ◌++◌, Option, Some, length}
 use Rattle.std.proofs.Common.{arith, sym, ap, ◌∙◌, subst}
 use Rattle.ob_base.specs.declared.params.Params.{Params}
 use Rattle.ob_base.specs.declared.value.Write.{Write}
@@ -17,7 +17,7 @@ use Rattle.ob_fetch.specs.Fetches.{RunIsAt, RunsAt}
 use Rattle.ob_fetch.proofs.FetchLaws.{cells_same, settled_then}
 use Rattle.ob_fetch.proofs.NextLaws.{stands_listed}
 use Rattle.ob_log.specs.Logs.{BatchRecord}
-use Rattle.ob_recover.specs.Repeats.{content_of_ring, table_after_records}
+use Rattle.ob_recover.specs.Repeats.{BatchIsShown, content_of_ring, table_after_records}
 use Rattle.ob_ring.specs.FlatTable.{FlatTable}
 use Rattle.ob_ring.specs.Ring.{Kept, StandsFor}
 use Rattle.ob_ring.specs.Writing.{entries_after, write_at}
@@ -30,7 +30,10 @@ use Rattle.ob_seal.specs.declared.keys.Keys.{Keys}
 use Rattle.ob_stand.specs.Ends.{RingEnd, standing_after}
 use Rattle.ob_stand.specs.Stands.{OneOf, RingStanding, Stands}
 use Rattle.ob_stand.proofs.EndLaws.{end_spares}
-use Rattle.ob_store.specs.Calls.{Keeps}
+use Rattle.ob_store.specs.Calls.{Keeps, Notes}
+use Rattle.ob_store.specs.Lines.{Trace}
+use Rattle.ob_store.specs.Told.{events_of}
+use Rattle.ob_store.specs.declared.event.Event.{Event}
 use Rattle.ob_store.specs.Disk.{Disk, Image}
 use Rattle.ob_store.specs.Images.{IsSynced, LeavesOnly, Passes, Same}
 use Rattle.ob_store.specs.declared.watch.Note.{Note}
@@ -47,6 +50,9 @@ use Rattle.ob_end.specs.EndRuns.{AreEntriesWritten, IsAtContent, IsEndMade, IsEn
 use Rattle.ob_recover.specs.Fits.{IsPlannerFit}
 use Rattle.ob_end.proofs.EndLaws.{IsEndWith, content_is, end_with, runs_then}
 use Rattle.ob_end.proofs.MadeLaws as made_laws
+use Rattle.ob_end.proofs.Moments.{made_but}
+use Rattle.ob_end.proofs.ToldEnds.{has_written}
+use Rattle.ob_end.specs.Moments.{IsEndMadeButSet, end_setting}
 use Rattle.ob_end.proofs.ScheduledEnds as scheduled
 
 module _ (run mid : Run) (disk : Disk) (writes : List Write) (words : List ℕ) (kept : mid ≡ record run { drawn = mid.drawn; ring = mid.ring; jobs = mid.jobs; words = mid.words }) (ready : IsEndReady run)
@@ -136,6 +142,14 @@ module _ (run mid : Run) (disk : Disk) (writes : List Write) (words : List ℕ) 
     pub leads_then : (last : Kept) → last ≡ record mid.ring { stash = last.stash } → (last.stash).rows ≡ rows_left mid.ring → (last.stash).room ≡ (mid.ring.stash).room
         → LeadsOn run.params g c rs run.epoch run.gates last (gates_ended run.gates run.epoch)
     leads_then last stash rows room = scheduled.leads_on (run.sealer).keys disk writes words g run.drawn (run.sealer).next run.ring mid.ring made low_at short fit small few_fit run.params ring_p run.epoch run.gates c rs from few1 last stash rows room
+
+  -- the lifts were read, and then these writes made: all but the set of the register
+  pub made_set : (most : ℕ) (a m b : Option (List Event)) (k j : Trace) → BatchIsShown most (lift_cells run.params (run.ring.metas).versions fit.table) (lift_notes run.params (run.ring.metas).versions fit.table) a m k j
+      → Notes (events_of (end_write_notes mid.ring (mid.epoch + 1))) m b → IsEndMadeButSet most run a b
+  made_set most a m b k j told seen c rs from =
+      let one : mid.epoch + 1 ≡ suc run.epoch = (let same : mid.epoch ≡ run.epoch = ap (λ (m : Run). m.epoch) kept in omega (arith, same)) in
+      made_but most (lift_cells run.params (run.ring.metas).versions fit.table) (lift_notes run.params (run.ring.metas).versions fit.table) (end_write_notes mid.ring (suc run.epoch)) (end_setting run) (end_phases run.params (known c rs from) (fills c rs from)) a m b k j
+      (has_written most mid.ring (suc run.epoch)) (whole c rs from).1 told (subst (λ (n : ℕ). Notes (events_of (end_write_notes mid.ring n)) m b) one seen)
 
   -- ---- behind it
 

@@ -24,3 +24,4 @@ pub mod StashLaws
 pub mod ToldEnds
 pub mod Stops
 pub mod Products
+pub mod Spans

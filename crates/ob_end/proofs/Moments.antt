@@ -1,12 +1,12 @@
 -- What a crash at any moment of an end leaves, by the stages of its close.
-use Rattle.std.specs.Prelude.{◌≡◌, ℕ, List, [], ◌∷◌, ◌++◌, Option, Ok, Err}
+use Rattle.std.specs.Prelude.{◌≡◌, ℕ, List, [], ◌∷◌, ◌++◌, Option, Result, Ok, Err}
 use Rattle.std.proofs.Common.{inl, sym, ap, ◌∙◌}
 use Rattle.ob_base.specs.declared.fault.Fault.{Fault}
 use Rattle.ob_base.specs.declared.params.Params.{Params}
 use Rattle.ob_base.specs.declared.value.Write.{Write}
 use Rattle.ob_end.specs.Closings.{ClosesEnd, ClosesInStages, IfWritten}
 use Rattle.ob_end.specs.EndRuns.{EndImages, end_err_of, standing_at_end}
-use Rattle.ob_end.specs.Moments.{AreMadeBut, EndMoments, IsEndInStages, IsEndMadeButSet}
+use Rattle.ob_end.specs.Moments.{AreMadeBut, EndMoments, EndSpans, IsEndInStages, IsEndMadeButSet}
 use Rattle.ob_end.proofs.EndCases.{images_ended, images_refused}
 use Rattle.ob_fetch.specs.declared.run.Run.{Run}
 use Rattle.ob_recover.proofs.Dealing.{HasLane, made_join, made_read, made_steps}
@@ -14,6 +14,7 @@ use Rattle.ob_recover.specs.Repeats.{BatchIsShown}
 use Rattle.ob_schedule.proofs.Phased.{phases_append}
 use Rattle.ob_schedule.specs.Phases.{Phase, Reads, phases_of}
 use Rattle.ob_seal.specs.declared.keys.Keys.{Keys}
+use Rattle.ob_serial.specs.declared.vault.EndErr.{EndErr}
 use Rattle.ob_serial.specs.declared.vault.EndErr.TheVariants as end
 use Rattle.ob_stand.specs.Ends.{RingEnd, standing_after}
 use Rattle.ob_stand.specs.Stands.{OneOf, RingStanding, Stands}
@@ -61,17 +62,21 @@ module _ {S : Type 0} (disk : S → Disk) (most : ℕ) (s : RingStanding) (ws : 
   pub either_stage : IsEndInStages disk most s ws run run' old new → LeavesOnly (disk old) (disk new) either
   either_stage both = then_on (disk old) (disk both.between) (disk new) either (weakened (disk old) (disk both.between) was either (λ c stands. inl stands) both.until) both.since
 
-  pub moments_ended : IsEndInStages disk most s ws run run' old new → EndMoments disk most s ws run run' old new (Ok tt)
-  moments_ended both = record { leaves = images_ended (run.sealer).keys run.params s ws run' (disk old) (disk new) (either_stage both); stages = both }
+  abbrev Spans : Result (Unit {0}) EndErr → Type 0
+  Spans r = EndSpans disk most s ws run run' old new r
 
-  pub moments_before : (f : Fault) → LeavesOnly (disk old) (disk new) was → EndMoments disk most s ws run run' old new (Err (end.Before f))
-  moments_before f leaves = record { leaves = images_refused (run.sealer).keys run.params s ws run' (disk old) (disk new) f leaves; stages = leaves }
+  pub moments_ended : IsEndInStages disk most s ws run run' old new → Spans (Ok tt) → EndMoments disk most s ws run run' old new (Ok tt)
+  moments_ended both spans = record { leaves = images_ended (run.sealer).keys run.params s ws run' (disk old) (disk new) (either_stage both); stages = both; spans = spans }
+
+  pub moments_before : (f : Fault) → LeavesOnly (disk old) (disk new) was → Spans (Err (end.Before f)) → EndMoments disk most s ws run run' old new (Err (end.Before f))
+  moments_before f leaves spans = record { leaves = images_refused (run.sealer).keys run.params s ws run' (disk old) (disk new) f leaves; stages = leaves; spans = spans }
 
   pub moments_closed : (writes : List Note) (ks : Keys) (q : Params) (ending : RingEnd) (rows : Type 0) (x : SetErr) → ClosesEnd disk writes ks q s ending mid new (Err x) → IfWritten rows (Err x)
-      → (LeavesOnly (disk mid) (disk new) (Stands ks q s) → LeavesOnly (disk old) (disk new) was) → (rows → ClosesInStages disk writes ks q s ending mid new → IsEndInStages disk most s ws run run' old new)
+      → (LeavesOnly (disk mid) (disk new) (Stands ks q s) → LeavesOnly (disk old) (disk new) was) → (rows → ClosesInStages disk writes ks q s ending mid new → IsEndInStages disk most s ws run run' old new) → Spans (Err (end_err_of x))
       → EndMoments disk most s ws run run' old new (Err (end_err_of x))
-  moments_closed writes ks q ending rows (set.Before f) closes left refused both = moments_before f (refused closes)
-  moments_closed writes ks q ending rows (set.Unsure f) closes left refused both = record {
+  moments_closed writes ks q ending rows (set.Before f) closes left refused both spans = moments_before f (refused closes) spans
+  moments_closed writes ks q ending rows (set.Unsure f) closes left refused both spans = record {
     leaves = weakened (disk old) (disk new) either (EndImages (run.sealer).keys run.params s ws run' (Err (end.Unsure f))) (λ c is. is) (either_stage (both left closes));
     stages = both left closes;
+    spans = spans;
   }

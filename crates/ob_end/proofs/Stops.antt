@@ -43,7 +43,7 @@ module _ (tag : Tagging) (n : ℕ) (a b c : Image) where
   place_from (suc (suc (suc (suc (suc zero))))) same is = λ opened. same ∙ is opened
   place_from (suc (suc (suc (suc (suc (suc lacking)))))) same is = is ∙ sym same
 
-  left_from : (lacking : ℕ) → ((k : ℕ) → k < 9 → b k ≡ a k) → IsRegisterLeft tag 5 n a lacking c → IsRegisterLeft tag 5 n b lacking c
+  pub left_from : (lacking : ℕ) → ((k : ℕ) → k < 9 → b k ≡ a k) → IsRegisterLeft tag 5 n a lacking c → IsRegisterLeft tag 5 n b lacking c
   left_from lacking same is = record {
     place = place_from lacking (same (gate_at 5 (n % 2)) (omega arith)) is.place;
     other = is.other ∙ sym (same (gate_at 5 ((n + 1) % 2)) (omega arith));
@@ -73,7 +73,7 @@ module _ (tag : Tagging) (n : ℕ) (a c : Image) (same : c (gate_at 5 (place_of 
   kept_place true lacking few shut = kept_open lacking few
   kept_place false lacking few shut = kept_shut lacking few (shut (λ is. let wrong : false ≡ true = is in cc))
 
-  kept_left : (closes : Bool) (lacking : ℕ) → length (set_notes closes 5 n) ≤ lacking → ((IsTrue closes → ⊥) → IsOpen 5 a (place_of n) → ⊥) → c (gate_at 5 (place_of (n + 1))) ≡ a (gate_at 5 (place_of (n + 1))) → IsRegisterLeft tag 5 n a lacking c
+  pub kept_left : (closes : Bool) (lacking : ℕ) → length (set_notes closes 5 n) ≤ lacking → ((IsTrue closes → ⊥) → IsOpen 5 a (place_of n) → ⊥) → c (gate_at 5 (place_of (n + 1))) ≡ a (gate_at 5 (place_of (n + 1))) → IsRegisterLeft tag 5 n a lacking c
   kept_left closes lacking few shut other = record { place = kept_place closes lacking few shut; other = other }
 
 -- ---- before the set

@@ -6,4 +6,5 @@ pub mod EndRuns
 pub mod Moments
 pub mod Shown
 pub mod Stops
+pub mod Stages
 pub mod Sealing

@@ -2,6 +2,7 @@
 use Rattle.std.specs.Prelude.{◌≡◌, ℕ, suc, List, ◌++◌, Option, Result, Ok, Err}
 use Rattle.ob_base.specs.declared.value.Write.{Write}
 use Rattle.ob_end.specs.EndRuns.{EndImages, standing_at_end}
+use Rattle.ob_end.specs.Stages.{EndStagesSet, IsEndSpanned}
 use Rattle.ob_fetch.specs.Stages.{InTwoStages}
 use Rattle.ob_fetch.specs.declared.run.Run.{Run}
 use Rattle.ob_log.specs.Logs.{BatchRecord}
@@ -48,7 +49,13 @@ module _ {S : Type 0} (disk : S → Disk) (most : ℕ) (s : RingStanding) (ws : 
   EndStages (Err (end.Before refused)) = LeavesOnly (disk old) (disk new) (Stands (run.sealer).keys run.params s)
   EndStages (Err (end.Unsure refused)) = IsEndInStages
 
+  -- and with the register's gates, in the stages of its set
+  abbrev pub EndSpans : Result (Unit {0}) EndErr → Type 0
+  EndSpans result =
+      IsEndSpanned disk (run.sealer).keys run.params s (standing_at_end s run' ws) (is_closed_first (run.gates).epoch (place_of (suc run.epoch))) (IsEndMadeButSet most run) (EndStagesSet result) old new
+
   -- what a crash leaves at any moment, and in this order
   pub record EndMoments (result : Result (Unit {0}) EndErr) : Type 0 where
     pub leaves : LeavesOnly (disk old) (disk new) (EndImages (run.sealer).keys run.params s ws run' result)
     pub stages : EndStages result
+    pub spans : EndSpans result

@@ -17,7 +17,8 @@ ghost use Rattle.ob_twin.specs.Keyed.{tagging};
 ghost use Rattle.ob_twin.specs.Opening.{GatesAre, gates_set, is_closed_first};
 ghost use Rattle.ob_twin.specs.Refused.{IsSetFault};
 ghost use Rattle.ob_twin.specs.Register.{place_of};
-ghost use Rattle.ob_end.specs.Closings.{ClosesEnd, CloseDoes, IfWritten, SameGeneration};
+ghost use Rattle.ob_end.specs.Closings.{CloseDoes, IfWritten, SameGeneration};
+ghost use Rattle.ob_end.specs.Stages.{Closes};
 ghost use Rattle.ob_end.specs.Stops.{CloseStops};
 
 use crate::writing::write_end;
@@ -82,13 +83,13 @@ pub fn close_epoch<R: Threads + Sync, S: Store, W: Watch>(
     // Neither the head nor the register of generations is written.
     ensures moments { Passes SameGeneration (S.disk store.old) (S.disk store.new) }
     // Of each epoch that stands and each end of it that the ring makes: the writes, and then the
-    // register.
+    // register, which leaves its gates by how many notes lack at a moment.
     ensures closes { (s : RingStanding) (end : RingEnd) → epoch ≡ suc s.epoch
         → (S.disk store.old).tells → IsSynced (S.disk store.old)
         → Stands sealer.old.keys ring.old.p s (S.disk store.old).cells
         → IsEndOfRing s end sealer.old.generation ring.old
-        → ClosesEnd S.disk (end_write_notes ring.old epoch) sealer.old.keys ring.old.p s end
-        store.old store.new result }
+        → Closes S.disk (end_write_notes ring.old epoch) sealer.old.keys ring.old.p s end
+        (is_closed_first gates.old.epoch (place_of epoch)) store.old store.new result }
     ensures does { CloseDoes (end_write_notes ring.old epoch)
         (is_closed_first gates.old.epoch (place_of epoch)) epoch (S.disk store.old).seen
         (S.disk store.new).seen (W.trace watch.old) (W.trace watch.new) result }

@@ -173,7 +173,8 @@ pub fn end<S: Lanes, R: Threads + Sync, T: Tape, W: Watch>(
         (T.drawn tape.new)) run.old.sealer.generation run.old.drawn) (S.disk store.new) run.new
         result }
     // A crash at any moment of it leaves what stood, or that or what then stands: the first until
-    // the register is set, behind the lifts and all that is written beside it.
+    // the register is set, behind the lifts and all that is written beside it; and it leaves the
+    // register's gates by how many notes lack then.
     ensures images { (s : RingStanding) → RunIsAt run.old s (S.disk store.old)
         → EndMoments S.disk crew.old.lanes s (end_writes run.old.params writes.now
         (words_since (T.drawn tape.old) (T.drawn tape.new)) run.old.sealer.generation

@@ -1,5 +1,5 @@
 -- What a fetch tells, leaves and answers, by its parts.
-use Rattle.std.proofs.Common.{◌≡◌, inl, inr, ℕ, suc, ◌+◌, ◌%◌, ◌^◌, ◌<◌, ◌≤◌, Bool, true, false, MatchBool, List, [], ◌∷◌, ◌++◌, Option, None, Result, Err, length, length-append, refl, sym, ap, ◌∙◌, subst, arith}
+use Rattle.std.proofs.Common.{◌≡◌, inl, inr, ⊎_elim, ℕ, suc, ◌+◌, ◌%◌, ◌^◌, ◌<◌, ◌≤◌, Bool, true, false, MatchBool, List, [], ◌∷◌, ◌++◌, Option, None, Result, Err, length, length-append, refl, sym, ap, ◌∙◌, subst, arith}
 use Rattle.std.proofs.lemmas.Bool.{false≢true}
 use mathlib.Core.Path.{fun_ext}
 use Rattle.ob_base.specs.Layout.{log_cell, record_cells}
@@ -22,7 +22,7 @@ use Rattle.ob_stand.proofs.AppendLaws.{appends_leave}
 use Rattle.ob_twin.proofs.Moves.{settled_image}
 use Rattle.ob_stand.proofs.Frames.{stands_all}
 use Rattle.ob_stand.specs.Stands.{OneOf, RingStanding, Stands, with_record}
-use Rattle.ob_store.proofs.Moments.{leaves_of, passed_then, passes_so, started, then_on}
+use Rattle.ob_store.proofs.Moments.{leaves_of, no_later, passed_then, passes_so, started, then_on}
 use Rattle.ob_store.specs.Calls.{Keeps, Notes}
 use Rattle.ob_store.specs.Disk.{Clock, Disk, Image, NotAfter}
 use Rattle.ob_store.specs.Images.{IsSynced, LeavesOnly, Passes, Same, SameOff}
@@ -175,14 +175,18 @@ leaves_read P old mid new only counts first passes =
 -- In two stages: its record's gate was synced, and then it was read.
 pub in_stages : {S : Type 0} (disk : S → Disk) (run : Run) (s : RingStanding) (r : BatchRecord) (old mid new : S) → ((c : Image) → (disk mid).left_since (disk mid).moment c → (disk mid).may_leave c)
     → Notes (events_of (append_notes run.params (suc run.epoch) r.batch)) (disk old).seen (disk mid).seen → LeavesOnly (disk old) (disk mid) (OneOf (run.sealer).keys run.params s (with_record s r))
-    → IsRecordInStages disk run s r old mid → IsSynced (disk mid) → Stands (run.sealer).keys run.params (with_record s r) (disk mid).cells → Passes Same (disk mid) (disk new) → IsFetchInStages disk run s r old new
-in_stages disk run s r old mid new only made until logs synced stands passes = record {
+    → IsRecordInStages disk run s r old mid → IsSynced (disk mid) → Stands (run.sealer).keys run.params (with_record s r) (disk mid).cells → ((k : ℕ) → k < 9 → (disk mid).cells k ≡ (disk old).cells k) → Passes Same (disk mid) (disk new)
+    → IsFetchInStages disk run s r old new
+in_stages disk run s r old mid new only made until logs synced stands same passes = record {
   between = mid;
   made = made;
   until = until;
   logs = logs;
   since = leaves_of Same (Stands (run.sealer).keys run.params (with_record s r)) (Stands (run.sealer).keys run.params (with_record s r)) (disk mid) (disk new) passes only
       (λ c left. stands_all (run.sealer).keys run.params (with_record s r) c (disk mid).cells (synced c left) stands) (λ tells. stands) (λ c d was step. subst (Stands (run.sealer).keys run.params (with_record s r)) (sym step) was) (λ c was. was);
+  kept = λ c left k low. ⊎_elim (λ (before : (disk mid).left_since (disk mid).moment c). synced c (only c before) k)
+      (λ (back : (d : Image) × (disk mid).may_leave d × Same c d). ap (λ (i : Image). i k) back.2 ∙ synced back.0 back.1 k) (passes.since (disk mid).moment c (no_later (disk mid).moment) left)
+      ∙ same k low;
 }
 
 module _ {S : Type 0} (disk : S → Disk) (run : Run) (s : RingStanding) (r : BatchRecord) (old new : S) where
@@ -310,7 +314,8 @@ stages_logged disk run s asks words old mid new only_old only_mid was some few o
     let begun = begun_now run asks words (disk old) (disk mid) some few obeys (within_next run (disk old) (disk mid) within) was.tells in
     in_stages disk run s r old mid new only_mid (subst (λ (e : ℕ). Notes (events_of (append_notes run.params e (next_batch run))) (disk old).seen (disk mid).seen) (next_is run.epoch) seen)
     (begun_leaves run s r (disk old) (disk mid) was begun only_old within images) logs synced
-    (stands_then run s r (disk old) (disk mid) was begun (subst (λ (e : ℕ). HoldsRecord (run.sealer).keys run.params e (next_batch run) r (disk mid).cells) (next_is run.epoch) written)) passes
+    (stands_then run s r (disk old) (disk mid) was begun (subst (λ (e : ℕ). HoldsRecord (run.sealer).keys run.params e (next_batch run) r (disk mid).cells) (next_is run.epoch) written))
+    (λ k low. within.rest was.tells k (inl (omega (arith, low)))) passes
 
 -- ---- a batch that was read, by the names that a run has for its parts
 

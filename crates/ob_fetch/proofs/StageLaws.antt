@@ -1,5 +1,5 @@
 -- The stages of an append, as those of a fetch.
-use Rattle.std.proofs.Common.{◌≡◌, ◌⊎◌, inl, inr, ⊎_elim, ℕ, suc, ◌+◌, ◌%◌, ◌<◌, ◌≤◌, List, [], ◌∷◌, ◌++◌, Option, None, Result, Err, length, refl, sym, subst, append_assoc}
+use Rattle.std.proofs.Common.{◌≡◌, ◌⊎◌, inl, inr, ⊎_elim, ℕ, suc, ◌+◌, ◌%◌, ◌<◌, ◌≤◌, List, [], ◌∷◌, ◌++◌, Option, None, Result, Err, length, refl, sym, subst, append_assoc, arith}
 use Rattle.ob_base.specs.Layout.{log_cell, log_gate, record_cells}
 use Rattle.ob_base.specs.declared.fault.Fault.{Fault}
 use Rattle.ob_base.specs.declared.fault.Fault.TheVariants.{StoreFault}
@@ -20,7 +20,7 @@ use Rattle.ob_store.specs.declared.watch.Note.{Note}
 use Rattle.ob_store.specs.declared.watch.Note.TheVariants.{Sync, Write}
 use Rattle.ob_fetch.proofs.FetchLaws.{next_is}
 use Rattle.ob_fetch.proofs.NextLaws.{Begun, at_batch, batch_is, may}
-use Rattle.ob_fetch.specs.Fetches.{FetchStages, IsBodyAlone, IsOpenIfShown, IsRecordInStages, RunIsAt, next_batch, record_next}
+use Rattle.ob_fetch.specs.Fetches.{FetchStages, IsBodyAlone, IsOpenIfShown, IsRecordInStages, KeepsFirst, RunIsAt, next_batch, record_next}
 use Rattle.ob_fetch.specs.declared.run.Run.{Run}
 
 -- ---- the notes
@@ -109,23 +109,53 @@ module _ {S : Type 0} (disk : S → Disk) (run : Run) (s : RingStanding) (asks :
   body_leaves : (end : S) → LeavesOf keys p (suc run.epoch) (next_batch run) (disk old) (disk old) (disk end) (λ rs. OpenRecords keys p (suc run.epoch) rs) → LeavesOnly (disk old) (disk end) (Stands keys p s)
   body_leaves end leaves = weakened (disk old) (disk end) (λ c. OpenRecords keys p (suc run.epoch) s.records c × Within c) (Stands keys p s) stood_at (leaves s.records was.tells was.settled many held)
 
+  abbrev Keeps : S → S → Type 0
+  Keeps from to = KeepsFirst (disk old) (disk from) (disk to)
+
+  -- the batch's cells lie behind the registers
+  first_kept : (from to : S) (P : List BatchRecord → Image → Type 0) → LeavesOnly (disk from) (disk to) (λ c. P s.records c × Within c) → Keeps from to
+  first_kept from to P leaves c left k low = (leaves.each c left).1 k (inl (omega (arith, low)))
+
+  record_until : (end : S) (x : AppendsInStages disk keys p (suc run.epoch) (next_batch run) r old end) → LeavesOnly (disk old) (disk x.between) (λ c. OpenRecords keys p (suc run.epoch) s.records c × Within c)
+  record_until end x = x.until s.records was.tells was.settled many held
+
+  record_since : (end : S) (x : AppendsInStages disk keys p (suc run.epoch) (next_batch run) r old end) → LeavesOnly (disk x.between) (disk end) (λ c. HoldsOneOf keys p (suc run.epoch) s.records r c × Within c)
+  record_since end x = x.since s.records was.tells was.settled many held
+
   pub record_stages : (end : S) → AppendsInStages disk keys p (suc run.epoch) (next_batch run) r old end → IsRecordInStages disk run s r old end
   record_stages end x = record {
-    between = x.between;
-    made = x.made;
-    until = body_leaves x.between x.until;
-    since = weakened (disk x.between) (disk end) (λ c. HoldsOneOf keys p (suc run.epoch) s.records r c × Within c) (OneOf keys p s (with_record s r)) one_at (x.since s.records was.tells was.settled many held);
+    stages = record {
+      between = x.between;
+      made = x.made;
+      until = body_leaves x.between x.until;
+      since = weakened (disk x.between) (disk end) (λ c. HoldsOneOf keys p (suc run.epoch) s.records r c × Within c) (OneOf keys p s (with_record s r)) one_at (record_since end x);
+    };
+    kept = (first_kept old x.between (λ rs. OpenRecords keys p (suc run.epoch) rs) (record_until end x), first_kept x.between end (λ rs. HoldsOneOf keys p (suc run.epoch) rs r) (record_since end x));
   }
+
+  -- both together
+  record_kept : (end : S) → AppendsInStages disk keys p (suc run.epoch) (next_batch run) r old end → Keeps old end
+  record_kept end x c left k low = ⊎_elim
+      (λ (before : (disk x.between).left_since (disk old).moment c). first_kept old x.between (λ rs. OpenRecords keys p (suc run.epoch) rs) (record_until end x) c before k low)
+      (λ (now : HoldsOneOf keys p (suc run.epoch) s.records r c × Within c). now.1 k (inl (omega (arith, low))))
+      ((record_since end x).before (disk old).moment c (record_until end x).later left)
 
   -- refused while the batch was begun
   pub stages_begun : (end : S) (before later : Trace) (f : Fault) → f ≡ StoreFault None → TellsFirst (append_notes p (suc run.epoch) (next_batch run)) (disk old).seen (disk end).seen before later
       → LeavesOnly (disk old) (disk end) (OneOf keys p s (with_record s r)) → AppendStages disk keys p (suc run.epoch) (next_batch run) r old end before later (Err f) → FetchStages disk run s r old end (Err f)
-  stages_begun end before later f is first leaves stages = subst (λ (e : Fault). FetchStages disk run s r old end (Err e)) (sym is)
+  stages_begun end before later f is first leaves stages =
+      let how : AppendsBodyAlone disk keys p (suc run.epoch) (next_batch run) r old end before later ⊎ AppendsUnsure disk keys p (suc run.epoch) (next_batch run) r old end before later =
+      subst (λ (e : Fault). AppendStages disk keys p (suc run.epoch) (next_batch run) r old end before later (Err e)) is stages in
+      subst (λ (e : Fault). FetchStages disk run s r old end (Err e)) (sym is)
       (inr (record {
         first = (first.made, first.shown, first.cut, (first.tells).seen);
         leaves = leaves;
         how = ⊎_elim
             (λ (alone : AppendsBodyAlone disk keys p (suc run.epoch) (next_batch run) r old end before later). inl (((alone.told).made, (alone.told).shown, (alone.told).cut, ((alone.told).tells).seen), body_leaves end alone.until))
             (λ (unsure : AppendsUnsure disk keys p (suc run.epoch) (next_batch run) r old end before later). inr (record_stages end unsure.stages))
-            (subst (λ (e : Fault). AppendStages disk keys p (suc run.epoch) (next_batch run) r old end before later (Err e)) is stages);
+            how;
+        kept = ⊎_elim
+            (λ (alone : AppendsBodyAlone disk keys p (suc run.epoch) (next_batch run) r old end before later). first_kept old end (λ rs. OpenRecords keys p (suc run.epoch) rs) (alone.until s.records was.tells was.settled many held))
+            (λ (unsure : AppendsUnsure disk keys p (suc run.epoch) (next_batch run) r old end before later). record_kept end unsure.stages)
+            how;
       }))

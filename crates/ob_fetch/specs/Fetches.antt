@@ -229,25 +229,34 @@ FetchStands s r asks disk run out (Err _) = ⊥
 abbrev pub AreFirstMade : List Note → Option (List Event) → Option (List Event) → Type 0
 AreFirstMade steps old new = (made : List Note) × (shown : List Note) × IsCut steps made shown × Notes (events_of made) old new
 
+-- At each moment from the one store to the other a crash leaves the head and both registers as that store had them.
+abbrev pub KeepsFirst : (start from to : Disk) → Type 0
+KeepsFirst start from to = (c : Image) → to.left_since from.moment c → (k : ℕ) → k < 9 → c k ≡ start.cells k
+
 module _ {S : Type 0} (disk : S → Disk) (run : Run) (s : RingStanding) (r : BatchRecord) where
-  -- Until the body of the batch's record was synced a crash leaves what stood; while its gate is opened, that or that with the record.
-  abbrev pub IsRecordInStages : S → S → Type 0
-  IsRecordInStages old new = InTwoStages disk (Notes (events_of (body_notes run.params (suc run.epoch) r.batch))) (Stands (run.sealer).keys run.params s) (OneOf (run.sealer).keys run.params s (with_record s r)) old new
+  -- Until the body of the batch's record was synced a crash leaves what stood; while its gate is opened, that or that with the record. No register
+  -- is written in either.
+  pub record IsRecordInStages (old new : S) : Type 0 where
+    pub stages : InTwoStages disk (Notes (events_of (body_notes run.params (suc run.epoch) r.batch))) (Stands (run.sealer).keys run.params s) (OneOf (run.sealer).keys run.params s (with_record s r)) old new
+    pub kept : KeepsFirst (disk old) (disk old) (disk stages.between) × KeepsFirst (disk old) (disk stages.between) (disk new)
 
   -- Until the sync behind the gate of the batch's record the store was called for the record alone, and a crash leaves what stood, or that with
-  -- the record. From then on, while the batch is read, it leaves that with the record.
+  -- the record. From then on, while the batch is read, it leaves that with the record. No register is written.
   pub record IsFetchInStages (old new : S) : Type 0 where
     pub between : S
     pub made : Notes (events_of (append_notes run.params (suc run.epoch) r.batch)) (disk old).seen (disk between).seen
     pub until : LeavesOnly (disk old) (disk between) (OneOf (run.sealer).keys run.params s (with_record s r))
     pub logs : IsRecordInStages old between
     pub since : LeavesOnly (disk between) (disk new) (Stands (run.sealer).keys run.params (with_record s r))
+    pub kept : KeepsFirst (disk old) (disk between) (disk new)
 
-  -- No more than the first of the record's calls were made: those of its body alone, and then a crash leaves what stood; or its gate's too.
+  -- No more than the first of the record's calls were made: those of its body alone, and then a crash leaves what stood; or its gate's too. No
+  -- register is written.
   pub record IsFetchCut (old new : S) : Type 0 where
     pub first : AreFirstMade (append_notes run.params (suc run.epoch) r.batch) (disk old).seen (disk new).seen
     pub leaves : LeavesOnly (disk old) (disk new) (OneOf (run.sealer).keys run.params s (with_record s r))
     pub how : (AreFirstMade (body_notes run.params (suc run.epoch) r.batch) (disk old).seen (disk new).seen × LeavesOnly (disk old) (disk new) (Stands (run.sealer).keys run.params s)) ⊎ IsRecordInStages old new
+    pub kept : KeepsFirst (disk old) (disk old) (disk new)
 
   -- Refused by the store it may have come no further than the record; where numbers are worn nothing was done.
   abbrev pub FetchStages : S → S → Result (Unit {0}) Fault → Type 0

@@ -257,7 +257,7 @@ module _ (keys : Keys) (most : ℕ) (p : Params) (word_of : WordId → ℕ) (s :
 
 -- ---- what wasn't found
 
-find_first : (keys : Keys) (p : Params) (old new : Disk) (k l : Trace) (f : Fault) → FindDoes keys p old new k l (Err f) → TellsFirst registers_notes old.seen new.seen k l ⊎ FindsPart keys p old new k l
+pub find_first : (keys : Keys) (p : Params) (old new : Disk) (k l : Trace) (f : Fault) → FindDoes keys p old new k l (Err f) → TellsFirst registers_notes old.seen new.seen k l ⊎ FindsPart keys p old new k l
 find_first keys p old new k l Memory does = does
 find_first keys p old new k l Usage does = does
 find_first keys p old new k l (BadScript line) does = does

@@ -8,6 +8,7 @@ pub mod Movings
 pub mod OpenedLaws
 pub mod ActLaws
 pub mod FaultLaws
+pub mod StopLaws
 pub mod StoodLaws
 pub mod WholeLaws
 pub mod PlanLaws

@@ -9,10 +9,12 @@ ghost use Rattle.ob_twin.specs.Clear.{InClearBy};
 ghost use Rattle.ob_twin.specs.Keyed.{tagging};
 ghost use Rattle.ob_twin.specs.Register.{StandsAt};
 ghost use Rattle.ob_recover.specs.Life.{LifeAct, LifeState, WordId};
+ghost use Rattle.ob_start.specs.Registers.{HaveOpen};
 ghost use Rattle.ob_opening.specs.OpeningActs.{IsLeftAt, OpensInLife};
 ghost use Rattle.ob_opening.specs.Openings.{IsOpeningOf, IsToldOpening, IsOpenFault, IsOpenRefusal, OpensWhatStood};
 ghost use Rattle.ob_opening.specs.OpeningParts.{AreRooms, FoundDoes, FoundRefused, FoundStays, IsFoundFault, IsFoundRefusal};
 ghost use Rattle.ob_opening.specs.OpeningRuns.{BeginsAt, IsAtStart, IsRingOpened, OpeningLeaves, RefusedDoes, RefusedWrites, StartsTape, next_notes};
+ghost use Rattle.ob_opening.specs.OpeningStops.{OpeningStops, StopsAt};
 
 use crate::opening::Opening;
 use crate::rooms::{Rooms, rooms_for};
@@ -41,6 +43,7 @@ fn open_found<S: Lanes, R: Threads + Sync, T: Tape, W: Watch>(
     requires obeys { ObeysFound p.now found }
     requires gates { (S.disk store.old).tells
         → IsFoundInRing keys.now p.now (S.disk store.old).cells found }
+    requires some { HaveOpen found.gates }
     requires rooms { AreRooms p.now rooms.crew.lanes rooms }
     ensures serves { Serves IsStoreFault (S.disk store.old) (S.disk store.new) result }
     ensures faults { IfErr result (IsFoundFault found.generation) }
@@ -69,6 +72,8 @@ fn open_found<S: Lanes, R: Threads + Sync, T: Tape, W: Watch>(
         watch.new (T.present tape.new) found.generation) }
     ensures does { FoundDoes rooms.crew.lanes p.now found (S.disk store.old).seen
         (S.disk store.new).seen (W.trace watch.old) (W.trace watch.new) result }
+    ensures stops { IfErr result (StopsAt (next_notes found) keys.now rooms.crew.lanes p.now found
+        (S.disk store.old) (S.disk store.new) (W.trace watch.old) (W.trace watch.new)) }
 {
     let mut gates = found.gates;
     let epoch = found.epoch;
@@ -164,6 +169,10 @@ pub fn prepare<S: Lanes, R: Threads + Sync, T: Tape, W: Watch>(
     ensures unwritten { IfErr result (RefusedWrites S.disk keys.now p.now store.old store.new
         tape.old tape.new (T.present tape.new) (T.drawn tape.new)) }
     ensures does_err { IfErr result (RefusedDoes keys.now lanes p.now (S.disk store.old)
+        (S.disk store.new) (W.trace watch.old) (W.trace watch.new)) }
+    // Refused, it leaves the gates of the epoch's register as they were, and those of the
+    // generations' one by how many of the notes lack with which the next generation begins.
+    ensures stops { IfErr result (OpeningStops keys.now lanes p.now (S.disk store.old)
         (S.disk store.new) (W.trace watch.old) (W.trace watch.new)) }
     // Of a store whose life has reached this state, perhaps with an act in flight, the acts are
     // what was found of that, the next generation, and a repeat of each batch of the log; the first

@@ -1,11 +1,11 @@
 -- What a begin that was refused leaves of the generations' register, by how many of its notes weren't shown.
-use Rattle.std.proofs.Common.{◌≡◌, ℕ, suc, ◌-◌, Bool, true, false, inl, inr, List, [], ◌∷◌, ◌++◌, length, length-append, Err, append_assoc, arith, refl, subst, sym, ◌∙◌}
+use Rattle.std.proofs.Common.{◌≡◌, ◌≤◌, ℕ, ◌+◌, ◌-◌, Bool, true, false, inl, inr, List, [], ◌∷◌, ◌++◌, length, length-append, Err, append_assoc, arith, refl, subst, sym, ◌∙◌}
 use mathlib.Core.Path.{fun_ext}
 use Rattle.ob_seal.specs.declared.keys.Keys.{Keys}
 use Rattle.ob_store.proofs.Doing.{cut_behind, cut_more, cut_none, cut_sync, tells_then}
 use Rattle.ob_store.specs.Calls.{Keeps}
 use Rattle.ob_store.specs.Disk.{Disk, Image}
-use Rattle.ob_store.specs.Images.{IsSynced, Shrinks}
+use Rattle.ob_store.specs.Images.{IsSynced, Passes, Shrinks}
 use Rattle.ob_store.specs.Lines.{Trace}
 use Rattle.ob_store.specs.Told.{IsCut, Tells}
 use Rattle.ob_store.specs.declared.watch.Note.{Note}
@@ -13,12 +13,12 @@ use Rattle.ob_store.specs.declared.watch.Note.TheVariants.{Sync, Write}
 use Rattle.ob_twin.specs.Keyed.{tagging}
 use Rattle.ob_twin.specs.Opening.{is_closed_first}
 use Rattle.ob_twin.specs.Orders.{SetDoes, gate_notes, prepare_notes, set_notes, through_notes}
-use Rattle.ob_twin.specs.Register.{gate_at, place_of}
+use Rattle.ob_twin.specs.Register.{IsPut, SameOutside, gate_at, place_of}
 use Rattle.ob_twin.specs.Stops.{IsRegisterLeft, IsSettingLeft, SetStops, StopsShort}
 use Rattle.ob_twin.specs.declared.gates.Open.{Open}
 use Rattle.ob_twin.specs.declared.set_err.SetErr.{SetErr}
 use Rattle.ob_twin.specs.declared.set_err.SetErr.TheVariants.{Before, Unsure}
-use Rattle.ob_start.specs.Beginning.{IsBeginLeft}
+use Rattle.ob_start.specs.Beginning.{IsBeginLeft, IsSyncedLeft}
 use Rattle.ob_start.specs.Orders.{begin_notes}
 
 module _ (keys : Keys) (known : Open) (n : ℕ) (old new : Disk) where
@@ -28,32 +28,38 @@ module _ (keys : Keys) (known : Open) (n : ℕ) (old new : Disk) where
   abbrev pub Stops : Trace → Trace → Type 0
   Stops k l = StopsShort (begin_notes known n) (begin_notes known n) (IsBeginLeft keys closes n old) old new k l
 
-  -- nothing was written: each image is as it was
-  none_left : (b : Bool) (c : Image) → IsRegisterLeft (tagging keys) 1 n c (suc (length (set_notes b 1 n))) c
-  none_left true c = record { place = refl; other = refl }
-  none_left false c = record { place = λ opened. opened; other = refl }
+  -- all was done
+  pub set_leaves : (mid : Disk) → Keeps old mid → SameOutside 1 new.cells old.cells → old.tells → IsPut (tagging keys) 1 mid.cells n new.cells → IsSyncedLeft keys n old.cells 0 new.cells
+  set_leaves mid keeps rest told put = record {
+    rest = rest;
+    register = record { place = put.opened; other = put.rest (gate_at 1 (place_of (n + 1))) (λ e. omega (arith, e)) (λ e. omega (arith, e)) ∙ keeps.cells told (gate_at 1 (place_of (n + 1))) };
+  }
 
   -- the sync was refused
   pub sync_stops : (k l : Trace) → Tells (Sync ∷ []) [] old.seen new.seen k l → Shrinks old new → Stops k l
   sync_stops k l tells shrinks = record {
     first = record { made = Sync ∷ []; shown = []; cut = cut_more (Sync ∷ []) (set_notes closes 1 n) (Sync ∷ []) [] (cut_sync []); tells = tells };
-    left = λ c left told opened.
-        let many : suc (length (set_notes closes 1 n)) ≡ length (begin_notes known n) - 0 = (let all = length-append (Sync ∷ []) (set_notes closes 1 n) in omega (arith, all)) in
-        (c, inl (shrinks c left), subst (λ (lacking : ℕ). IsRegisterLeft (tagging keys) 1 n c lacking c) many (none_left closes c));
+    left = λ c left.
+        let all = length-append (Sync ∷ []) (set_notes closes 1 n) in
+        inl (omega (arith, all), shrinks c left);
   }
 
   -- or the set behind it
-  module _ (mid : Disk) (k l m : Trace) (synced : Tells (Sync ∷ []) (Sync ∷ []) old.seen mid.seen k l) (keeps : Keeps old mid) (settled : old.tells → IsSynced mid) where
-    onto : (lacking : ℕ) (c : Image) → IsSettingLeft (tagging keys) closes 1 n mid lacking c → IsBeginLeft keys closes n old lacking c
-    onto lacking c left = λ told opened.
-        let same : mid.cells ≡ old.cells = fun_ext (λ j. keeps.cells told j) in (
-          old.cells,
-          inr (told, refl),
-          subst (λ (i : Image). IsRegisterLeft (tagging keys) 1 n i lacking c) same (left (keeps.tells told) (settled told) (λ closed. keeps.cells told (gate_at 1 (place_of n)) ∙ opened closed)),
-        )
-
+  module _ (mid : Disk) (k l m : Trace) (synced : Tells (Sync ∷ []) (Sync ∷ []) old.seen mid.seen k l) (keeps : Keeps old mid) (settled : old.tells → IsSynced mid) (passes : Passes (SameOutside 1) mid new) where
     abbrev all : List Note
     all = set_notes closes 1 n
+
+    onto : (lacking : ℕ) (c : Image) → new.may_leave c → lacking ≤ length all → IsSettingLeft (tagging keys) closes 1 n mid lacking c → IsBeginLeft keys closes n old lacking c
+    onto lacking c left few setting = inr (
+      few,
+      λ told opened.
+          let same : mid.cells ≡ old.cells = fun_ext (λ j. keeps.cells told j) in
+          let passed = passes.now c left in
+          record {
+            rest = λ k out. passed.2 k out ∙ settled told passed.0 passed.1 k ∙ keeps.cells told k;
+            register = subst (λ (i : Image). IsRegisterLeft (tagging keys) 1 n i lacking c) same (setting (keeps.tells told) (settled told) (λ closed. keeps.cells told (gate_at 1 (place_of n)) ∙ opened closed));
+          },
+    )
 
     abbrev gate : List Note
     gate = gate_notes closes 1 n
@@ -65,12 +71,16 @@ module _ (keys : Keys) (known : Open) (n : ℕ) (old new : Disk) where
     one_lacks true = refl
     one_lacks false = refl
 
+    some_lack : (b : Bool) → 1 ≤ length (set_notes b 1 n)
+    some_lack true = omega arith
+    some_lack false = omega arith
+
     -- as many lack as of the set's own
     as_many : (shown : List Note) → length all - length shown ≡ length (begin_notes known n) - length (Sync ∷ shown)
     as_many shown = (let rows = length-append (Sync ∷ []) all in let shows = length-append (Sync ∷ []) shown in omega (arith, rows, shows))
 
     unsure_left : ((c : Image) → new.may_leave c → IsSettingLeft (tagging keys) closes 1 n mid 1 c) → (c : Image) → new.may_leave c → IsBeginLeft keys closes n old (length (begin_notes known n) - length (Sync ∷ gate)) c
-    unsure_left stops c left = subst (λ (lacking : ℕ). IsBeginLeft keys closes n old lacking c) (sym (one_lacks closes) ∙ as_many gate) (onto 1 c (stops c left))
+    unsure_left stops c left = subst (λ (lacking : ℕ). IsBeginLeft keys closes n old lacking c) (sym (one_lacks closes) ∙ as_many gate) (onto 1 c left (some_lack closes) (stops c left))
 
     pub set_stops : (x : SetErr) → SetDoes closes 1 n mid.seen new.seen l m (Err x) → SetStops (tagging keys) closes 1 n mid new l m (Err x) → Stops k m
     set_stops (Before fault) does stops = record {
@@ -80,7 +90,7 @@ module _ (keys : Keys) (known : Open) (n : ℕ) (old new : Disk) where
         cut = cut_behind (Sync ∷ []) all (stops.first).made (stops.first).shown (cut_more (prepare_notes closes 1 n) (through_notes (gate_at 1 (place_of n))) (stops.first).made (stops.first).shown (stops.first).cut);
         tells = tells_then (Sync ∷ []) (Sync ∷ []) (stops.first).made (stops.first).shown old.seen mid.seen new.seen k l m synced (stops.first).tells;
       };
-      left = λ c left. subst (λ (lacking : ℕ). IsBeginLeft keys closes n old lacking c) (as_many (stops.first).shown) (onto (length all - length (stops.first).shown) c (stops.left c left));
+      left = λ c left. subst (λ (lacking : ℕ). IsBeginLeft keys closes n old lacking c) (as_many (stops.first).shown) (onto (length all - length (stops.first).shown) c left (omega arith) (stops.left c left));
     }
     set_stops (Unsure fault) (inl one) stops = record {
       first = record {

@@ -1,15 +1,16 @@
 -- What the begin of a generation tells and leaves.
-use Rattle.std.specs.Prelude.{◌≡◌, ◌<◌, ◌⊎◌, ◌^◌, ℕ, suc, Bool, IsTrue, List, [], ◌∷◌, ◌++◌, map, None, Result, Ok, Err}
+use Rattle.std.specs.Prelude.{◌≡◌, ◌<◌, ◌≤◌, ◌⊎◌, ◌^◌, ℕ, suc, Bool, IsTrue, List, [], ◌∷◌, ◌++◌, length, map, None, Result, Ok, Err}
 use Rattle.ob_base.specs.declared.fault.Fault.{Fault}
 use Rattle.ob_base.specs.declared.fault.Fault.TheVariants as fault
 use Rattle.ob_store.specs.Disk.{Disk, Image}
-use Rattle.ob_store.specs.Images.{IsImageOf, Same, IsSynced, Passes, LeavesOnly}
+use Rattle.ob_store.specs.Images.{Same, IsSynced, Passes, LeavesOnly}
 use Rattle.ob_store.specs.Lines.{Trace}
 use Rattle.ob_store.specs.Calls.{Keeps, Notes}
 use Rattle.ob_store.specs.declared.event.Event.TheVariants as event
 use Rattle.ob_seal.specs.declared.keys.Keys.{Keys}
 use Rattle.ob_twin.specs.Keyed.{tagging}
-use Rattle.ob_twin.specs.Register.{IsOpen, StandsAt, OldOrNew, place_of}
+use Rattle.ob_twin.specs.Orders.{set_notes}
+use Rattle.ob_twin.specs.Register.{IsOpen, StandsAt, OldOrNew, SameOutside, place_of}
 use Rattle.ob_twin.specs.Opening.{gates_set, is_closed_first}
 use Rattle.ob_twin.specs.Stops.{IsRegisterLeft, StopsShort}
 use Rattle.ob_twin.specs.declared.gates.Open.{Open}
@@ -52,13 +53,21 @@ abbrev pub BeginLeaves : {S : Type 0} → (S → Disk) → Keys → ℕ → S �
 BeginLeaves disk keys generation old new (Ok next) = BeginsFrom disk keys generation old new
 BeginLeaves disk keys generation old new (Err refused) = Passes Same (disk old) (disk new) ⊎ BeginsFrom disk keys generation old new
 
--- From that store on this generation was to begin, and so many of its notes lack: an image is left so, of one that might have been left before.
+-- The image has these cells, but for the generations' register, which is left by how many notes lack.
+pub record IsSyncedLeft (keys : Keys) (generation : ℕ) (cells : Image) (lacking : ℕ) (image : Image) : Type 0 where
+  pub rest : SameOutside 1 image cells
+  pub register : IsRegisterLeft (tagging keys) 1 generation cells lacking image
+
+-- From that store on this generation was to begin, and so many of its notes lack. Where its first sync is one of them the image might have been
+-- left before; else it is left so from the cells that were told, if a gate that is closed first was open.
 abbrev pub IsBeginLeft : Keys → (closed_first : Bool) → (generation : ℕ) → (old : Disk) → (lacking : ℕ) → Image → Type 0
 IsBeginLeft keys closed_first generation old lacking image =
-    old.tells → (IsTrue closed_first → IsOpen 1 old.cells (place_of generation)) → (d : Image) × IsImageOf old d × IsRegisterLeft (tagging keys) 1 generation d lacking image
+    ((length (set_notes closed_first 1 generation) < lacking) × old.may_leave image)
+    ⊎ ((lacking ≤ length (set_notes closed_first 1 generation)) × (old.tells → (IsTrue closed_first → IsOpen 1 old.cells (place_of generation)) → IsSyncedLeft keys generation old.cells lacking image))
 
--- refused by its store
+-- Done, or refused by its store.
 abbrev pub BeginStops : Keys → Open → (generation : ℕ) → (old new : Disk) → (before after : Trace) → Result ℕ Fault → Type 0
+BeginStops keys known generation old new before after (Ok next) = old.tells → IsSyncedLeft keys generation old.cells 0 new.cells
 BeginStops keys known generation old new before after (Err (fault.StoreFault unsure)) =
     StopsShort (begin_notes known generation) (begin_notes known generation) (IsBeginLeft keys (is_closed_first known (place_of generation)) generation old) old new before after
 BeginStops keys known generation old new before after _ = Unit {0}

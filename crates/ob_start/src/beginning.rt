@@ -55,7 +55,8 @@ pub fn begin<S: Store, W: Watch>(
     ensures leaves { BeginLeaves S.disk sealer.now.keys generation store.old store.new result }
     ensures does { Does (begin_notes gates.old.generation (suc generation)) (S.disk store.old).seen
         (S.disk store.new).seen (W.trace watch.old) (W.trace watch.new) result }
-    // Refused by its store, it leaves the register's gates by how many of its notes weren't shown.
+    // It sets its register's gate and leaves the other one; refused by its store, it leaves them
+    // by how many of its notes weren't shown.
     ensures stops { BeginStops sealer.now.keys gates.old.generation (suc generation)
         (S.disk store.old) (S.disk store.new) (W.trace watch.old) (W.trace watch.new) result }
 {

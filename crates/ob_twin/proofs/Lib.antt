@@ -7,3 +7,4 @@ pub mod Clear
 pub mod Sets
 pub mod Frames
 pub mod Stops
+pub mod Stages

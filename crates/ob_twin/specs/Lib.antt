@@ -5,6 +5,7 @@ pub mod Opening
 pub mod Clear
 pub mod Orders
 pub mod Stops
+pub mod Stages
 pub mod Refused
 pub mod Got
 pub mod Keyed

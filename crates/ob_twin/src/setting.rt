@@ -11,6 +11,7 @@ ghost use Rattle.ob_twin.specs.Register.{first_of, body_at, gate_at, place_of, I
 ghost use Rattle.ob_twin.specs.Opening.{known_of, gates_set, is_closed_first, GatesAre};
 ghost use Rattle.ob_twin.specs.Refused.{IsSetFault, SetLeaves};
 ghost use Rattle.ob_twin.specs.Orders.{through_notes, prepare_notes, set_notes, SetDoes, WriteDoes, unsure_of};
+ghost use Rattle.ob_twin.specs.Stages.{AreSetStages, SetMoments, StagesLaid};
 ghost use Rattle.ob_twin.specs.Stops.{IsSettingLeft, SetStops, StopsShort};
 
 use crate::bytes::{closed_gate, open_gate, plain_of};
@@ -94,6 +95,9 @@ fn lay_body<S: Store, T: Stamper, W: Watch>(
         (KeepsAt (T.tag stamper.now) first (S.disk store.old).cells m) }
     ensures does { Does (prepare_notes closes first n) (S.disk store.old).seen
         (S.disk store.new).seen (W.trace watch.old) (W.trace watch.new) result }
+    // It comes in two stages.
+    ensures stages { AreSetStages S.disk (T.tag stamper.now) closes first n (StagesLaid result)
+        store.old store.new }
     ensures stops { OnErr result (StopsShort (set_notes closes first n)
         (prepare_notes closes first n)
         (IsSettingLeft (T.tag stamper.now) closes first n (S.disk store.old)) (S.disk store.old)
@@ -154,12 +158,11 @@ impl Twin {
         ensures passes { Passes (SameOutside (first_of self)) (S.disk store.old)
             (S.disk store.new) }
         ensures durable { (S.disk store.old).tells → OnOk result (IsSynced (S.disk store.new)) }
-        // Once it is done, each image stands at the new number.
-        ensures reads_new { (S.disk store.old).tells
-            → IsUnder (T.tag stamper.now) (first_of self) (S.disk store.old).cells
-            (place_of (n + 1)) n
-            → OnOk result ((c : Image) → (S.disk store.new).may_leave c
-            → KeepsAt (T.tag stamper.now) (first_of self) (S.disk store.old).cells n c) }
+        // It closes its gate, lays the body and opens the gate, and at each moment of these leaves the
+        // gates by how many notes lack then; once it is done, each image stands at the new number.
+        ensures moments { SetMoments S.disk (T.tag stamper.now)
+            (is_closed_first (known_of self gates.old) (place_of n)) (first_of self) n store.old
+            store.new result }
         // A crash at any moment leaves the old number or the new one; the old one where it was
         // refused before the gate.
         ensures old_or_new { (m : ℕ) → n ≡ m + 1 → (S.disk store.old).tells

@@ -41,6 +41,7 @@ use Rattle.ob_tables.specs.declared.entry.Entry.{Entry}
 use Rattle.ob_twin.specs.Opening.{is_closed_first}
 use Rattle.ob_twin.specs.Orders.{set_notes}
 use Rattle.ob_twin.specs.Register.{place_of}
+use Rattle.ob_twin.specs.Stages.{AreSpans}
 use Rattle.ob_vault.proofs.Calling as calling
 use Rattle.ob_vault.proofs.Cutting.{filled_batch, filled_end}
 use Rattle.ob_vault.proofs.Ending as ending
@@ -57,8 +58,8 @@ use Rattle.ob_vault.specs.RingVaults.{EndCalled, FetchCalled, RingCalled, Runnin
 use Rattle.ob_vault.specs.Seen.{RingPublic, ring_phases}
 use Rattle.ob_vault.specs.Shapes.{Ends, Shape}
 use Rattle.ob_vault.specs.Shown.{AreFilledBy, IsInLife}
-use Rattle.ob_vault.specs.Spans.{AreSpans}
-use Rattle.ob_vault.specs.Staged.{CallsComeInStages, IsCallStaged, IsCalledFirst, IsCutIn}
+use Rattle.ob_vault.specs.Spans.{IsCutIn}
+use Rattle.ob_vault.specs.Staged.{CallsComeInStages, IsCallStaged, IsCalledFirst}
 use Rattle.ob_vault.specs.Stages.{IsStage, StageActs}
 
 module _ {V S : Type 0} (k : Kind V) (disk : S → Disk) (runs : V → Running S) (words : HasRingWords k disk runs)
@@ -88,7 +89,7 @@ module _ {V S : Type 0} (k : Kind V) (disk : S → Disk) (runs : V → Running S
     Staged answered = IsCallStaged disk keys most p f opened calls steps q h call (runs w).drawn answered (runs v).store (runs w).store
 
     -- where a run may be cut off in it
-    spans : (ends : List S) × AreSpans (IsCutIn disk keys most p f opened calls steps q h call (runs w).drawn) 0 (runs v).store ends (runs w).store
+    spans : (ends : List S) × AreSpans (IsCutIn disk keys most p f opened calls steps q h call (runs w).drawn (runs v).store) 0 (runs v).store ends (runs w).store
     spans = spanning.stops_in k disk runs words counts_now only_now keys most p f opened calls steps q h n v drawn at m is_map call answer w one (words.called v call answer one.notes w one.called)
 
     -- a stage by the names of what was found
@@ -242,7 +243,7 @@ module _ {V S : Type 0} (k : Kind V) (disk : S → Disk) (runs : V → Running S
 
     fill_stage : (word_of : WordId → ℕ) (t : LifeState) → IsInLife p word_of h t → AreTapeWords word_of h.generation (runs w).drawn → (x : S) → LeavesOnly (disk (runs v).store) (disk x) (Stands own_keys run.params st)
         → IsStage disk own_keys run.params word_of t (ShowLifts ∷ [], None) (runs v).store x
-    fill_stage word_of t here tape x all = ending.filling disk word_of t (runs v) (runs w) one.notes ws (runs_in (End ws) answer w one word_of t here tape) (end_tape word_of tape) (λ u c. counts_now (runs w).store u c) none x all
+    fill_stage word_of t here tape x all = ending.filling disk word_of t (runs v) (runs w) one.notes ws (runs_in (End ws) answer w one word_of t here tape) (end_tape word_of tape) (λ u c. counts_now (runs w).store u c) none (runs v).store x all
 
     -- all was written, but maybe for the register
     ended : (answered : Bool) (was_drawn : run.drawn ≡ length (runs v).drawn) (drawn' : ((runs w).run).drawn ≡ length (runs w).drawn) (few : length writes ≤ (run.params).writes)

@@ -142,12 +142,12 @@ module _ {S : Type 0} (disk : S → Disk) (word_of : WordId → ℕ) (s : LifeSt
     lifts_allowed = (all_logged, runs.begun ∙ all_logged)
 
     -- all is made but the set of the register
-    pub filling : (x : S) → LeavesOnly (disk old.store) (disk x) (Stands keys p st) → IsStage disk keys p word_of s (ShowLifts ∷ [], None) old.store x
-    filling x all = record {
+    pub filling : (a x : S) → LeavesOnly (disk a) (disk x) (Stands keys p st) → IsStage disk keys p word_of s (ShowLifts ∷ [], None) a x
+    filling a x all = record {
       is_life = (lifts_allowed, tt);
       small = (runs.small, λ b e. none_pending (IsBatchSmall b) (Append b) e);
       turn = λ k so_far. all_made p word_of s k (ShowLifts ∷ []) (tt, tt);
-      leaves = weakened (disk old.store) (disk x) (Stands keys p st) (IsLeftAt keys p word_of lifted None)
+      leaves = weakened (disk a) (disk x) (Stands keys p st) (IsLeftAt keys p word_of lifted None)
           (λ c stands. record { allowed = λ a e. none_pending (IsActAllowed p word_of lifted a) a e; stands = λ i same. inl (stands_lifted i (subst (Stands keys p st) same stands)) })
           all;
     }
@@ -156,7 +156,7 @@ module _ {S : Type 0} (disk : S → Disk) (word_of : WordId → ℕ) (s : LifeSt
     before_stages : LeavesOnly (disk old.store) (disk new.store) (Stands keys p st) → IsStaged disk word_of old new notes s (End ws) false
     before_stages all = record {
       ends = new.store ∷ [];
-      stages = (filling new.store all, inl refl, refl);
+      stages = (filling old.store new.store all, inl refl, refl);
       whole = λ yes. absurd (false≢true yes);
       idle = λ none. absurd (some_ends new.store [] none);
     }
@@ -304,7 +304,7 @@ module _ {S : Type 0} (disk : S → Disk) (word_of : WordId → ℕ) (s : LifeSt
       both_stages : (answered : Bool) → IsEndInStages disk old.lanes st fs old.run new.run old.store new.store → IsStaged disk word_of old new notes s (End ws) answered
       both_stages answered f = record {
         ends = f.between ∷ new.store ∷ [];
-        stages = (filling f.between f.until, inr f.made, (setting f.between new.store f.since, inl refl, refl));
+        stages = (filling old.store f.between f.until, inr f.made, (setting f.between new.store f.since, inl refl, refl));
         whole = λ yes. refl;
         idle = λ none. absurd (some_ends f.between (new.store ∷ []) none);
       }

@@ -1,10 +1,10 @@
 -- Tapes of a row of runs: one function tells the words of all of them.
 use Rattle.std.specs.Prelude.{if◌then◌else◌, slice_index, ◌==◌}
-use Rattle.std.proofs.Common.{◌≡◌, ◌∙◌, ◌<◌, ◌≤◌, ◌⊎◌, inl, inr, ⊎_elim, ℕ, suc, List, [], ◌∷◌, ◌++◌, Bool, Option, Some, arith, ap, refl, sym, subst, append_assoc}
+use Rattle.std.proofs.Common.{◌≡◌, ◌∙◌, ◌<◌, ◌≤◌, inl, inr, ⊎_elim, ℕ, suc, List, [], ◌∷◌, ◌++◌, Bool, Some, arith, ap, refl, sym, subst, append_assoc}
 use Rattle.std.proofs.lemmas.Bool.{eq-eqb, ne_eqb}
 use Rattle.std.proofs.lemmas.List.{append-nil}
 use Rattle.ob_base.specs.declared.params.Params.{Params}
-use Rattle.ob_recover.specs.Life.{IsActAllowed, LifeAct, LifeState, WordId, formatted_life, life_step, reached}
+use Rattle.ob_recover.specs.Life.{LifeAct, LifeState, WordId, formatted_life, life_step, reached}
 use Rattle.ob_seal.specs.declared.keys.Keys.{Keys}
 use Rattle.ob_store.specs.Disk.{Disk, Image}
 use Rattle.ob_opening.specs.OpeningActs.{IsLeftAt, StandsInLife}

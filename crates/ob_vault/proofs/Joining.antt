@@ -69,9 +69,16 @@ module _ (p : Params) (word_of : WordId → ℕ) where
 
 -- ---- the runs
 
-none_found : (found : List LifeAct) → Finds None found → found ≡ []
+pub none_found : (found : List LifeAct) → Finds None found → found ≡ []
 none_found found (inl none) = none
 none_found found (inr (a, pending, is)) = none_pending (found ≡ []) a pending
+
+-- what is found behind acts that were made leaves small batches
+pub small_found : (p : Params) (word_of : WordId → ℕ) (u : LifeState) (made : List LifeAct) (in_flight : Option LifeAct) → AreBatchesSmall (reached p word_of u made).log → ((b : LifeBatch) → in_flight ≡ Some (Append b) → IsBatchSmall b) → (f : List LifeAct) → Finds in_flight f
+    → AreBatchesSmall (reached p word_of (reached p word_of u made) f).log
+small_found p word_of u made in_flight few own f (inl none) = subst (λ (l : List LifeAct). AreBatchesSmall (reached p word_of (reached p word_of u made) l).log) (sym none) few
+small_found p word_of u made in_flight few own f (inr (a, flies, is)) =
+    subst (λ (l : List LifeAct). AreBatchesSmall (reached p word_of (reached p word_of u made) l).log) (sym is) (small_step p word_of (reached p word_of u made) a few (λ b e. own b (flies ∙ e)))
 
 -- the next of some acts may be in flight
 abbrev IsNext : Option LifeAct → List LifeAct → Type 0
@@ -263,7 +270,7 @@ module _ {S : Type 0} (disk : S → Disk) (keys : Keys) (p : Params) (word_of : 
         let there : reached p word_of t (acts ++ left.made) ≡ reached p word_of last left.made = reached_join p word_of t acts left.made ∙ ap (λ (u : LifeState). reached p word_of u left.made) run.leads in
         let r : Resolved (reached p word_of t (acts ++ left.made)) left.in_flight (disk new).may_leave parts = again (reached p word_of t (acts ++ left.made)) left.in_flight
         (λ c will. subst (λ (u : LifeState). IsLeftAt keys p word_of u left.in_flight c) (sym there) (left.images c will))
-        (λ f finds. subst (λ (u : LifeState). AreBatchesSmall (reached p word_of u f).log) (sym there) (small_found last left.made left.in_flight left.small.0 (λ b e. left.small.1 b e) f finds)) in
+        (λ f finds. subst (λ (u : LifeState). AreBatchesSmall (reached p word_of u f).log) (sym there) (small_found p word_of last left.made left.in_flight left.small.0 (λ b e. left.small.1 b e) f finds)) in
         let behind_all : reached p word_of t (acts ++ (left.made ++ r.found)) ≡ reached p word_of (reached p word_of t (acts ++ left.made)) r.found =
         ap (λ (l : List LifeAct). reached p word_of t l) (sym (append_assoc acts left.made r.found)) ∙ reached_join p word_of t (acts ++ left.made) r.found in
         let opened_in = begins word_of t stands small in
@@ -285,12 +292,6 @@ module _ {S : Type 0} (disk : S → Disk) (keys : Keys) (p : Params) (word_of : 
 
         rising : (g k u h : ℕ) → suc g ≡ k → k ≤ u → Rise u parts h → (g < k) × Rise k parts h
         rising g k u h next le rise = (omega (arith, next), rise_from k u parts h le rise)
-
-        small_found : (u : LifeState) (made : List LifeAct) (in_flight : Option LifeAct) → AreBatchesSmall (reached p word_of u made).log → ((b : LifeBatch) → in_flight ≡ Some (Append b) → IsBatchSmall b) → (f : List LifeAct) → Finds in_flight f
-            → AreBatchesSmall (reached p word_of (reached p word_of u made) f).log
-        small_found u made in_flight few own f (inl none) = subst (λ (l : List LifeAct). AreBatchesSmall (reached p word_of (reached p word_of u made) l).log) (sym none) few
-        small_found u made in_flight few own f (inr (a, flies, is)) =
-            subst (λ (l : List LifeAct). AreBatchesSmall (reached p word_of (reached p word_of u made) l).log) (sym is) (small_step p word_of (reached p word_of u made) a few (λ b e. own b (flies ∙ e)))
 
         found_turn : (s : LifeState) (acts made : List LifeAct) (in_flight : Option LifeAct) (k : WordsKept) → AllDrawNext p word_of s k (acts ++ made) → ((a : LifeAct) → in_flight ≡ Some a → AllDrawNext p word_of s k (acts ++ (made ++ a ∷ []))) → (f : List LifeAct) → Finds in_flight f
             → AllDrawNext p word_of s k (acts ++ (made ++ f))

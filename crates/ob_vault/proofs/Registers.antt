@@ -30,7 +30,7 @@ use Rattle.ob_vault.specs.Gated.{AreGatesBehind, AreGatesKnown, ChainsKnowGates,
 use Rattle.ob_vault.specs.RingVaults.{EndCalled, FetchCalled, HasPlanned, KeepsRun, RingCalled, Running, run_over, write_from}
 
 -- what is known of a register's gates is so where these have the same bytes
-gates_same : (known : Open) (first : ℕ) (a b : Image) → b (gate_at first 0) ≡ a (gate_at first 0) → b (gate_at first 1) ≡ a (gate_at first 1) → GatesAre known first a → GatesAre known first b
+pub gates_same : (known : Open) (first : ℕ) (a b : Image) → b (gate_at first 0) ≡ a (gate_at first 0) → b (gate_at first 1) ≡ a (gate_at first 1) → GatesAre known first a → GatesAre known first b
 gates_same known first a b zero one gates = record {
   zero = (λ marked. zero ∙ (gates.zero).0 marked, λ opened. (gates.zero).1 (sym zero ∙ opened));
   one = (λ marked. one ∙ (gates.one).0 marked, λ opened. (gates.one).1 (sym one ∙ opened));

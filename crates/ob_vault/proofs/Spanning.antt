@@ -1,5 +1,5 @@
 -- A run that is cut off in a stage of a call goes on with its life.
-use Rattle.std.specs.Prelude.{◌≡◌, ℕ, suc, ◌+◌, ◌%◌, ◌<◌, ◌≤◌, ◌^◌, List, [], ◌∷◌, ◌++◌, map, length, Option, Some, None, Ok, Err}
+use Rattle.std.specs.Prelude.{◌≡◌, ◌⊎◌, ℕ, zero, suc, ◌+◌, ◌%◌, ◌<◌, ◌≤◌, ◌^◌, List, [], ◌∷◌, ◌++◌, map, length, Option, Some, None, Result, Ok, Err}
 use Rattle.std.specs.Ordering.{nat_cmp}
 use Rattle.std.proofs.Common.{arith, refl, sym, ap, subst, ◌∙◌, inl, inr, ⊎_elim}
 use Rattle.std.proofs.lemmas.Bool.{cases_lt}
@@ -9,8 +9,11 @@ use Rattle.ob_base.specs.declared.fault.Fault.TheVariants as fault
 use Rattle.ob_base.specs.declared.params.Params.{Params}
 use Rattle.ob_base.specs.declared.value.Write.{Write}
 use Rattle.ob_end.specs.EndRuns.{AreEntriesWritten, IsAtContent, MayEndEpoch, TakeBucketWords, standing_at_end, table_ended, words_for_end}
-use Rattle.ob_end.specs.Moments.{IsEndInStages}
-use Rattle.ob_fetch.specs.Fetches.{AreFirstMade, DrawsWords, FetchStages, IsFetchInStages, IsRecordInStages, words_since}
+use Rattle.ob_end.proofs.Spans.{spans_so}
+use Rattle.ob_end.specs.EndWrites.{SameFirst}
+use Rattle.ob_end.specs.Moments.{EndSpans, IsEndMadeButSet}
+use Rattle.ob_end.specs.Stages.{EndStagesSet, IsEndSetStage, IsEndSpanned}
+use Rattle.ob_fetch.specs.Fetches.{AreFirstMade, DrawsWords, FetchStages, IsFetchInStages, IsRecordInStages, KeepsFirst, words_since}
 use Rattle.ob_log.specs.Appends.{body_notes}
 use Rattle.ob_fetch.specs.declared.run.Run.{Run}
 use Rattle.ob_fresh.specs.Drawn.{DrawInTurn, WordsKept}
@@ -30,13 +33,20 @@ use Rattle.ob_seal.specs.declared.keys.Keys.{Keys}
 use Rattle.ob_serial.specs.Serial.{Map}
 use Rattle.ob_serial.specs.VaultKinds.{Called, Kind}
 use Rattle.ob_serial.specs.Vaults.{DoubtBy, End, Ended, Fetch, RefusedBy, Values, VaultAnswer, VaultCall}
+use Rattle.ob_serial.specs.declared.vault.EndErr.{EndErr}
 use Rattle.ob_serial.specs.declared.vault.EndErr.TheVariants as end
 use Rattle.ob_stand.specs.Stands.{OneOf, RingStanding, Stands, with_record}
+use Rattle.ob_store.proofs.Moments.{no_later}
 use Rattle.ob_store.specs.Disk.{Clock, Disk, Image, NotAfter}
 use Rattle.ob_store.specs.Images.{LeavesOnly}
 use Rattle.ob_store.specs.declared.event.Event.{Event}
 use Rattle.ob_store.specs.declared.watch.Note.{Note}
 use Rattle.ob_tables.specs.declared.entry.Entry.{Entry}
+use Rattle.ob_twin.specs.Keyed.{tagging}
+use Rattle.ob_twin.specs.Opening.{is_closed_first}
+use Rattle.ob_twin.specs.Register.{place_of}
+use Rattle.ob_twin.specs.Stages.{AreSpans}
+use Rattle.ob_twin.specs.Stops.{IsRegisterLeft}
 use Rattle.ob_vault.proofs.Cutting.{filled_batch, filled_end}
 use Rattle.ob_vault.proofs.DrawnChains.{drawn_shown}
 use Rattle.ob_vault.proofs.Ending as ending
@@ -54,8 +64,13 @@ use Rattle.ob_vault.specs.RingVaults.{EndCalled, FetchCalled, KeepsRun, RingCall
 use Rattle.ob_vault.specs.Seen.{RingPublic}
 use Rattle.ob_vault.specs.Shapes.{Shape}
 use Rattle.ob_vault.specs.Shown.{AreFilledBy, AreOfLife, IsInLife}
-use Rattle.ob_vault.specs.Spans.{AreSpans, IsMadeIn, IsSeenIn, RowsOfStages, RunsStopInStages, StopsIn, span}
+use Rattle.ob_vault.specs.Spans.{AreRegistersIn, IsCutIn, IsMadeIn, IsSeenIn, RowsOfStages, RunsStopInStages, StopsIn, span}
 use Rattle.ob_vault.specs.Stages.{IsStage, StageActs}
+
+-- stages whose numbers begin with one more
+spans_later : {S : Type 0} (IsSo : ℕ → S × S → Type 0) (stage : ℕ) (old : S) (ends : List S) (new : S) → AreSpans (λ n x. IsSo (suc n) x) stage old ends new → AreSpans IsSo (suc stage) old ends new
+spans_later IsSo stage old [] new are = are
+spans_later IsSo stage old (end ∷ ends) new are = (are.0, spans_later IsSo (suc stage) end ends new are.1)
 
 module _ {V S : Type 0} (k : Kind V) (disk : S → Disk) (runs : V → Running S) (words : HasRingWords k disk runs)
     (counts_now : (x : S) (t : Clock) (c : Image) → NotAfter t (disk x).moment → (disk x).may_leave c → (disk x).left_since t c) (only_now : (x : S) (c : Image) → (disk x).left_since (disk x).moment c → (disk x).may_leave c)
@@ -133,7 +148,13 @@ module _ {V S : Type 0} (k : Kind V) (disk : S → Disk) (runs : V → Running S
     goes stage x seen each = (goes_on stage x seen each, λ word_of s here tape m' is. (each word_of _ _ _).made)
 
     abbrev IsCut : ℕ → S × S → Type 0
-    IsCut stage x = (seen : List Event) → IsSeenIn most p q call stage seen → StopsIn keys most p f opened calls steps h call (runs w).drawn seen (span disk x) stage
+    IsCut stage x = IsCutIn disk keys most p f opened calls steps q h call (runs w).drawn (runs v).store stage x
+
+    abbrev Left : ℕ → S × S → Type 0
+    Left stage x = (image : Image) → (span disk x).may_leave image → AreRegistersIn keys h.epoch (disk (runs v).store).cells call stage image
+
+    cut_in : (stage : ℕ) (x : S × S) → Left stage x → ((seen : List Event) → IsSeenIn most p q call stage seen → IsThere stage x seen) → IsCut stage x
+    cut_in stage x left each = record { stops = λ seen may. goes stage x seen (each seen may); registers = left }
 
     abbrev Spans : Type 0
     Spans = (ends : List S) × AreSpans IsCut 0 (runs v).store ends (runs w).store
@@ -151,6 +172,9 @@ module _ {V S : Type 0} (k : Kind V) (disk : S → Disk) (runs : V → Running S
     abbrev b : LifeBatch
     b = life_batch r
 
+    abbrev Kept : S → S → Type 0
+    Kept a x = KeepsFirst (disk (runs v).store) (disk a) (disk x)
+
     own_tape : (word_of : WordId → ℕ) → AreTapeWords word_of h.generation (runs w).drawn → AreTapeWords word_of (run.sealer).generation (runs w).drawn
     own_tape word_of tape = subst (λ g. AreTapeWords word_of g (runs w).drawn) (sym at.generation) tape
 
@@ -161,8 +185,8 @@ module _ {V S : Type 0} (k : Kind V) (disk : S → Disk) (runs : V → Running S
         subst (λ (row : List Note). AreFirst most (phases_of row) seen) (sym (leaving.public_is k disk runs words counts_now only_now keys most p f opened q h n v at word_of t here lies (Fetch asks) answer w one tape)) first
 
     -- its record's body
-    keeping : (x : S) → LeavesOnly (disk (runs v).store) (disk x) (Stands own_keys run.params st) → IsCut (Fetch asks) answer w one 0 ((runs v).store, x)
-    keeping x all seen barely = goes (Fetch asks) answer w one 0 ((runs v).store, x) seen (λ word_of t here tape. record {
+    keeping : (x : S) → LeavesOnly (disk (runs v).store) (disk x) (Stands own_keys run.params st) → Kept (runs v).store x → IsCut (Fetch asks) answer w one 0 ((runs v).store, x)
+    keeping x all kept = cut_in (Fetch asks) answer w one 0 ((runs v).store, x) kept (λ seen barely word_of t here tape. record {
       row = ([], None);
       made = (refl, refl);
       staged = fetching.keeping disk word_of t (runs v) (runs w) one.notes asks (runs_in (Fetch asks) answer w one word_of t here tape) (own_tape word_of tape) was_drawn whole draws few (runs v).store x all;
@@ -171,8 +195,8 @@ module _ {V S : Type 0} (k : Kind V) (disk : S → Disk) (runs : V → Running S
     })
 
     -- and its gate
-    logging : (a x : S) → LeavesOnly (disk a) (disk x) (OneOf own_keys run.params st (with_record st r)) → IsCut (Fetch asks) answer w one 1 (a, x)
-    logging a x all seen barely = goes (Fetch asks) answer w one 1 (a, x) seen (λ word_of t here tape. record {
+    logging : (a x : S) → LeavesOnly (disk a) (disk x) (OneOf own_keys run.params st (with_record st r)) → Kept a x → IsCut (Fetch asks) answer w one 1 (a, x)
+    logging a x all kept = cut_in (Fetch asks) answer w one 1 (a, x) kept (λ seen barely word_of t here tape. record {
       row = ([], Some (Append b));
       made = refl;
       staged = fetching.logging disk word_of t (runs v) (runs w) one.notes asks (runs_in (Fetch asks) answer w one word_of t here tape) (own_tape word_of tape) was_drawn whole draws few some a x all;
@@ -181,8 +205,8 @@ module _ {V S : Type 0} (k : Kind V) (disk : S → Disk) (runs : V → Running S
     })
 
     -- and what it shows
-    reading : (a x : S) (stage : ℕ) → LeavesOnly (disk a) (disk x) (Stands own_keys run.params (with_record st r)) → IsCut (Fetch asks) answer w one (suc (suc stage)) (a, x)
-    reading a x stage all seen barely = goes (Fetch asks) answer w one (suc (suc stage)) (a, x) seen (λ word_of t here tape. record {
+    reading : (a x : S) (stage : ℕ) → LeavesOnly (disk a) (disk x) (Stands own_keys run.params (with_record st r)) → Kept a x → IsCut (Fetch asks) answer w one (suc (suc stage)) (a, x)
+    reading a x stage all kept = cut_in (Fetch asks) answer w one (suc (suc stage)) (a, x) kept (λ seen any word_of t here tape. record {
       row = (Append b ∷ ShowBatch ∷ [], None);
       made = ((b, refl, refl), refl);
       staged = fetching.reading disk word_of t (runs v) (runs w) one.notes asks (runs_in (Fetch asks) answer w one word_of t here tape) (own_tape word_of tape) was_drawn whole draws few some a x all;
@@ -197,17 +221,19 @@ module _ {V S : Type 0} (k : Kind V) (disk : S → Disk) (runs : V → Running S
     })
 
     both : IsFetchInStages disk run st r (runs v).store (runs w).store → Spans (Fetch asks) answer w one
-    both x = (
-      (x.logs).between ∷ x.between ∷ (runs w).store ∷ [],
-      (keeping (x.logs).between (x.logs).until, (logging (x.logs).between x.between (x.logs).since, (reading x.between (runs w).store 0 x.since, refl))),
-    )
+    both x =
+        let log = (x.logs).stages in (
+          log.between ∷ x.between ∷ (runs w).store ∷ [],
+          (keeping log.between log.until (x.logs).kept.0, (logging log.between x.between log.since (x.logs).kept.1, (reading x.between (runs w).store 0 x.since x.kept, refl))),
+        )
 
     by_store : (unsure : Option ℕ) → FetchStages disk run st r (runs v).store (runs w).store (Err (fault.StoreFault unsure)) → Spans (Fetch asks) answer w one
     by_store unsure (inl x) = both x
     by_store unsure (inr x) = ⊎_elim
         (λ (alone : AreFirstMade (body_notes run.params (suc run.epoch) r.batch) (disk (runs v).store).seen (disk (runs w).store).seen × LeavesOnly (disk (runs v).store) (disk (runs w).store) (Stands own_keys run.params st)).
-        ((runs w).store ∷ [], (keeping (runs w).store alone.1, refl)))
-        (λ (logs : IsRecordInStages disk run st r (runs v).store (runs w).store). (logs.between ∷ (runs w).store ∷ [], (keeping logs.between logs.until, (logging logs.between (runs w).store logs.since, refl))))
+        ((runs w).store ∷ [], (keeping (runs w).store alone.1 x.kept, refl)))
+        (λ (logs : IsRecordInStages disk run st r (runs v).store (runs w).store).
+        let log = logs.stages in (log.between ∷ (runs w).store ∷ [], (keeping log.between log.until logs.kept.0, (logging log.between (runs w).store log.since logs.kept.1, refl))))
         x.how
 
   module _ (asks : List (Option ℕ)) (answer : VaultAnswer) (w : V) (one : Called k v (Fetch asks) answer w) where
@@ -249,54 +275,85 @@ module _ {V S : Type 0} (k : Kind V) (disk : S → Disk) (runs : V → Running S
     lifts_shown : (word_of : WordId → ℕ) (t : LifeState) (seen : List Event) → IsInLife p word_of h t → IsShownInLife most p word_of t h (End ws) (runs w).drawn seen (ShowLifts ∷ [])
     lifts_shown word_of t seen here = inl (inr refl, λ f' d. filled_end p word_of t h here ws f' d)
 
-    -- up to the register's set
-    filling : (x : S) → LeavesOnly (disk (runs v).store) (disk x) (Stands own_keys run.params st) → IsCut (End ws) answer w one 0 ((runs v).store, x)
-    filling x all seen any = goes (End ws) answer w one 0 ((runs v).store, x) seen (λ word_of t here tape. record {
+    -- a stage before the gate is opened
+    filling : (stage : ℕ) (a x : S) → IsMadeIn (End ws) stage (ShowLifts ∷ []) None → LeavesOnly (disk a) (disk x) (Stands own_keys run.params st) → Left (End ws) answer w one stage (a, x) → IsCut (End ws) answer w one stage (a, x)
+    filling stage a x made all left = cut_in (End ws) answer w one stage (a, x) left (λ seen any word_of t here tape. record {
       row = (ShowLifts ∷ [], None);
-      made = (refl, refl);
-      staged = ending.filling disk word_of t (runs v) (runs w) one.notes ws (runs_in (End ws) answer w one word_of t here tape) (end_tape word_of tape) (λ u c. counts_now (runs w).store u c) none x all;
+      made = made;
+      staged = ending.filling disk word_of t (runs v) (runs w) one.notes ws (runs_in (End ws) answer w one word_of t here tape) (end_tape word_of tape) (λ u c. counts_now (runs w).store u c) none a x all;
       first = (the_end ∷ [], (map id_write fs, ((runs w).run).drawn, slot_kept (content_of_ring ((runs w).run).ring), refl), inl refl);
       shown = lifts_shown word_of t seen here;
     })
 
-    -- and that
-    setting : (staged : (word_of : WordId → ℕ) (t : LifeState) → IsInLife p word_of h t → AreTapeWords word_of h.generation (runs w).drawn → (a x : S)
-        → LeavesOnly (disk a) (disk x) (OneOf own_keys run.params st (standing_at_end st (runs w).run fs)) → IsStage disk own_keys run.params word_of t (ShowLifts ∷ [], Some the_end) a x)
-        (a x : S) (stage : ℕ) → LeavesOnly (disk a) (disk x) (OneOf own_keys run.params st (standing_at_end st (runs w).run fs)) → IsCut (End ws) answer w one (suc stage) (a, x)
-    setting staged a x stage all seen any = goes (End ws) answer w one (suc stage) (a, x) seen (λ word_of t here tape. record {
+    abbrev Set : S → S → Type 0
+    Set a x = (word_of : WordId → ℕ) (t : LifeState) → IsInLife p word_of h t → AreTapeWords word_of h.generation (runs w).drawn → LeavesOnly (disk a) (disk x) (OneOf own_keys run.params st (standing_at_end st (runs w).run fs))
+        → IsStage disk own_keys run.params word_of t (ShowLifts ∷ [], Some the_end) a x
+
+    -- and while it is
+    setting : (stage : ℕ) (a x : S) → Set a x → LeavesOnly (disk a) (disk x) (OneOf own_keys run.params st (standing_at_end st (runs w).run fs)) → Left (End ws) answer w one (suc (suc (suc stage))) (a, x) → IsCut (End ws) answer w one (suc (suc (suc stage))) (a, x)
+    setting stage a x staged all left = cut_in (End ws) answer w one (suc (suc (suc stage))) (a, x) left (λ seen any word_of t here tape. record {
       row = (ShowLifts ∷ [], Some the_end);
       made = refl;
-      staged = staged word_of t here tape a x all;
+      staged = staged word_of t here tape all;
       first = (the_end ∷ [], (map id_write fs, ((runs w).run).drawn, slot_kept (content_of_ring ((runs w).run).ring), refl), inr (the_end, [], refl, refl));
       shown = lifts_shown word_of t seen here;
     })
 
-    -- all was written, but maybe for the register
-    ended : (was_drawn : run.drawn ≡ length (runs v).drawn) (drawn' : ((runs w).run).drawn ≡ length (runs w).drawn) (few : length writes ≤ (run.params).writes)
-        (may : MayEndEpoch run.params (table st) run.epoch run.drawn (run.sealer).next fs) (draws : DrawsWords (words_for_end run.params (table st)) (runs v).drawn (runs w).drawn) (then : StandsFor ((runs w).run).ring (table_ended run.params (table st) fs))
-        (entries : AreEntriesWritten fs run.ring ((runs w).run).ring) (filled : TakeBucketWords run.params (table st) (words_since (runs v).drawn (runs w).drawn) (run.sealer).generation (run.sealer).next run.ring ((runs w).run).ring)
-        (content : IsAtContent run.params ((runs w).run).ring) → IsEndInStages disk (runs v).lanes st fs run (runs w).run (runs v).store (runs w).store → Spans (End ws) answer w one
-    ended was_drawn drawn' few may draws then entries filled content x = (
-      x.between ∷ (runs w).store ∷ [],
-      (
-        filling x.between x.until,
-        (
-          setting (λ word_of t here tape.
-              ending.setting disk word_of t (runs v) (runs w) one.notes ws (runs_in (End ws) answer w one word_of t here tape) (end_tape word_of tape) (λ u c. counts_now (runs w).store u c) none was_drawn drawn' few may draws then entries filled content)
-              x.between (runs w).store 0 x.since,
-          refl,
-        ),
-      ),
+    abbrev SetStage : S → ℕ → S × S → Type 0
+    SetStage wrote stage x = IsEndSetStage disk own_keys run.params st (standing_at_end st (runs w).run fs) (is_closed_first (run.gates).epoch (place_of (suc run.epoch))) (runs v).store wrote stage x
+
+    -- by the names of what is hidden
+    own_epoch : st.epoch ≡ h.epoch
+    own_epoch = sym ((lies.at).runs).epoch_is ∙ at.epoch_hidden
+
+    registers : (wrote : S) (stage : ℕ) (x : S × S) → SetStage wrote stage x → Left (End ws) answer w one (suc stage) x
+    registers wrote stage x is image left = (
+      is.generation image left,
+      λ lacking few. subst (λ (e : ℕ). IsRegisterLeft (tagging keys) 5 (suc e) (disk (runs v).store).cells lacking image) own_epoch
+          (subst (λ (y : Keys). IsRegisterLeft (tagging y) 5 (suc st.epoch) (disk (runs v).store).cells lacking image) at.keys_are (is.gates lacking few image left)),
     )
 
+    set_cut : (bound : ℕ) → ((a x : S) → 2 < bound → Set a x) → (wrote : S) (stage : ℕ) (x : S × S) → stage < bound → SetStage wrote stage x → IsCut (End ws) answer w one (suc stage) x
+    set_cut bound staged wrote zero x low is = filling 1 x.0 x.1 (refl, refl) is.stands (registers wrote 0 x is)
+    set_cut bound staged wrote (suc zero) x low is = filling 2 x.0 x.1 (refl, refl) is.stands (registers wrote 1 x is)
+    set_cut bound staged wrote (suc (suc stage)) x low is = setting stage x.0 x.1 (staged x.0 x.1 (omega (arith, low))) is.stands (registers wrote (suc (suc stage)) x is)
+
+    -- its writes, and so many stages of its set
+    spanned : (bound : ℕ) (Made : Option (List Event) → Option (List Event) → Type 0) (IsMany : ℕ → Type 0) → ((many : ℕ) → IsMany many → many ≤ bound) → ((a x : S) → 2 < bound → Set a x)
+        → IsEndSpanned disk own_keys run.params st (standing_at_end st (runs w).run fs) (is_closed_first (run.gates).epoch (place_of (suc run.epoch))) Made IsMany (runs v).store (runs w).store → Spans (End ws) answer w one
+    spanned bound Made IsMany few staged x = (
+      x.wrote ∷ x.ends,
+      (
+        filling 0 (runs v).store x.wrote (refl, refl) x.writing (λ image left. first_left image (passed_back image left)),
+        spans_later (IsCut (End ws) answer w one) 0 x.wrote x.ends (runs w).store
+            (spans_so (SetStage x.wrote) (λ stage y. IsCut (End ws) answer w one (suc stage) y) bound (λ stage y low is. set_cut bound staged x.wrote stage y low is) 0 x.wrote x.ends (runs w).store (let most_are = few (length x.ends) x.many in omega (arith, most_are)) x.setting),
+      ),
+    )
+      where
+        passed_back : (image : Image) → (span disk ((runs v).store, x.wrote)).may_leave image → (disk (runs v).store).may_leave image ⊎ ((d : Image) × (disk (runs v).store).may_leave d × SameFirst image d)
+        passed_back image left = ⊎_elim (λ before. inl (only_now (runs v).store image before)) (λ back. inr back) ((x.kept).since (disk (runs v).store).moment image (no_later (disk (runs v).store).moment) left)
+
+        first_left : (image : Image) → (disk (runs v).store).may_leave image ⊎ ((d : Image) × (disk (runs v).store).may_leave d × SameFirst image d) → SameFirst image (disk (runs v).store).cells
+        first_left image (inl now) j low = (lies.at).settled image now j
+        first_left image (inr back) j low = back.2 j low ∙ (lies.at).settled back.0 back.1 j
+
+    -- all was written, but maybe for the register
+    ended : (result : Result (Unit {0}) EndErr) (was_drawn : run.drawn ≡ length (runs v).drawn) (drawn' : ((runs w).run).drawn ≡ length (runs w).drawn) (few : length writes ≤ (run.params).writes)
+        (may : MayEndEpoch run.params (table st) run.epoch run.drawn (run.sealer).next fs) (draws : DrawsWords (words_for_end run.params (table st)) (runs v).drawn (runs w).drawn) (then : StandsFor ((runs w).run).ring (table_ended run.params (table st) fs))
+        (entries : AreEntriesWritten fs run.ring ((runs w).run).ring) (filled : TakeBucketWords run.params (table st) (words_since (runs v).drawn (runs w).drawn) (run.sealer).generation (run.sealer).next run.ring ((runs w).run).ring)
+        (content : IsAtContent run.params ((runs w).run).ring) → ((many : ℕ) → EndStagesSet result many → many ≤ 3) → EndSpans disk (runs v).lanes st fs run (runs w).run (runs v).store (runs w).store result → Spans (End ws) answer w one
+    ended result was_drawn drawn' few may draws then entries filled content most_are x =
+        spanned 3 (IsEndMadeButSet (runs v).lanes run) (EndStagesSet result) most_are
+        (λ a y low word_of t here tape all. ending.setting disk word_of t (runs v) (runs w) one.notes ws (runs_in (End ws) answer w one word_of t here tape) (end_tape word_of tape) (λ u c. counts_now (runs w).store u c) none was_drawn drawn' few may draws then entries filled content a y all) x
+
     end_ok : EndCalled disk (runs v) (runs w) one.notes writes (Ok tt) → Spans (End ws) answer w one
-    end_ok is = ended (is.run).was_drawn (is.run).drawn is.few (is.answers (table st) stands0) (is.draws (table st) stands0) (is.table (table st) stands0) is.entries (is.filled (table st) stands0) is.content (is.stages st lies.at)
+    end_ok is = ended (Ok tt) (is.run).was_drawn (is.run).drawn is.few (is.answers (table st) stands0) (is.draws (table st) stands0) (is.table (table st) stands0) is.entries (is.filled (table st) stands0) is.content (λ many all. omega (arith, all)) (is.spans st lies.at)
 
     end_unsure : (f' : Fault) → EndCalled disk (runs v) (runs w) one.notes writes (Err (end.Unsure f')) → Spans (End ws) answer w one
-    end_unsure f' is = ended (is.run).was_drawn (is.run).drawn is.few (is.answers (table st) stands0) (is.draws (table st) stands0) (is.table (table st) stands0) is.entries (is.filled (table st) stands0) is.content (is.stages st lies.at)
+    end_unsure f' is = ended (Err (end.Unsure f')) (is.run).was_drawn (is.run).drawn is.few (is.answers (table st) stands0) (is.draws (table st) stands0) (is.table (table st) stands0) is.entries (is.filled (table st) stands0) is.content (λ many all. omega (arith, all)) (is.spans st lies.at)
 
     end_before : (f' : Fault) → EndCalled disk (runs v) (runs w) one.notes writes (Err (end.Before f')) → Spans (End ws) answer w one
-    end_before f' is = ((runs w).store ∷ [], (filling (runs w).store (is.stages st lies.at), refl))
+    end_before f' is = spanned 2 (IsEndMadeButSet (runs v).lanes run) (EndStagesSet (Err (end.Before f'))) (λ many few. few) (λ a x low. absurd (omega (arith, low))) (is.spans st lies.at)
 
   -- ---- by the answer
 

@@ -18,6 +18,7 @@ use Rattle.ob_stand.specs.Stands.{RingStanding}
 use Rattle.ob_store.specs.Disk.{Clock, Disk, Image, NotAfter}
 use Rattle.ob_store.specs.Images.{Passes, Same}
 use Rattle.ob_store.specs.declared.event.Event.{Event}
+use Rattle.ob_twin.specs.Stages.{AreSpans}
 use Rattle.ob_vault.proofs.OpeningStages as opening
 use Rattle.ob_vault.specs.Hidden.{RingHidden}
 use Rattle.ob_vault.specs.Joined.{IsRunTold, Served}
@@ -26,8 +27,8 @@ use Rattle.ob_vault.specs.RingKind.{IsRingMap, RingFound}
 use Rattle.ob_vault.specs.RingLaws.{ReadsHead}
 use Rattle.ob_vault.specs.Seen.{RingPublic}
 use Rattle.ob_vault.specs.Shapes.{Shape}
-use Rattle.ob_vault.specs.Spans.{AreSpans, IsSeenIn, span}
-use Rattle.ob_vault.specs.Staged.{CutRunsAreTold, IsCalledToSync, IsCutIn, IsOpeningCut, RingOpensStaged}
+use Rattle.ob_vault.specs.Spans.{IsCutIn, IsSeenIn, span}
+use Rattle.ob_vault.specs.Staged.{CutRunsAreTold, IsCalledToSync, IsOpeningCut, RingOpensStaged}
 use Rattle.ob_vault.specs.Stages.{BeginsBehind, HowFar, IsOpeningStage, stages_done}
 
 module _ {S : Type 0} (disk : S → Disk) (counts_now : (x : S) (t : Clock) (c : Image) → NotAfter t (disk x).moment → (disk x).may_leave c → (disk x).left_since t c) (only_now : (x : S) (c : Image) → (disk x).left_since (disk x).moment c → (disk x).may_leave c) where
@@ -182,16 +183,16 @@ module _ {S : Type 0} (disk : S → Disk) (counts_now : (x : S) (t : Clock) (c :
       }
 
   told_calls : (keys : Keys) (most : ℕ) (p : Params) (f : RingFound) (old opened : S) (calls : List VaultCall) (steps : List (Shape × Fills)) (q : RingPublic) (h : RingHidden) (call : VaultCall) (words : List ℕ)
-      → RingBegins keys p (disk old).cells f → ((m : Map nat_cmp) × IsRingMap keys p (disk opened) f m) → (stage : ℕ) (from : S) (ends : List S) (to : S) → AreSpans (IsCutIn disk keys most p f (disk opened) calls steps q h call words) stage from ends to
+      → RingBegins keys p (disk old).cells f → ((m : Map nat_cmp) × IsRingMap keys p (disk opened) f m) → (began : S) (stage : ℕ) (from : S) (ends : List S) (to : S) → AreSpans (IsCutIn disk keys most p f (disk opened) calls steps q h call words began) stage from ends to
       → AreSpans (λ n x. (seen : List Event) → IsSeenIn most p q call n seen → IsRunTold (span disk) keys p (Served most (old, old) f (opened, opened) calls steps h (Some call) words seen x)) stage from ends to
-  told_calls keys most p f old opened calls steps q h call words begins maps stage from [] to is = is
-  told_calls keys most p f old opened calls steps q h call words begins (m, at) stage from (end ∷ ends) to (one, rest) = (
-    (λ seen may. (begins, on_over_time keys most p f opened calls steps h (Some call) words seen (span disk (from, end)) (one seen may).0, (m, map_over_time keys p f opened m at))),
-    told_calls keys most p f old opened calls steps q h call words begins (m, at) (suc stage) end ends to rest,
+  told_calls keys most p f old opened calls steps q h call words begins maps began stage from [] to is = is
+  told_calls keys most p f old opened calls steps q h call words begins (m, at) began stage from (end ∷ ends) to (one, rest) = (
+    (λ seen may. (begins, on_over_time keys most p f opened calls steps h (Some call) words seen (span disk (from, end)) (one.stops seen may).0, (m, map_over_time keys p f opened m at))),
+    told_calls keys most p f old opened calls steps q h call words begins (m, at) began (suc stage) end ends to rest,
   )
 
   pub cut_runs_are_told : CutRunsAreTold disk
   cut_runs_are_told = record {
-    calls = λ keys most p f old opened from to calls steps q h call words answered begins maps staged. told_calls keys most p f old opened calls steps q h call words begins maps 0 from staged.cut_at to staged.cut;
+    calls = λ keys most p f old opened from to calls steps q h call words answered begins maps staged. told_calls keys most p f old opened calls steps q h call words begins maps from 0 from staged.cut_at to staged.cut;
     openings = λ keys p old read new head tells how. opens_cut keys p old read new head tells how;
   }

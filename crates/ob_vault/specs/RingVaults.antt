@@ -14,7 +14,7 @@ use Rattle.ob_cells.specs.Writes.{Seals}
 use Rattle.ob_tables.specs.Content.{Content}
 use Rattle.ob_end.specs.Closings.{SameGeneration}
 use Rattle.ob_end.specs.EndRuns.{AreEntriesWritten, EndAnswers, EndDamage, EndDraws, EndImages, EndStands, IfEnded, IsAtContent, IsEndUndamaged, LeadsOn, TakeBucketWords, end_writes, seals_for_end, table_ended}
-use Rattle.ob_end.specs.Moments.{EndStages}
+use Rattle.ob_end.specs.Moments.{EndSpans, EndStages}
 use Rattle.ob_end.specs.EndWrites.{SameFirst}
 use Rattle.ob_end.specs.Shown.{EndShows}
 use Rattle.ob_end.specs.Stops.{EndStops}
@@ -244,6 +244,8 @@ module _ {S : Type 0} (disk : S → Disk) (old new : Running S) (notes : List No
       pub images : (s : RingStanding) → RunIsAt old.run s (disk old.store) → LeavesOnly (disk old.store) (disk new.store) (EndImages ((old.run).sealer).keys (old.run).params s writes_of_end new.run result)
       -- first all else, then the register
       pub stages : (s : RingStanding) → RunIsAt old.run s (disk old.store) → EndStages disk old.lanes s writes_of_end old.run new.run old.store new.store result
+      -- and with the register's gates, in the stages of its set
+      pub spans : (s : RingStanding) → RunIsAt old.run s (disk old.store) → EndSpans disk old.lanes s writes_of_end old.run new.run old.store new.store result
 
   abbrev pub RingCalled : VaultCall → VaultAnswer → Type 0
   RingCalled (Fetch asks) (Values out) = FetchCalled asks (Ok tt)

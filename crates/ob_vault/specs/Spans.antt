@@ -2,6 +2,8 @@
 use Rattle.std.specs.Prelude.{◌≡◌, ◌↔◌, ℕ, zero, suc, ◌+◌, ◌%◌, List, [], ◌∷◌, Option, None, Some}
 use Rattle.std.specs.Ordering.{nat_cmp}
 use Rattle.ob_base.specs.declared.params.Params.{Params}
+use Rattle.ob_end.specs.Closings.{SameGeneration}
+use Rattle.ob_end.specs.EndWrites.{SameFirst}
 use Rattle.ob_recover.specs.Life.{LifeAct, LifeState, ShowLifts, WordId}
 use Rattle.ob_schedule.specs.Phases.{phases_of}
 use Rattle.ob_schedule.specs.Schedule.{Fills, record_notes}
@@ -11,6 +13,9 @@ use Rattle.ob_serial.specs.VaultKinds.{Called, Kind}
 use Rattle.ob_serial.specs.Vaults.{End, Fetch, VaultAnswer, VaultCall}
 use Rattle.ob_store.specs.Disk.{Disk, Image}
 use Rattle.ob_store.specs.declared.event.Event.{Event}
+use Rattle.ob_twin.specs.Keyed.{tagging}
+use Rattle.ob_twin.specs.Stages.{AreSpans, IsLackingIn}
+use Rattle.ob_twin.specs.Stops.{IsRegisterLeft}
 use Rattle.ob_vault.specs.Acts.{AreTapeWords}
 use Rattle.ob_vault.specs.Hidden.{AreFirst, RingHidden}
 use Rattle.ob_vault.specs.Joined.{RunsAreOneLife}
@@ -36,18 +41,23 @@ IsSeenIn most p q (Fetch asks) (suc zero) seen = AreFirst most (phases_of (recor
 IsSeenIn most p q call stage seen = Unit {0}
 
 -- The acts that are made by then, and in flight. Until the body of a batch's record was synced there are none; while its gate is opened none is
--- made; and behind that those of the batch. An end shows its lifts, and isn't in flight before its register is set.
+-- made; and behind that those of the batch. An end shows its lifts, and isn't in flight while it writes, its register's gate is closed, and the body
+-- laid; only while the gate is opened.
 abbrev pub IsMadeIn : VaultCall → (stage : ℕ) → (made : List LifeAct) → (in_flight : Option LifeAct) → Type 0
 IsMadeIn (Fetch asks) zero made in_flight = (made ≡ []) × (in_flight ≡ None)
 IsMadeIn (Fetch asks) (suc zero) made in_flight = made ≡ []
 IsMadeIn (Fetch asks) (suc (suc stage)) made in_flight = AreActsOf (Fetch asks) made × (in_flight ≡ None)
 IsMadeIn (End writes) zero made in_flight = (made ≡ ShowLifts ∷ []) × (in_flight ≡ None)
-IsMadeIn (End writes) (suc stage) made in_flight = made ≡ ShowLifts ∷ []
+IsMadeIn (End writes) (suc zero) made in_flight = (made ≡ ShowLifts ∷ []) × (in_flight ≡ None)
+IsMadeIn (End writes) (suc (suc zero)) made in_flight = (made ≡ ShowLifts ∷ []) × (in_flight ≡ None)
+IsMadeIn (End writes) (suc (suc (suc stage))) made in_flight = made ≡ ShowLifts ∷ []
 
--- stages, one behind the other from the first store to the last, each of which is so
-abbrev pub AreSpans : {S : Type 0} → (ℕ → S × S → Type 0) → (stage : ℕ) → (old : S) → (ends : List S) → (new : S) → Type 0
-AreSpans IsSo stage old [] new = new ≡ old
-AreSpans IsSo stage old (end ∷ ends) new = IsSo stage (old, end) × AreSpans IsSo (suc stage) end ends new
+-- What a crash at a moment of it leaves of the head and of both registers, which had these cells: just these; but behind an end's writes the gates of
+-- its own register by how many of its notes lack then.
+abbrev pub AreRegistersIn : Keys → (epoch : ℕ) → (cells : Image) → VaultCall → (stage : ℕ) → Image → Type 0
+AreRegistersIn keys epoch cells (Fetch asks) stage image = SameFirst image cells
+AreRegistersIn keys epoch cells (End writes) zero image = SameFirst image cells
+AreRegistersIn keys epoch cells (End writes) (suc stage) image = SameGeneration image cells × ((lacking : ℕ) → IsLackingIn stage lacking → IsRegisterLeft (tagging keys) 5 (suc epoch) cells lacking image)
 
 -- It goes on with the life as one whose call was refused, and those acts are made of that.
 abbrev pub StopsIn : Keys → (most : ℕ) → Params → RingFound → (opened : Disk) → List VaultCall → List (Shape × Fills) → (behind : RingHidden) → VaultCall → (words : List ℕ) → (seen : List Event) → (new : Disk) → (stage : ℕ) → Type 0
@@ -55,14 +65,20 @@ StopsIn keys most p f opened calls steps behind call words seen new stage = (goe
     × ((word_of : WordId → ℕ) (s : LifeState) (here : IsInLife p word_of (ring_hidden f) s) (tape : AreTapeWords word_of (ring_hidden f).generation words) (m : Map nat_cmp) (is : IsRingMap keys p opened f m)
     → IsMadeIn call stage ((goes word_of s here tape).left m is).made ((goes word_of s here tape).left m is).in_flight)
 
--- Behind calls that were answered, where a map was found, the next call has stages, whatever it answers. A run that is cut off in one of them
--- goes on with the life as one whose call was refused: it is left as a crash may leave it at any moment of the stage, and what was seen of the
--- call is what may have been seen by the stage's end.
+-- The next call behind these, from what is public and what is hidden then, where the tape has given these words by its end. A run that is cut off in
+-- its stage of this number, of a call that began at that store, goes on with each life as one whose call was refused, left as a crash may leave it
+-- at any moment of the stage; of the call that was seen which may have been by the stage's end. It leaves the registers so too. A batch's record
+-- has two such stages, its body's and its gate's.
+pub record IsCutIn {S : Type 0} (disk : S → Disk) (keys : Keys) (most : ℕ) (p : Params) (f : RingFound) (opened : Disk) (calls : List VaultCall) (steps : List (Shape × Fills)) (q : RingPublic) (h : RingHidden) (call : VaultCall) (words : List ℕ) (began : S) (stage : ℕ) (x : S × S) : Type 0 where
+  pub stops : (seen : List Event) → IsSeenIn most p q call stage seen → StopsIn keys most p f opened calls steps h call words seen (span disk x) stage
+  pub registers : (image : Image) → (span disk x).may_leave image → AreRegistersIn keys h.epoch (disk began).cells call stage image
+
+-- Behind calls that were answered, where a map was found, the next call has such stages, whatever it answers.
 abbrev pub RunsStopInStages : {V S : Type 0} → Kind V → (S → Disk) → Type 0
 RunsStopInStages {V} {S} k disk = (runs : V → Running S) → HasRingWords k disk runs → (keys : Keys) (most : ℕ) (p : Params) (f : RingFound) (first : V) (calls : List VaultCall) (steps : List (Shape × Fills)) (q : RingPublic) (h : RingHidden) (n : ℕ) (v : V)
     → AreDrawn ring_kind p (ring_hidden f) calls steps h → RingAt k disk runs keys most p f (disk (runs first).store) q h n v → (m : Map nat_cmp) → IsRingMap keys p (disk (runs first).store) f m
     → (call : VaultCall) (answer : VaultAnswer) (w : V) → Called k v call answer w
-    → (ends : List S) × AreSpans (λ stage x. (seen : List Event) → IsSeenIn most p q call stage seen → StopsIn keys most p f (disk (runs first).store) calls steps h call (runs w).drawn seen (span disk x) stage) 0 (runs v).store ends (runs w).store
+    → (ends : List S) × AreSpans (IsCutIn disk keys most p f (disk (runs first).store) calls steps q h call (runs w).drawn (runs v).store) 0 (runs v).store ends (runs w).store
 
 -- So rows of runs that are cut off in stages are one life too; and a store alone is left as it may be left now.
 pub record RowsOfStages {S : Type 0} (disk : S → Disk) : Type 0 where

@@ -20,6 +20,7 @@ use Rattle.ob_start.specs.Beginning.{ReadsThenSync}
 use Rattle.ob_store.specs.Told.{events_of}
 use Rattle.ob_store.specs.declared.event.Event.{Event}
 use Rattle.ob_twin.specs.Orders.{set_notes}
+use Rattle.ob_twin.specs.Stages.{AreSpans}
 use Rattle.ob_vault.specs.Acts.{AreTapeWords, is_answered}
 use Rattle.ob_vault.specs.Hidden.{RingDrawsCut, RingHidden}
 use Rattle.ob_vault.specs.Joined.{IsRunTold, Served, Stopped}
@@ -32,7 +33,7 @@ use Rattle.ob_vault.specs.RingVaults.{Running}
 use Rattle.ob_vault.specs.Seen.{RingPublic, ring_phases}
 use Rattle.ob_vault.specs.Shapes.{Ends, Shape}
 use Rattle.ob_vault.specs.Shown.{AreActsOf, AreFilledBy, IsInLife}
-use Rattle.ob_vault.specs.Spans.{AreSpans, IsSeenIn, StopsIn, span}
+use Rattle.ob_vault.specs.Spans.{IsCutIn, IsSeenIn, span}
 use Rattle.ob_vault.specs.Stages.{AreStages, BeginsBehind, HowFar, IsOpeningStaged, IsStage, stages_done, stages_of}
 
 -- ---- a call
@@ -45,11 +46,6 @@ IsCalledFirst most p q h (End writes) old new = (closed : Bool) × AreMadeBut (s
 
 -- The next call behind these, from what is public and what is hidden then, where the tape has given these words by its end.
 module _ {S : Type 0} (disk : S → Disk) (keys : Keys) (most : ℕ) (p : Params) (f : RingFound) (opened : Disk) (calls : List VaultCall) (steps : List (Shape × Fills)) (q : RingPublic) (h : RingHidden) (call : VaultCall) (words : List ℕ) where
-  -- A run that is cut off in its stage of this number goes on with each life as one whose call was refused, left as a crash may leave it at any moment
-  -- of the stage; of the call that was seen which may have been by the stage's end. A batch's record has two such stages, its body's and its gate's.
-  abbrev pub IsCutIn : (stage : ℕ) → S × S → Type 0
-  IsCutIn stage x = (seen : List Event) → IsSeenIn most p q call stage seen → StopsIn keys most p f opened calls steps h call words seen (span disk x) stage
-
   -- Its acts, and the stores at the ends of its stages: all of them where it was answered, else the first ones, or none, where nothing was done. So
   -- it is in each life that is where this is hidden, whose acts fill the call's holes.
   pub record IsCallStaged (answered : Bool) (old new : S) : Type 0 where
@@ -62,7 +58,7 @@ module _ {S : Type 0} (disk : S → Disk) (keys : Keys) (most : ℕ) (p : Params
     pub whole : answered ≡ true → length ends ≡ 2
     pub idle : ends ≡ [] → (word_of : WordId → ℕ) (s : LifeState) → IsInLife p word_of h s → LeavesOnly (disk old) (disk new) (IsLeftAt keys p word_of s None)
     pub cut_at : List S
-    pub cut : AreSpans IsCutIn 0 old cut_at new
+    pub cut : AreSpans (IsCutIn disk keys most p f opened calls steps q h call words old) 0 old cut_at new
 
 -- where a map was found
 abbrev pub RingCallStaged : {S : Type 0} → (S → Disk) → Keys → (most : ℕ) → Params → RingFound → (opened : Disk) → List VaultCall → List (Shape × Fills) → RingPublic → RingHidden → VaultCall → (words : List ℕ) → (answered : Bool) → (old new : S) → Type 0

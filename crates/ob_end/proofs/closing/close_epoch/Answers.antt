@@ -1,7 +1,7 @@
-use Rattle.std.proofs.Common.{◌≡◌, ◌+◌, inl, arith, refl, subst, sym}
+use Rattle.std.proofs.Common.{◌≡◌, ◌+◌, IsTrue, inl, arith, refl, subst, sym}
 use Rattle.ob_end.specs.EndWrites.{all_seals, end_write_notes}
 use Rattle.ob_seal.specs.declared.keys.Keys.{Keys}
-use Rattle.ob_store.specs.Calls.{IsStoreFault}
+use Rattle.ob_store.specs.Calls.{IsStoreFault, Notes}
 use Rattle.ob_store.specs.Images.{LeavesOnly}
 use Rattle.ob_store.proofs.Doing.{first_more}
 use Rattle.ob_store.proofs.Serving.{on_ok, serves_err, serves_then}
@@ -11,13 +11,17 @@ use Rattle.ob_twin.specs.Keyed.{tagging}
 use Rattle.ob_twin.specs.Opening.{is_closed_first}
 use Rattle.ob_twin.specs.Orders.{prepare_notes}
 use Rattle.ob_twin.specs.Refused.{IsSetFault, SetLeaves}
-use Rattle.ob_twin.specs.Register.{IsPut, StandsAt, place_of}
+use Rattle.ob_twin.specs.Register.{IsOpen, IsPut, StandsAt, place_of}
 use Rattle.ob_twin.specs.declared.set_err.SetErr.TheVariants.{Before}
 use Rattle.ob_twin.specs.declared.twin.Twin.TheVariants.{EPOCH}
 use Rattle.ob_end.proofs.ActLaws.{set_moments, set_sealed, written_moments}
 use Rattle.ob_end.proofs.CloseLaws.{close_tells, closed, gates_kept, if_written, is_ending, mid_stands, seals_all, set_fault, written_leaves}
+use Rattle.ob_end.proofs.Spans.{set_spanned, unset_spanned}
 use Rattle.ob_end.proofs.Stops.{set_stops, written_stops}
-use Rattle.ob_twin.proofs.Gating.{closed_of}
+use Rattle.ob_stand.specs.Ends.{standing_after}
+use Rattle.ob_store.specs.Told.{events_of}
+use Rattle.ob_twin.proofs.Gating.{closed_of, open_of}
+use Rattle.ob_twin.specs.Stages.{AreSetStages, StagesSet}
 use Rattle.ob_twin.specs.Stops.{SetStops}
 use Rattle.ob_end.proofs.closing.close_epoch.Goals as goal
 
@@ -35,7 +39,13 @@ returns-in-Err-clause-closes g c = λ s end at tells synced stands is.
     let mid = g.S.Store.disk c.write_end.new.store in
     let keys = c.args.sealer.now.keys in
     let p = c.args.ring.now.p in
-    written_leaves keys p s end old mid (g.met.S.Store.only_now c.args.store.now) (is_ending keys p s end old mid is.follows tells synced stands (c.in-Err.ensures.writes s end at is).spare)
+    let ending = is_ending keys p s end old mid is.follows tells synced stands (c.in-Err.ensures.writes s end at is).spare in
+    let writing = written_leaves keys p s end old mid (g.met.S.Store.only_now c.args.store.now) ending in
+    let closes = is_closed_first c.args.gates.now.epoch (place_of c.args.epoch) in
+    record {
+      ends = writing;
+      spans = unset_spanned g.S.Store.disk keys p s (standing_after s end) closes (Notes (events_of (end_write_notes c.args.ring.now c.args.epoch))) c.args.store.now c.write_end.new.store c.write_end.ensures.moments writing;
+    }
 
 pub returns-in-Err-clause-does : goal.returns-in-Err-clause-does
 returns-in-Err-clause-does g c =
@@ -56,11 +66,23 @@ returns-clause-closes g c = λ s end at tells synced stands is.
     let same : c.write_end.new.sealer.keys ≡ keys = c.in-Ok.ensures.seals.some.keys in
     let one : c.args.epoch ≡ s.epoch + 1 = omega (arith, at) in
     let told = c.in-Ok.ensures.serves.tells tells in
-    closed g.S.Store.disk (end_write_notes c.args.ring.now c.args.epoch) keys p s end c.args.store.now c.write_end.new.store c.set.new.store c.args.epoch (g.met.S.Store.only_now c.args.store.now) (g.met.S.Store.only_now c.write_end.new.store) at c.requires.epoch ending
-    (writes.written tells) told (c.in-Ok.ensures.durable tells) c.in-Ok.ensures.does.all.seen c.set.result
-    (subst (λ (x : Keys). LeavesOnly mid new (SetLeaves (tagging x) 5 mid.cells s.epoch c.args.epoch c.set.result)) same
-    (c.set.ensures.old_or_new s.epoch one told (c.in-Ok.ensures.durable tells) (subst (λ (x : Keys). StandsAt (tagging x) 5 mid.cells s.epoch) (sym same) (mid_stands keys p s end old mid ending).epoch)))
-    (on_ok _ _ c.set.result (λ put. subst (λ (x : Keys). IsPut (tagging x) 5 mid.cells c.args.epoch new.cells) same put) (c.set.ensures.done told))
+    let closes = is_closed_first c.args.gates.now.epoch (place_of c.args.epoch) in
+    let only = g.met.S.Store.only_now c.args.store.now in
+    let settled = c.in-Ok.ensures.durable tells in
+    let same_first = c.write_end.ensures.first in
+    let opened : IsTrue closes → IsOpen 5 mid.cells (place_of c.args.epoch) =
+    (λ first. open_of (tagging keys) c.args.gates.now.epoch 5 s.epoch c.args.epoch mid.cells one (gates_kept c.args.gates.now.epoch old.cells mid.cells (same_first tells) (c.requires.told tells)) (mid_stands keys p s end old mid ending).epoch first) in
+    record {
+      ends = closed g.S.Store.disk (end_write_notes c.args.ring.now c.args.epoch) keys p s end c.args.store.now c.write_end.new.store c.set.new.store c.args.epoch (g.met.S.Store.only_now c.args.store.now) (g.met.S.Store.only_now c.write_end.new.store) at c.requires.epoch ending
+          (writes.written tells) told (c.in-Ok.ensures.durable tells) c.in-Ok.ensures.does.all.seen c.set.result
+          (subst (λ (x : Keys). LeavesOnly mid new (SetLeaves (tagging x) 5 mid.cells s.epoch c.args.epoch c.set.result)) same
+          (c.set.ensures.old_or_new s.epoch one told (c.in-Ok.ensures.durable tells) (subst (λ (x : Keys). StandsAt (tagging x) 5 mid.cells s.epoch) (sym same) (mid_stands keys p s end old mid ending).epoch)))
+          (on_ok _ _ c.set.result (λ put. subst (λ (x : Keys). IsPut (tagging x) 5 mid.cells c.args.epoch new.cells) same put) (c.set.ensures.done told));
+      spans = set_spanned g.S.Store.disk keys p s end closes c.args.store.now c.write_end.new.store is.follows stands (writes.spare.rest tells) (writes.written tells) told settled (subst (λ e. IsTrue closes → IsOpen 5 mid.cells (place_of e)) at opened) (same_first tells)
+          (Notes (events_of (end_write_notes c.args.ring.now c.args.epoch))) (StagesSet c.set.result) c.set.new.store c.in-Ok.ensures.does.all.seen c.write_end.ensures.moments (written_leaves keys p s end old mid only ending)
+          (subst (λ e. AreSetStages g.S.Store.disk (tagging keys) closes 5 e (StagesSet c.set.result) c.write_end.new.store c.set.new.store) at
+          (subst (λ (x : Keys). AreSetStages g.S.Store.disk (tagging x) closes 5 c.args.epoch (StagesSet c.set.result) c.write_end.new.store c.set.new.store) same c.set.ensures.moments.stages));
+    }
 
 pub returns-clause-does : goal.returns-clause-does
 returns-clause-does g c =

@@ -1,4 +1,4 @@
-use Rattle.std.proofs.Common.{◌≡◌, ◌≤◌, ◌+◌, ◌-◌, ℕ, ◌∙◌, inl, length, suc, false, true, Ok, Err, ap, arith, refl, subst, sym}
+use Rattle.std.proofs.Common.{◌≡◌, ◌≤◌, ◌+◌, ◌-◌, ◌∙◌, inl, length, suc, false, true, Ok, Err, ap, arith, refl, subst, sym}
 use Rattle.ob_base.specs.Planned.{most_jobs}
 use Rattle.ob_cells.specs.Jobs.{Manned}
 use Rattle.ob_end.specs.Lifts.{lift_cells, lift_jobs, lift_notes}
@@ -22,15 +22,17 @@ use Rattle.ob_twin.specs.Opening.{GatesAre, is_closed_first}
 use Rattle.ob_twin.specs.Register.{place_of}
 use Rattle.ob_twin.specs.declared.gates.Gates.{Gates}
 use Rattle.ob_ring.specs.Ring.{StandsFor}
-use Rattle.ob_end.specs.EndRuns.{AreEntriesWritten, EndAnswers, EndDamage, EndDoes, EndDraws, IfEnded, IsAtContent, IsEndUndamaged, LeadsOn, TakeBucketWords, end_err_of, end_writes, seals_for_end, table_ended}
+use Rattle.ob_end.specs.EndRuns.{AreEntriesWritten, EndAnswers, EndDamage, EndDoes, EndDraws, IfEnded, IsAtContent, IsEndUndamaged, LeadsOn, TakeBucketWords, end_err_of, end_writes, seals_for_end, table_ended, standing_at_end}
 use Rattle.ob_pads.specs.Seals.{CellsAreSealed}
 use Rattle.ob_end.proofs.ActLaws.{damage_closed, damage_made, end_acts, end_moments, few_drawn, further_same, read_moments, sealed_closed, sealed_from, undamaged_closed}
 use Rattle.ob_end.proofs.CloseLaws.{close_fault, gates_kept}
 use Rattle.ob_end.proofs.EndCases.{answers_closed, at_spent, gates_at, one_more, read_leaves, does_as, does_closed, does_made, if_ended, ready_spent}
 use Rattle.ob_end.proofs.EndCases.{seals_closed, seals_ended, serves_closed, serves_ended, draws_closed, draws_made, before_blames, before_fault}
 use Rattle.ob_end.proofs.EndStage as stage
-use Rattle.ob_end.proofs.Moments.{ends_in_stages, made_but, moments_before, moments_closed, moments_ended}
-use Rattle.ob_end.specs.Moments.{EndMoments, end_setting}
+use Rattle.ob_end.proofs.Moments.{ends_in_stages, moments_before, moments_closed, moments_ended}
+use Rattle.ob_end.specs.Moments.{EndMoments, IsEndMadeButSet}
+use Rattle.ob_end.proofs.Spans.{closed_spanned, ended_spanned, only_read, unset_spanned}
+use Rattle.ob_stand.specs.Ends.{standing_after}
 use Rattle.ob_end.proofs.ScheduledEnds.{front_at, lifts_scheduled}
 use Rattle.ob_end.proofs.Stops.{left_onto, lifts_lack, read_left, settled_on, stops_as}
 use Rattle.ob_end.proofs.ToldEnds.{cells_are, closed_told, cut_short, has_written, lifts_as, made_told, reads_are, refused_as, short_of}
@@ -148,8 +150,10 @@ returns-in-Err-clause-images g c = λ s was.
     let mids = g.S.Store.disk c.make_end.new.store in
     let words = words_since (g.T.Tape.drawn c.args.tape.now) (g.T.Tape.drawn c.make_end.new.tape) in
     let kept = c.make_end.ensures.kept in
-    moments_before g.S.Store.disk c.args.crew.now.lanes s (end_writes run.params c.args.writes.now words run.sealer.generation run.drawn) run mid c.args.store.now c.make_end.new.store c.make_end.new.store c.in-Err.fault
-    (read_leaves run.sealer.keys run.params s old mids (g.met.S.Store.only_now c.args.store.now) was.settled was.stands c.make_end.ensures.passes)
+    let ws = end_writes run.params c.args.writes.now words run.sealer.generation run.drawn in
+    let leaves = read_leaves run.sealer.keys run.params s old mids (g.met.S.Store.only_now c.args.store.now) was.settled was.stands c.make_end.ensures.passes in
+    moments_before g.S.Store.disk c.args.crew.now.lanes s ws run mid c.args.store.now c.make_end.new.store c.make_end.new.store c.in-Err.fault leaves
+    (unset_spanned g.S.Store.disk run.sealer.keys run.params s (standing_at_end s mid ws) (is_closed_first run.gates.epoch (place_of (suc run.epoch))) (IsEndMadeButSet c.args.crew.now.lanes run) c.args.store.now c.make_end.new.store (only_read old mids c.make_end.ensures.passes) leaves)
 
 pub returns-in-Err-close_epoch-clause-serves : goal.returns-in-Err-close_epoch-clause-serves
 returns-in-Err-close_epoch-clause-serves g c =
@@ -240,20 +244,24 @@ returns-in-Err-close_epoch-clause-images g c = λ s was.
     (stage.stands_mid run1 mid old writes words kept ready made low short may s at mids keeps passes)
     (stage.is_end run1 mid old writes words kept ready made low short may s at mids keeps passes) in
     let fit = ready.planner in
-    let one : mid.epoch + 1 ≡ suc run.epoch = (let same : mid.epoch ≡ run.epoch = ap (λ (m : Run). m.epoch) kept in omega (arith, same)) in
-    subst (λ (e : EndErr). EndMoments g.S.Store.disk c.args.crew.now.lanes s ws run then c.args.store.now c.close_epoch.new.store (Err e)) (sym c.end_err.ensures)
-    (moments_closed g.S.Store.disk c.args.crew.now.lanes s ws run then c.args.store.now c.make_end.new.store c.close_epoch.new.store (end_write_notes mid.ring (mid.epoch + 1)) mid.sealer.keys mid.ring.p ending
-    (last.stash.rows ≡ rows_left mid.ring) c.in-Err-close_epoch.refused closes c.in-Err-close_epoch.ensures.rows
-    (stage.refused_leaves run1 mid old writes words kept ready made low short may s at mids keeps passes new only)
-    (λ rows both. ends_in_stages g.S.Store.disk c.args.crew.now.lanes s ws run then c.args.store.now c.make_end.new.store c.close_epoch.new.store (end_write_notes mid.ring (mid.epoch + 1)) mid.sealer.keys mid.ring.p ending both
-    (λ x. stage.refused_leaves run1 mid old writes words kept ready made low short may s at mids keeps passes (g.S.Store.disk x) only)
-    (λ x. stage.either_as run1 mid old writes words kept ready made low short may s at mids keeps passes new only last stash rows (g.S.Store.disk x))
-    (λ x seen content rs from.
-    made_but c.args.crew.now.lanes (lift_cells run.params run.ring.metas.versions fit.table) (lift_notes run.params run.ring.metas.versions fit.table) (end_write_notes mid.ring (suc run.epoch)) (end_setting run)
-    (end_phases run.params (public_of_kept run.params content rs run.epoch run.gates) (fills_with_lifts run.params content rs)) old.seen mids.seen (g.S.Store.disk x).seen (g.W.Watch.trace c.args.watch.now) (g.W.Watch.trace c.make_end.new.watch)
-    (has_written c.args.crew.now.lanes mid.ring (suc run.epoch)) (stage.whole run1 mid old writes words kept ready made low short may content rs from).1
-    (c.in-Ok.ensures.told run.ring.metas fit.table (seals_none run.ring.metas) fit.stands)
-    (subst (λ (n : ℕ). Notes (events_of (end_write_notes mid.ring n)) mids.seen (g.S.Store.disk x).seen) one seen))))
+    let disk = g.S.Store.disk in
+    let lanes = c.args.crew.now.lanes in
+    let told = c.in-Ok.ensures.told run.ring.metas fit.table (seals_none run.ring.metas) fit.stands in
+    let made_then : (x : g.row.S.Denot) → Notes (events_of (end_write_notes mid.ring (mid.epoch + 1))) mids.seen (disk x).seen → IsEndMadeButSet lanes run old.seen (disk x).seen =
+    (λ x seen. stage.made_set run1 mid old writes words kept ready made low short may lanes old.seen mids.seen (disk x).seen (g.W.Watch.trace c.args.watch.now) (g.W.Watch.trace c.make_end.new.watch) told seen) in
+    let stood_then = (λ (x : g.row.S.Denot). stage.refused_leaves run1 mid old writes words kept ready made low short may s at mids keeps passes (disk x) only) in
+    let closed = is_closed_first run.gates.epoch (place_of (suc run.epoch)) in
+    let same_closes : is_closed_first mid.gates.epoch (place_of (mid.epoch + 1)) ≡ closed =
+    ap (λ (m : Run). is_closed_first m.gates.epoch (place_of (m.epoch + 1))) kept ∙ ap (λ n. is_closed_first run.gates.epoch (place_of n)) (one_more run.epoch) in
+    let written = end_write_notes mid.ring (mid.epoch + 1) in
+    subst (λ (e : EndErr). EndMoments disk lanes s ws run then c.args.store.now c.close_epoch.new.store (Err e)) (sym c.end_err.ensures)
+    (moments_closed disk lanes s ws run then c.args.store.now c.make_end.new.store c.close_epoch.new.store written mid.sealer.keys mid.ring.p ending
+    (last.stash.rows ≡ rows_left mid.ring) c.in-Err-close_epoch.refused closes.ends c.in-Err-close_epoch.ensures.rows (stood_then c.close_epoch.new.store)
+    (λ rows both. ends_in_stages disk lanes s ws run then c.args.store.now c.make_end.new.store c.close_epoch.new.store written mid.sealer.keys mid.ring.p ending both stood_then
+    (λ x. stage.either_as run1 mid old writes words kept ready made low short may s at mids keeps passes new only last stash rows (disk x)) made_then)
+    (closed_spanned disk run.sealer.keys mid.sealer.keys run.params mid.ring.p s (standing_at_end s then ws) (standing_after s ending) closed (is_closed_first mid.gates.epoch (place_of (mid.epoch + 1))) c.args.store.now c.make_end.new.store c.close_epoch.new.store
+    (ap (λ (m : Run). m.sealer.keys) kept) (stage.mid_p run1 mid old writes words kept ready made low short may) same_closes passes keeps was.tells (IsEndMadeButSet lanes run) (Notes (events_of written)) made_then stood_then
+    (last.stash.rows ≡ rows_left mid.ring) (λ rows a b. stage.either_as run1 mid old writes words kept ready made low short may s at mids keeps passes b only last stash rows a) c.in-Err-close_epoch.refused c.in-Err-close_epoch.ensures.rows closes.spans))
 
 pub returns-clause-serves : goal.returns-clause-serves
 returns-clause-serves g c =
@@ -375,7 +383,7 @@ returns-clause-stands g c = λ s was.
     record {
       tells = c.in-Ok-close_epoch.ensures.serves.tells (stage.tells_mid run1 mid old writes words kept ready made low short may s at mids keeps passes);
       settled = c.in-Ok-close_epoch.ensures.durable (stage.tells_mid run1 mid old writes words kept ready made low short may s at mids keeps passes);
-      stands = stage.stands_then run1 mid old writes words kept ready made low short may s at mids keeps passes new only last stash rows c.close_epoch.new.sealer some.keys closes.1;
+      stands = stage.stands_then run1 mid old writes words kept ready made low short may s at mids keeps passes new only last stash rows c.close_epoch.new.sealer some.keys closes.ends.1;
       runs = stage.runs_last run1 mid old writes words kept ready made low short may s at mids keeps passes new only last stash rows c.close_epoch.new.sealer (mid.epoch + 1) mid.params.batches some.generation (ap (λ (m : Run). m.epoch + 1) kept) refl c.in-Ok-close_epoch.ensures.room;
     }
 
@@ -412,17 +420,22 @@ returns-clause-images g c = λ s was.
     (stage.is_end run1 mid old writes words kept ready made low short may s at mids keeps passes) in
     let then : Run = record mid { gates = c.close_epoch.new.gates; sealer = c.close_epoch.new.sealer; epoch = mid.epoch + 1; left = mid.params.batches; spent = false; ring = last; sheet = c.close_epoch.new.sheet } in
     let fit = ready.planner in
-    let one : mid.epoch + 1 ≡ suc run.epoch = (let same : mid.epoch ≡ run.epoch = ap (λ (m : Run). m.epoch) kept in omega (arith, same)) in
-    moments_ended g.S.Store.disk c.args.crew.now.lanes s ws run then c.args.store.now c.make_end.new.store c.close_epoch.new.store
-    (ends_in_stages g.S.Store.disk c.args.crew.now.lanes s ws run then c.args.store.now c.make_end.new.store c.close_epoch.new.store (end_write_notes mid.ring (mid.epoch + 1)) mid.sealer.keys mid.ring.p ending closes.0
-    (λ x. stage.refused_leaves run1 mid old writes words kept ready made low short may s at mids keeps passes (g.S.Store.disk x) only)
-    (λ x. stage.either_as run1 mid old writes words kept ready made low short may s at mids keeps passes new only last stash rows (g.S.Store.disk x))
-    (λ x seen content rs from.
-    made_but c.args.crew.now.lanes (lift_cells run.params run.ring.metas.versions fit.table) (lift_notes run.params run.ring.metas.versions fit.table) (end_write_notes mid.ring (suc run.epoch)) (end_setting run)
-    (end_phases run.params (public_of_kept run.params content rs run.epoch run.gates) (fills_with_lifts run.params content rs)) old.seen mids.seen (g.S.Store.disk x).seen (g.W.Watch.trace c.args.watch.now) (g.W.Watch.trace c.make_end.new.watch)
-    (has_written c.args.crew.now.lanes mid.ring (suc run.epoch)) (stage.whole run1 mid old writes words kept ready made low short may content rs from).1
-    (c.in-Ok.ensures.told run.ring.metas fit.table (seals_none run.ring.metas) fit.stands)
-    (subst (λ (n : ℕ). Notes (events_of (end_write_notes mid.ring n)) mids.seen (g.S.Store.disk x).seen) one seen)))
+    let disk = g.S.Store.disk in
+    let lanes = c.args.crew.now.lanes in
+    let told = c.in-Ok.ensures.told run.ring.metas fit.table (seals_none run.ring.metas) fit.stands in
+    let made_then : (x : g.row.S.Denot) → Notes (events_of (end_write_notes mid.ring (mid.epoch + 1))) mids.seen (disk x).seen → IsEndMadeButSet lanes run old.seen (disk x).seen =
+    (λ x seen. stage.made_set run1 mid old writes words kept ready made low short may lanes old.seen mids.seen (disk x).seen (g.W.Watch.trace c.args.watch.now) (g.W.Watch.trace c.make_end.new.watch) told seen) in
+    let stood_then = (λ (x : g.row.S.Denot). stage.refused_leaves run1 mid old writes words kept ready made low short may s at mids keeps passes (disk x) only) in
+    let closed = is_closed_first run.gates.epoch (place_of (suc run.epoch)) in
+    let same_closes : is_closed_first mid.gates.epoch (place_of (mid.epoch + 1)) ≡ closed =
+    ap (λ (m : Run). is_closed_first m.gates.epoch (place_of (m.epoch + 1))) kept ∙ ap (λ n. is_closed_first run.gates.epoch (place_of n)) (one_more run.epoch) in
+    let written = end_write_notes mid.ring (mid.epoch + 1) in
+    moments_ended disk lanes s ws run then c.args.store.now c.make_end.new.store c.close_epoch.new.store
+    (ends_in_stages disk lanes s ws run then c.args.store.now c.make_end.new.store c.close_epoch.new.store written mid.sealer.keys mid.ring.p ending closes.ends.0 stood_then
+    (λ x. stage.either_as run1 mid old writes words kept ready made low short may s at mids keeps passes new only last stash rows (disk x)) made_then)
+    (ended_spanned disk run.sealer.keys mid.sealer.keys run.params mid.ring.p s (standing_at_end s then ws) (standing_after s ending) closed (is_closed_first mid.gates.epoch (place_of (mid.epoch + 1))) c.args.store.now c.make_end.new.store c.close_epoch.new.store
+    (ap (λ (m : Run). m.sealer.keys) kept) (stage.mid_p run1 mid old writes words kept ready made low short may) same_closes passes keeps was.tells (IsEndMadeButSet lanes run) (Notes (events_of written)) made_then stood_then
+    (λ a b. stage.either_as run1 mid old writes words kept ready made low short may s at mids keeps passes b only last stash rows a) closes.spans)
 
 pub returns-in-Err-clause-draws : goal.returns-in-Err-clause-draws
 returns-in-Err-clause-draws g c = λ t stands.

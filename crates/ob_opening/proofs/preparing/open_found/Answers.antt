@@ -2,7 +2,7 @@ use Rattle.std.proofs.Common.{◌≡◌, ◌<◌, ◌≤◌, ◌^◌, ℕ, suc, 
 use Rattle.ob_base.specs.Planned.{most_jobs}
 use Rattle.ob_cells.specs.Jobs.{Manned}
 use Rattle.ob_seal.specs.Sealing.{Sealing}
-use Rattle.ob_start.specs.Beginning.{BeginLeaves, BeginsFrom}
+use Rattle.ob_start.specs.Beginning.{BeginLeaves, BeginStops, BeginsFrom, IsSyncedLeft}
 use Rattle.ob_store.specs.Calls.{IsStoreFault}
 use Rattle.ob_store.proofs.Serving.{goes_then, serves_err, serves_ok, serves_then}
 use Rattle.ob_tables.specs.Content.{content_of}
@@ -20,6 +20,7 @@ use Rattle.ob_opening.specs.Openings.{fresh_sealer}
 use Rattle.ob_opening.proofs.FaultLaws.{begin_fault, begin_refusal, begin_stays, repeat_fault, repeat_refusal, repeat_stays}
 use Rattle.ob_opening.proofs.Movings.{repeated_off, synced_on}
 use Rattle.ob_opening.proofs.OpenedLaws.{begins_then, begun_opens, generation_is, opens_then, planner_of, register_same}
+use Rattle.ob_opening.proofs.StopLaws.{begin_stops, repeat_stops}
 use Rattle.ob_opening.proofs.preparing.open_found.Goals as goal
 
 -- ---- the generation didn't begin
@@ -293,3 +294,29 @@ returns-clause-clear g c = λ tells.
     let there = c.in-Ok-replay.ensures.serves.goes.told tells in
     both_clear tag old mid new.cells (subst (λ (s : Sealing). AreInClear (tagging s.keys) old mid) c.new-known.ensures (c.in-Ok.ensures.clear there))
     (none_clear tag mid new.cells (λ cell low. c.in-Ok-replay.ensures.keeps.cells there cell))
+
+-- ---- where it stopped
+
+pub returns-in-Err-clause-stops : goal.returns-in-Err-clause-stops
+returns-in-Err-clause-stops g c =
+    let keys = c.args.keys.now in
+    let found = c.args.found in
+    let old = c.args.store.now in
+    let new = c.begin.new.store in
+    begin_stops keys c.args.rooms.crew.lanes c.args.p.now found g.S.Store.disk g.W.Watch.trace old new c.args.watch.now c.begin.new.watch c.in-Err.fault (λ told. (c.requires.gates told).generation_gates) c.requires.some
+    c.in-Err.ensures.faults c.in-Err.ensures.untouched
+    (subst (λ (s : Sealing). BeginStops s.keys found.gates.generation (suc found.generation) (g.S.Store.disk old) (g.S.Store.disk new) (g.W.Watch.trace c.args.watch.now) (g.W.Watch.trace c.begin.new.watch) (Err c.in-Err.fault)) c.new-known.ensures c.in-Err.ensures.stops)
+
+pub returns-in-Err-replay-clause-stops : goal.returns-in-Err-replay-clause-stops
+returns-in-Err-replay-clause-stops g c =
+    let keys = c.args.keys.now in
+    let found = c.args.found in
+    let old = g.S.Store.disk c.args.store.now in
+    let mid = g.S.Store.disk c.begin.new.store in
+    repeat_stops keys c.args.rooms.crew.lanes c.args.p.now found old mid (g.S.Store.disk c.replay.new.store) (g.W.Watch.trace c.args.watch.now) (g.W.Watch.trace c.replay.new.watch) c.in-Err-replay.fault
+    (record { seen = mid.seen; shown = g.W.Watch.trace c.begin.new.watch; begun = c.in-Ok.ensures.does.all; repeats = c.in-Err-replay.ensures.does })
+    c.in-Ok.ensures.durable c.in-Err-replay.ensures.passes
+    (subst (λ (s : Sealing). old.tells → IsSyncedLeft s.keys (suc found.generation) old.cells 0 mid.cells) c.new-known.ensures c.in-Ok.ensures.stops)
+
+pub returns-clause-stops : goal.returns-clause-stops
+returns-clause-stops g c = tt

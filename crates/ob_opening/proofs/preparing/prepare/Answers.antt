@@ -25,6 +25,9 @@ use Rattle.ob_opening.proofs.OpenedLaws.{finding_read, found_same}
 use Rattle.ob_opening.proofs.PadLaws.{act_of, unopened_by}
 use Rattle.ob_opening.proofs.StoodLaws.{all_standing}
 use Rattle.ob_opening.proofs.WholeLaws.{all_leaves, all_opened, all_tapes, tape_of}
+use Rattle.ob_opening.proofs.StopLaws.{all_stops, find_stops, unread_stops}
+use Rattle.ob_opening.specs.OpeningStops.{OpeningStops}
+use Rattle.ob_base.specs.declared.fault.Fault.TheVariants.{Memory}
 use Rattle.ob_opening.proofs.preparing.prepare.Goals as goal
 
 -- ---- no memory for the rooms
@@ -236,3 +239,28 @@ returns-clause-act g c = λ tells.
     act_of g.S.Store.disk c.args.keys.now c.args.p.now store c.open_found.new.store (g.met.S.Store.only_now store) (returns-clause-serves g c).goes tells c.args.lanes (g.W.Watch.trace c.args.watch.now) (g.W.Watch.trace c.open_found.new.watch)
     c.open_found.result (returns-clause-opened g c) (returns-clause-leaves g c)
     (by_then tag (g.S.Store.disk store).cells mid new.cells (none_clear tag (g.S.Store.disk store).cells mid (λ cell low. c.in-Ok-find.ensures.keeps.cells here cell)) new.seen c.open_found.result (c.open_found.ensures.clear tells))
+
+-- ---- where it stopped
+
+pub open_found-requires-clause-some : goal.open_found-requires-clause-some
+open_found-requires-clause-some g c κs within = c.in-Ok-find.ensures.some
+
+pub returns-in-Err-clause-stops : goal.returns-in-Err-clause-stops
+returns-in-Err-clause-stops g c = unread_stops c.args.keys.now c.args.lanes c.args.p.now (g.S.Store.disk c.args.store.now) (g.W.Watch.trace c.args.watch.now) Memory
+
+pub returns-in-Err-find-clause-stops : goal.returns-in-Err-find-clause-stops
+returns-in-Err-find-clause-stops g c =
+    find_stops c.args.keys.now c.args.lanes c.args.p.now (g.S.Store.disk c.args.store.now) (g.S.Store.disk c.find.new.store) (g.W.Watch.trace c.args.watch.now) (g.W.Watch.trace c.find.new.watch) c.in-Err-find.fault
+    c.in-Err-find.ensures.does c.in-Err-find.ensures.passes
+
+pub returns-clause-stops : goal.returns-clause-stops
+returns-clause-stops g c =
+    let keys = c.args.keys.now in
+    let p = c.args.p.now in
+    let found = c.in-Ok-find.ensures in
+    let old = g.S.Store.disk c.args.store.now in
+    let new = g.S.Store.disk c.open_found.new.store in
+    let before = g.W.Watch.trace c.args.watch.now in
+    let after = g.W.Watch.trace c.open_found.new.watch in
+    subst (λ n. IfErr c.open_found.result (OpeningStops keys n p old new before after)) (ap (λ (m : Manned). m.lanes) c.in-Ok.ensures.crew)
+    (all_stops keys c.in-Ok.rooms.crew.lanes p c.in-Ok-find.found old (g.S.Store.disk c.find.new.store) new before (g.W.Watch.trace c.find.new.watch) after found.does found.keeps found.passes c.open_found.result found.value found.some c.open_found.ensures.stops)

@@ -1,6 +1,6 @@
 use Rattle.std.proofs.Common.{suc, inl, inr, None, refl, Ok, arith, Err, add-one, subst, ◌+◌, ◌∙◌}
-use Rattle.ob_start.specs.Beginning.{BeginStops}
-use Rattle.ob_start.proofs.Stops.{set_stops, sync_stops}
+use Rattle.ob_start.specs.Beginning.{BeginStops, IsSyncedLeft}
+use Rattle.ob_start.proofs.Stops.{set_leaves, set_stops, sync_stops}
 use Rattle.ob_base.specs.declared.fault.Fault.TheVariants.{StoreFault}
 use Rattle.ob_store.specs.Images.{Same}
 use Rattle.ob_store.proofs.Events.{none_noted}
@@ -139,7 +139,14 @@ returns-in-Err-clause-stops g c =
     c.in-Err.ensures.told c.sync_noted.ensures.crash
 
 pub returns-in-Ok-set-clause-stops : goal.returns-in-Ok-set-clause-stops
-returns-in-Ok-set-clause-stops g c = tt
+returns-in-Ok-set-clause-stops g c = λ tells.
+    let keys = c.args.sealer.now.keys in
+    let old = g.S.Store.disk c.args.store.now in
+    let mid = g.S.Store.disk c.sync_noted.new.store in
+    let new = g.S.Store.disk c.set.new.store in
+    let keeps = c.sync_noted.ensures.keeps in
+    subst (λ n. IsSyncedLeft keys n old.cells 0 new.cells) (add-one c.args.generation)
+    (set_leaves keys c.args.gates.now.generation (c.args.generation + 1) old new mid keeps (returns-in-Ok-set-clause-rest g c tells) tells (c.in-Ok-set.ensures.done (keeps.tells tells)))
 
 pub returns-in-Err-set-clause-stops : goal.returns-in-Err-set-clause-stops
 returns-in-Err-set-clause-stops g c =
@@ -152,4 +159,4 @@ returns-in-Err-set-clause-stops g c =
     let l = g.W.Watch.trace c.sync_noted.new.watch in
     let m = g.W.Watch.trace c.set.new.watch in
     subst (λ n. BeginStops keys known n old new k m (Err (StoreFault None))) (add-one c.args.generation)
-    (set_stops keys known (c.args.generation + 1) old new mid k l m c.in-Ok.ensures.told c.sync_noted.ensures.keeps c.in-Ok.ensures.durable c.in-Err-set.field-0 c.in-Err-set.ensures.does c.in-Err-set.ensures.stops)
+    (set_stops keys known (c.args.generation + 1) old new mid k l m c.in-Ok.ensures.told c.sync_noted.ensures.keeps c.in-Ok.ensures.durable c.set.ensures.passes c.in-Err-set.field-0 c.in-Err-set.ensures.does c.in-Err-set.ensures.stops)

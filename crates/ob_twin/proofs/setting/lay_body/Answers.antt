@@ -1,6 +1,6 @@
 use Rattle.ob_twin.specs.Clear.{IsWritten}
-use Rattle.std.proofs.Common.{inl, inr, subst, [], ◌%◌, arith, if◌then◌else◌, ◌++◌, ℕ, List, sym, ap, ◌∙◌}
-use Rattle.ob_store.proofs.Doing.{does_refused, first_more, does_then}
+use Rattle.std.proofs.Common.{inl, inr, refl, subst, [], ◌∷◌, ◌%◌, arith, if◌then◌else◌, ◌++◌, ℕ, List, sym, ap, ◌∙◌}
+use Rattle.ob_store.proofs.Doing.{does_refused, first_more, does_then, tells_none}
 use Rattle.ob_twin.specs.Register.{body_at, gate_at}
 use Rattle.ob_twin.specs.Orders.{through_notes, prepare_notes}
 use Rattle.ob_twin.proofs.Moves.{preparing, closing, passes_within, passes_both}
@@ -8,6 +8,7 @@ use Rattle.std.proofs.lemmas.Result.{IfOk-from_err}
 use Rattle.ob_store.specs.Calls.{IsFailed}
 use Rattle.ob_store.proofs.Serving.{serves_then, on_ok, on_err, if_err}
 use Rattle.ob_store.proofs.Keeping.{serves_failed}
+use Rattle.ob_twin.proofs.Stages.{closing_stage, laid_few, laid_two, laying_stage}
 use Rattle.ob_twin.proofs.Stops.{closing_left, closing_stops, laying_left, laying_stops}
 use Rattle.ob_twin.proofs.setting.lay_body.Goals as goal
 
@@ -116,3 +117,35 @@ returns-clause-stops g c =
     laying_stops tag c.args.first c.args.n old mid new (g.W.Watch.trace c.args.watch.now) (g.W.Watch.trace c.close.new.watch) (g.W.Watch.trace c.write_out.new.watch) c.args.closes c.write_out.result
     c.in_ok-close.ensures.does.all c.write_out.ensures.told
     (laying_left tag c.args.first c.args.n c.args.closes old mid new c.in_ok-close.ensures.durable c.in_ok-close.ensures.shut c.close.ensures.rest c.write_out.ensures.passes)
+
+-- ---- in stages
+
+pub returns-in_err-close-clause-stages : goal.returns-in_err-close-clause-stages
+returns-in_err-close-clause-stages g c =
+    let old = c.args.store.now in
+    let new = c.close.new.store in
+    let disk = g.S.Store.disk in
+    record {
+      ends = new ∷ [];
+      many = laid_few c.from_residual.result 1 c.from_residual.ensures.0 (omega arith);
+      spans = (
+        closing_stage disk (g.T.Stamper.tag c.args.stamper.now) c.args.closes c.args.first c.args.n old new (tells_none (disk old).seen (g.W.Watch.trace c.args.watch.now)).seen c.close.ensures.any_moment,
+        refl,
+      );
+    }
+
+pub returns-clause-stages : goal.returns-clause-stages
+returns-clause-stages g c =
+    let tag = g.T.Stamper.tag c.args.stamper.now in
+    let old = c.args.store.now in
+    let mid = c.close.new.store in
+    let new = c.write_out.new.store in
+    let disk = g.S.Store.disk in
+    record {
+      ends = mid ∷ new ∷ [];
+      many = laid_two c.write_out.result;
+      spans = (
+        closing_stage disk tag c.args.closes c.args.first c.args.n old mid (tells_none (disk old).seen (g.W.Watch.trace c.args.watch.now)).seen c.close.ensures.any_moment,
+        (laying_stage disk tag c.args.closes c.args.first c.args.n old mid new c.in_ok-close.ensures.does.all.seen c.in_ok-close.ensures.durable c.in_ok-close.ensures.shut c.close.ensures.rest c.write_out.ensures.any_moment, refl),
+      );
+    }

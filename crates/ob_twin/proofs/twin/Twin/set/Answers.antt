@@ -16,7 +16,9 @@ use Rattle.ob_twin.proofs.Sets.{set_done, set_unsure, put_at, put_everywhere, le
 use Rattle.ob_twin.proofs.Gating.{are_marked, known_again, closed_of, open_of}
 use Rattle.ob_store.specs.Calls.{IsFailed}
 use Rattle.ob_store.proofs.Serving.{serves_err, serves_ok, serves_then}
+use Rattle.ob_twin.specs.Stages.{AreSetStages, SetMoments, StagesSet}
 use Rattle.ob_twin.specs.Stops.{SetStops}
+use Rattle.ob_twin.proofs.Stages.{opened_stages, opening_stage, stopped_moments}
 use Rattle.ob_twin.proofs.Stops.{opening_left}
 use Rattle.ob_twin.proofs.twin.Twin.set.Goals as goal
 
@@ -138,11 +140,6 @@ returns-clause-passes g c =
     let first = c.first-first.result in
     subst (λ f. Passes (SameOutside f) old new) c.first-first.ensures
     (passes_both first old mid new c.lay_body.ensures.passes (passes_within first (gate_at first (place_of c.args.n)) mid new (omega arith) (omega arith) c.write_out.ensures.passes))
-
-pub returns-clause-reads_new : goal.returns-clause-reads_new
-returns-clause-reads_new g c = λ tells under.
-    put_everywhere (g.T.Stamper.tag c.args.stamper.now) (first_of c.args.self) c.args.n (g.S.Store.disk c.args.store.now).cells (g.S.Store.disk c.write_out.new.store) c.requires.small under
-    (returns-clause-done g c tells) (c.in-Ok-write_out.ensures.durable (c.in-Ok.ensures.serves.tells tells))
 
 pub returns-clause-old_or_new : goal.returns-clause-old_or_new
 returns-clause-old_or_new g c = λ m next tells settled stands.
@@ -267,3 +264,54 @@ returns-in-Err-write_out-clause-stops g c =
 
 pub returns-clause-stops : goal.returns-clause-stops
 returns-clause-stops g c = tt
+
+-- ---- at its moments
+
+pub returns-in-Err-clause-moments : goal.returns-in-Err-clause-moments
+returns-in-Err-clause-moments g c =
+    let tag = g.T.Stamper.tag c.args.stamper.now in
+    let old = c.args.store.now in
+    let new = c.lay_body.new.store in
+    let disk = g.S.Store.disk in
+    let closes_is = closed_by c.args.self c.args.gates.now c.known_of-known.result c.is_closed_first-closes.result c.args.n c.known_of-known.ensures c.is_closed_first-closes.ensures in
+    subst (λ b. SetMoments disk tag b (first_of c.args.self) c.args.n old new (Err (Before (StoreFault None)))) closes_is
+    (subst (λ f. SetMoments disk tag c.is_closed_first-closes.result f c.args.n old new (Err (Before (StoreFault None)))) c.first-first.ensures
+    (stopped_moments disk tag c.is_closed_first-closes.result c.first-first.result c.args.n old new (StoreFault None) c.in-Err.ensures.stages))
+
+pub returns-in-Err-write_out-clause-moments : goal.returns-in-Err-write_out-clause-moments
+returns-in-Err-write_out-clause-moments g c =
+    let tag = g.T.Stamper.tag c.args.stamper.now in
+    let old = c.args.store.now in
+    let mid = c.lay_body.new.store in
+    let new = c.write_out.new.store in
+    let disk = g.S.Store.disk in
+    let fault = StoreFault c.unsure_of.result in
+    let closes = c.is_closed_first-closes.result in
+    let first = c.first-first.result in
+    let closes_is = closed_by c.args.self c.args.gates.now c.known_of-known.result closes c.args.n c.known_of-known.ensures c.is_closed_first-closes.ensures in
+    subst (λ b. SetMoments disk tag b (first_of c.args.self) c.args.n old new (Err (Unsure fault))) closes_is
+    (subst (λ f. SetMoments disk tag closes f c.args.n old new (Err (Unsure fault))) c.first-first.ensures
+    (record {
+      stages = opened_stages disk tag closes first c.args.n old mid new c.in-Ok.ensures.stages
+          (opening_stage disk tag closes first c.args.n old mid new c.requires.small c.in-Ok.ensures.does.all.seen c.in-Ok.ensures.durable c.in-Ok.ensures.done c.write_out.ensures.any_moment);
+      behind = λ tells under. tt;
+    }))
+
+pub returns-clause-moments : goal.returns-clause-moments
+returns-clause-moments g c =
+    let tag = g.T.Stamper.tag c.args.stamper.now in
+    let old = c.args.store.now in
+    let mid = c.lay_body.new.store in
+    let new = c.write_out.new.store in
+    let disk = g.S.Store.disk in
+    let closes = c.is_closed_first-closes.result in
+    let first = c.first-first.result in
+    let closes_is = closed_by c.args.self c.args.gates.now c.known_of-known.result closes c.args.n c.known_of-known.ensures c.is_closed_first-closes.ensures in
+    record {
+      stages = subst (λ b. AreSetStages disk tag b (first_of c.args.self) c.args.n (StagesSet (Ok tt)) old new) closes_is
+          (subst (λ f. AreSetStages disk tag closes f c.args.n (StagesSet (Ok tt)) old new) c.first-first.ensures
+          (opened_stages disk tag closes first c.args.n old mid new c.in-Ok.ensures.stages
+          (opening_stage disk tag closes first c.args.n old mid new c.requires.small c.in-Ok.ensures.does.all.seen c.in-Ok.ensures.durable c.in-Ok.ensures.done c.write_out.ensures.any_moment)));
+      behind = λ tells under.
+          put_everywhere tag (first_of c.args.self) c.args.n (disk old).cells (disk new) c.requires.small under (returns-clause-done g c tells) (c.in-Ok-write_out.ensures.durable (c.in-Ok.ensures.serves.tells tells));
+    }

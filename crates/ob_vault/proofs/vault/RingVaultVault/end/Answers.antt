@@ -124,6 +124,7 @@ returns-clause-called g c =
             stands = c.end-result.ensures.stands;
             images = λ s at. (c.end-result.ensures.images s at).leaves;
             stages = λ s at. (c.end-result.ensures.images s at).stages;
+            spans = λ s at. (c.end-result.ensures.images s at).spans;
           }),
     )
 
