@@ -46,6 +46,31 @@ module _ (p : Params) (f : AllFills) (e records : ℕ) (gate : Bool) where
       ap (λ (k : ℕ). turn_behind p (turn_at p f e records gate b) k) more ∙ ap (λ (t : HistoryTurn). turn_behind p t (n + m)) (turn_next p f e records gate b (omega (arith, low)))
       ∙ turns_pass n (b + 1) m (omega (arith, low)) ∙ ap (λ (k : ℕ). turn_behind p (turn_at p f e records gate k) m) same
 
+module _ (p : Params) (word_of : WordId → ℕ) (s : LifeState) (t : HistoryTurn) (at : IsTurnOf p t s) where
+  abbrev fetched : HistoryTurn
+  fetched = record t { batch = suc t.batch }
+
+  abbrev ended : HistoryTurn
+  ended = record { epoch = suc t.epoch; batch = 0; records = 0; gate = true }
+
+  -- behind a batch the turn is the next one of its epoch
+  fetch_next : (r : LifeBatch) → length s.log < p.batches → (next_turn p t ≡ fetched) × IsTurnOf p fetched (life_step p word_of (life_step p word_of s (Append r)) ShowBatch)
+  fetch_next r room =
+      let longer = length-append s.log (r ∷ []) in
+      let same : t.batch ≡ length s.log = at.batch in
+      let few : t.records ≤ length s.log = at.records in (
+        ap (λ (b : Bool). cond b fetched ended) (lt-ltb t.batch p.batches (omega (arith, same, room))),
+        record { epoch = at.epoch; batch = omega (arith, same, longer); records = omega (arith, few, longer); room = omega (arith, room, longer) },
+      )
+
+  -- and behind an end the first of the next epoch
+  end_next : (ws : List (ℕ × Option WordId)) (drawn : ℕ) (slot : ℕ → ℕ → ℕ) → length s.log ≡ p.batches → (next_turn p t ≡ ended) × IsTurnOf p ended (life_step p word_of (life_step p word_of s ShowLifts) (EndAct ws drawn slot))
+  end_next ws drawn slot full =
+      let same : t.batch ≡ length s.log = at.batch in (
+        ap (λ (b : Bool). cond b fetched ended) (le-ltb t.batch p.batches (omega (arith, same, full))),
+        record { epoch = ap suc at.epoch ∙ sym (add-one s.epoch); batch = refl; records = omega arith; room = omega arith },
+      )
+
 module _ (p : Params) (word_of : WordId → ℕ) where
   abbrev Led : HistoryTurn → LifeState → LifeState → Type 0
   Led t s then = IsTurnOf p t then × (then.generation ≡ s.generation)
@@ -62,14 +87,8 @@ module _ (p : Params) (word_of : WordId → ℕ) where
       let life_then = subst (λ (xs : List LifeAct). IsLife p word_of s xs) are life in
       let behind = subst (λ (xs : List LifeAct). AreShownBy p word_of (reached p word_of s xs) calls steps rest) show.3.2 show.5 in
       let s2 : LifeState = life_step p word_of (life_step p word_of s (Append r)) ShowBatch in
-      let longer = length-append s.log (r ∷ []) in
-      let room : length s.log < p.batches = life_then.0.0 in
-      let same : t.batch ≡ length s.log = at.batch in
-      let few : t.records ≤ length s.log = at.records in
-      let turn : next_turn p t ≡ record t { batch = suc t.batch } =
-      ap (λ (b : Bool). cond b (record t { batch = suc t.batch }) (record { epoch = suc t.epoch; batch = 0; records = 0; gate = true })) (lt-ltb t.batch p.batches (omega (arith, same, room))) in
-      let at_next : IsTurnOf p (record t { batch = suc t.batch }) s2 = record { epoch = at.epoch; batch = omega (arith, same, longer); records = omega (arith, few, longer); room = omega (arith, room, longer) } in
-      let later = turns_lead calls steps s2 (next_turn p t) rest (subst (λ (u : HistoryTurn). IsTurnOf p u s2) (sym turn) at_next) life_then.1.1 behind in
+      let next = fetch_next p word_of s t at r life_then.0.0 in
+      let later = turns_lead calls steps s2 (next_turn p t) rest (subst (λ (u : HistoryTurn). IsTurnOf p u s2) (sym next.0) next.1) life_then.1.1 behind in
       subst (λ (xs : List LifeAct). Led (turn_behind p (next_turn p t) (length steps)) s (reached p word_of s xs)) (sym are) later
   turns_lead (End writes ∷ calls) (step ∷ steps) s t acts at life show =
       let ws = show.3.0 in
@@ -80,12 +99,8 @@ module _ (p : Params) (word_of : WordId → ℕ) where
       let life_then = subst (λ (xs : List LifeAct). IsLife p word_of s xs) are life in
       let behind = subst (λ (xs : List LifeAct). AreShownBy p word_of (reached p word_of s xs) calls steps rest) show.3.3 show.5 in
       let e2 : LifeState = life_step p word_of (life_step p word_of s ShowLifts) (EndAct ws drawn slot) in
-      let full : length s.log ≡ p.batches = life_then.0.0 in
-      let same : t.batch ≡ length s.log = at.batch in
-      let turn : next_turn p t ≡ record { epoch = suc t.epoch; batch = 0; records = 0; gate = true } =
-      ap (λ (b : Bool). cond b (record t { batch = suc t.batch }) (record { epoch = suc t.epoch; batch = 0; records = 0; gate = true })) (le-ltb t.batch p.batches (omega (arith, same, full))) in
-      let at_next : IsTurnOf p (record { epoch = suc t.epoch; batch = 0; records = 0; gate = true }) e2 = record { epoch = ap suc at.epoch ∙ sym (add-one s.epoch); batch = refl; records = omega arith; room = omega arith } in
-      let later = turns_lead calls steps e2 (next_turn p t) rest (subst (λ (u : HistoryTurn). IsTurnOf p u e2) (sym turn) at_next) life_then.1.1 behind in
+      let next = end_next p word_of s t at ws drawn slot life_then.0.0 in
+      let later = turns_lead calls steps e2 (next_turn p t) rest (subst (λ (u : HistoryTurn). IsTurnOf p u e2) (sym next.0) next.1) life_then.1.1 behind in
       subst (λ (xs : List LifeAct). Led (turn_behind p (next_turn p t) (length steps)) s (reached p word_of s xs)) (sym are) later
 
 -- ---- what is left of the step behind them
@@ -113,7 +128,7 @@ gate_stays was is (suc (suc zero)) many same = absurd (omega (arith, many))
 gate_stays was is (suc (suc (suc zero))) many same = absurd (omega (arith, many))
 gate_stays was is (suc (suc (suc (suc zero)))) many same = absurd (omega (arith, many))
 
-behind_all : {X : Type 0} (n : ℕ) (a b : List X) → n ≤ length b → n ≤ length (a ++ b)
+pub behind_all : {X : Type 0} (n : ℕ) (a b : List X) → n ≤ length b → n ≤ length (a ++ b)
 behind_all n a b many = (let all = length-append a b in omega (arith, all, many))
 
 long : (a b c d tail : List Note) → 4 ≤ length tail → 5 ≤ length (a ++ (b ++ c ++ d ++ (Sync ∷ []) ++ tail))
@@ -275,15 +290,9 @@ gates_lead p word_of (Fetch asks ∷ calls) (step ∷ steps) q s t acts at has l
     let life_then = subst (λ (xs : List LifeAct). IsLife p word_of s xs) are life in
     let behind = subst (λ (xs : List LifeAct). AreShownBy p word_of (reached p word_of s xs) calls steps rest) show.3.2 show.5 in
     let s2 : LifeState = life_step p word_of (life_step p word_of s (Append r)) ShowBatch in
-    let longer = length-append s.log (r ∷ []) in
-    let room : length s.log < p.batches = life_then.0.0 in
-    let same : t.batch ≡ length s.log = at.batch in
-    let few : t.records ≤ length s.log = at.records in
-    let turn : next_turn p t ≡ record t { batch = suc t.batch } =
-    ap (λ (b : Bool). cond b (record t { batch = suc t.batch }) (record { epoch = suc t.epoch; batch = 0; records = 0; gate = true })) (lt-ltb t.batch p.batches (omega (arith, same, room))) in
-    let at_next : IsTurnOf p (record t { batch = suc t.batch }) s2 = record { epoch = at.epoch; batch = omega (arith, same, longer); records = omega (arith, few, longer); room = omega (arith, room, longer) } in
+    let next = fetch_next p word_of s t at r life_then.0.0 in
     let has_next : HasGateOf p (record t { batch = suc t.batch }) s2 (ring_next p q Fetches step.1) = record { epoch = has.epoch; gate = has.gate; durable = has.durable } in
-    let later = gates_lead p word_of calls steps (ring_next p q Fetches step.1) s2 (next_turn p t) rest (subst (λ (u : HistoryTurn). IsTurnOf p u s2) (sym turn) at_next) (subst (λ (u : HistoryTurn). HasGateOf p u s2 (ring_next p q Fetches step.1)) (sym turn) has_next)
+    let later = gates_lead p word_of calls steps (ring_next p q Fetches step.1) s2 (next_turn p t) rest (subst (λ (u : HistoryTurn). IsTurnOf p u s2) (sym next.0) next.1) (subst (λ (u : HistoryTurn). HasGateOf p u s2 (ring_next p q Fetches step.1)) (sym next.0) has_next)
     life_then.1.1 steps_are.1 behind in
     subst (λ (shape : Shape). HasGateOf p (turn_behind p (next_turn p t) (length steps)) (reached p word_of s acts) (public_behind ring_kind p (ring_next p q shape step.1) steps)) (sym steps_are.0)
     (subst (λ (xs : List LifeAct). HasGateOf p (turn_behind p (next_turn p t) (length steps)) (reached p word_of s xs) (public_behind ring_kind p (ring_next p q Fetches step.1) steps)) (sym are) later)
@@ -296,20 +305,16 @@ gates_lead p word_of (End writes ∷ calls) (step ∷ steps) q s t acts at has l
     let life_then = subst (λ (xs : List LifeAct). IsLife p word_of s xs) are life in
     let behind = subst (λ (xs : List LifeAct). AreShownBy p word_of (reached p word_of s xs) calls steps rest) show.3.3 show.5 in
     let e2 : LifeState = life_step p word_of (life_step p word_of s ShowLifts) (EndAct ws drawn slot) in
-    let full : length s.log ≡ p.batches = life_then.0.0 in
-    let same : t.batch ≡ length s.log = at.batch in
-    let ended : HistoryTurn = record { epoch = suc t.epoch; batch = 0; records = 0; gate = true } in
-    let turn : next_turn p t ≡ ended = ap (λ (b : Bool). cond b (record t { batch = suc t.batch }) (record { epoch = suc t.epoch; batch = 0; records = 0; gate = true })) (le-ltb t.batch p.batches (omega (arith, same, full))) in
-    let at_next : IsTurnOf p ended e2 = record { epoch = ap suc at.epoch ∙ sym (add-one s.epoch); batch = refl; records = omega arith; room = omega arith } in
+    let next = end_next p word_of s t at ws drawn slot life_then.0.0 in
     let e : ℕ = (q.known).epoch in
     let gates : ℕ → Bool = (q.known).gates in
     let back : gate_cell p EpochTwin ((e + 1) + 1) ≡ gate_cell p EpochTwin e = omega arith in
-    let has_next : HasGateOf p ended e2 (ring_next p q Ends step.1) = record {
+    let has_next : HasGateOf p (record { epoch = suc t.epoch; batch = 0; records = 0; gate = true }) e2 (ring_next p q Ends step.1) = record {
       epoch = ap (λ (n : ℕ). n + 1) has.epoch;
       gate = sym (or_right (gate_cell p EpochTwin ((e + 1) + 1) == gate_cell p EpochTwin (e + 1)) (gates (gate_cell p EpochTwin ((e + 1) + 1))) (ap gates back ∙ has.durable));
       durable = or_left (gate_cell p EpochTwin (e + 1) == gate_cell p EpochTwin (e + 1)) (gates (gate_cell p EpochTwin (e + 1))) (eq-eqb (gate_cell p EpochTwin (e + 1)) (gate_cell p EpochTwin (e + 1)) refl);
     } in
-    let later = gates_lead p word_of calls steps (ring_next p q Ends step.1) e2 (next_turn p t) rest (subst (λ (u : HistoryTurn). IsTurnOf p u e2) (sym turn) at_next) (subst (λ (u : HistoryTurn). HasGateOf p u e2 (ring_next p q Ends step.1)) (sym turn) has_next)
+    let later = gates_lead p word_of calls steps (ring_next p q Ends step.1) e2 (next_turn p t) rest (subst (λ (u : HistoryTurn). IsTurnOf p u e2) (sym next.0) next.1) (subst (λ (u : HistoryTurn). HasGateOf p u e2 (ring_next p q Ends step.1)) (sym next.0) has_next)
     life_then.1.1 steps_are.1 behind in
     subst (λ (shape : Shape). HasGateOf p (turn_behind p (next_turn p t) (length steps)) (reached p word_of s acts) (public_behind ring_kind p (ring_next p q shape step.1) steps)) (sym steps_are.0)
     (subst (λ (xs : List LifeAct). HasGateOf p (turn_behind p (next_turn p t) (length steps)) (reached p word_of s xs) (public_behind ring_kind p (ring_next p q Ends step.1) steps)) (sym are) later)

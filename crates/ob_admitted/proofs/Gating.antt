@@ -9,11 +9,15 @@ use Rattle.std.proofs.lemmas.Nat.{from_le_bytes-to_le_bytes_8}
 use Rattle.ob_base.specs.Layout.{EpochTwin, GenerationTwin}
 use Rattle.ob_base.specs.declared.fault.Fault.{Fault}
 use Rattle.ob_base.specs.declared.params.Params.{Params}
+use Rattle.ob_end.proofs.Stops.{kept_left}
+use Rattle.ob_end.specs.Closings.{SameGeneration}
+use Rattle.ob_end.specs.EndWrites.{SameFirst}
 use Rattle.ob_fetch.specs.declared.run.Run.{Run}
+use Rattle.ob_recover.proofs.Orders.{epoch_set}
 use Rattle.ob_opening.specs.OpeningActs.{AreGatesIn, StandsInLife}
 use Rattle.ob_recover.specs.Known.{fills_with_lifts, gates_open, public_of_kept}
 use Rattle.ob_recover.specs.Life.{LifeState, WordId}
-use Rattle.ob_schedule.specs.Schedule.{Fills, Public, end_notes, gate_cell}
+use Rattle.ob_schedule.specs.Schedule.{Fills, Public, end_notes, gate_cell, set_twin}
 use Rattle.ob_seal.specs.declared.keys.Keys.{Keys}
 use Rattle.ob_serial.specs.Serial.{Map}
 use Rattle.ob_serial.specs.VaultKinds.{Called, Kind}
@@ -23,12 +27,15 @@ use Rattle.ob_store.specs.declared.event.Event.{Event}
 use Rattle.ob_store.specs.declared.watch.Note.{Note}
 use Rattle.ob_twin.specs.Bodies.{Tagging, body_of, number_of, plain_of}
 use Rattle.ob_twin.specs.Keyed.{tagging}
-use Rattle.ob_twin.specs.Opening.{GatesAre, is_marked}
-use Rattle.ob_twin.specs.Register.{IsOpen, StandsAt, body_at, gate_at, number_at}
+use Rattle.ob_twin.proofs.Gating.{closed_of}
+use Rattle.ob_twin.specs.Opening.{GatesAre, is_closed_first, is_marked}
+use Rattle.ob_twin.specs.Orders.{set_notes}
+use Rattle.ob_twin.specs.Stages.{IsLackingIn}
+use Rattle.ob_twin.specs.Register.{IsOpen, StandsAt, body_at, gate_at, number_at, place_of}
 use Rattle.ob_twin.specs.Stops.{IsPlaceLeft, IsRegisterLeft}
 use Rattle.ob_twin.specs.declared.gates.Gates.{Gates}
 use Rattle.ob_twin.specs.declared.gates.Open.{Open}
-use Rattle.ob_vault.proofs.Registers.{refused_gated}
+use Rattle.ob_vault.proofs.Registers.{gates_same, refused_gated}
 use Rattle.ob_vault.specs.Acts.{is_answered}
 use Rattle.ob_vault.specs.Gated.{AreGatesBehind, AreGatesKnown, row_of_end}
 use Rattle.ob_vault.specs.Hidden.{RingCut, RingCutShown, RingHidden}
@@ -37,9 +44,11 @@ use Rattle.ob_vault.specs.RingSteps.{HasRingWords, RingAt, RunIsAtHidden}
 use Rattle.ob_vault.specs.RingVaults.{Running}
 use Rattle.ob_vault.specs.Seen.{RingPublic, ring_notes}
 use Rattle.ob_vault.specs.Shapes.{Ends, shape_of}
+use Rattle.ob_vault.specs.Spans.{AreRegistersIn}
 use Rattle.ob_histories.specs.Histories.{IsGateLeft}
-use Rattle.ob_admitted.proofs.Noting.{end_few}
-use Rattle.ob_admitted.specs.Gates.{CallsLeaveGates, IsGateFound}
+use Rattle.ob_admitted.proofs.Noting.{end_few, setting_long}
+use Rattle.ob_admitted.specs.Gates.{CallsLeaveGates, IsGateFound, StagesLeaveGates}
+use Rattle.ob_admitted.specs.Told.{IsCountIn, setting_row}
 use Rattle.ob_admitted.specs.Wholes.{found_of_life}
 
 -- ---- what is known of a gate
@@ -212,18 +221,53 @@ module _ {V S : Type 0} (k : Kind V) (disk : S → Disk) (runs : V → Running S
         )
 
   -- where none was refused the images are what was known
-  known_in : (known : Open) (first : ℕ) → ((j : ℕ) → image j ≡ cells j) → GatesAre known first cells → GatesAre known first image
-  known_in known first same are = record {
-    zero = (λ marked. same (gate_at first 0) ∙ (are.zero).0 marked, λ opened. (are.zero).1 (sym (same (gate_at first 0)) ∙ opened));
-    one = (λ marked. same (gate_at first 1) ∙ (are.one).0 marked, λ opened. (are.one).1 (sym (same (gate_at first 1)) ∙ opened));
-  }
-
   pub rest_found : gates_open run.gates (gate_cell p GenerationTwin (suc h.generation)) ≡ true → (disk (runs v).store).may_leave image
       → (s.generation ≡ h.generation → (found_of_life p s (gates_open gates)).generation_gate ≡ true) × (s.epoch ≡ h.epoch → (found_of_life p s (gates_open gates)).epoch_gate ≡ q.known.gates (gate_cell p EpochTwin (h.epoch + 1)))
   rest_found opened left =
       let same : (j : ℕ) → image j ≡ cells j = (lies.at).settled image left in (
-        λ stays. generation_found (known_in (run.gates).generation 1 same knows.generation) stays ∙ opened,
-        fetch_found (known_in (run.gates).epoch 5 same knows.epoch),
+        λ stays. generation_found (gates_same (run.gates).generation 1 cells image (same 2) (same 4) knows.generation) stays ∙ opened,
+        fetch_found (gates_same (run.gates).epoch 5 cells image (same 6) (same 8) knows.epoch),
+      )
+
+  -- ---- in a stage
+
+  generation_kept : SameGeneration image cells → GatesAre (run.gates).generation 1 image
+  generation_kept same = gates_same (run.gates).generation 1 cells image (same 2 (omega arith)) (same 4 (omega arith)) knows.generation
+
+  -- no note of an end's set was shown
+  unset_left : (lacking : ℕ) → length (setting_row p q) ≤ lacking → SameFirst image cells → IsRegisterLeft (tagging (run.sealer).keys) 5 (suc run.epoch) cells lacking image
+  unset_left lacking few same =
+      let e : ℕ = suc run.epoch in
+      let closes : Bool = is_closed_first (run.gates).epoch (place_of e) in
+      let one : (q.known).epoch + 1 ≡ e = (let at_epoch = ap (λ (x : Public). x.epoch) at.known in omega (arith, at_epoch)) in
+      let set : setting_row p q ≡ set_notes closes 5 e =
+      ap (λ (x : Public). set_twin p EpochTwin ((q.known).epoch + 1) (x.gates (gate_cell p EpochTwin ((q.known).epoch + 1)))) (sym at.known)
+      ∙ ap (λ (x : ℕ). set_twin p EpochTwin x (gates_open run.gates (gate_cell p EpochTwin x))) one ∙ sym (epoch_set p run.gates e (at.planned).gate) in
+      kept_left (tagging (run.sealer).keys) e cells image (same (gate_at 5 (e % 2)) (omega arith)) closes lacking (subst (λ (row : List Note). length row ≤ lacking) set few)
+      (λ open_first opened. closed_of (run.gates).epoch 5 e cells knows.epoch open_first opened) (same (gate_at 5 ((e + 1) % 2)) (omega arith))
+
+  some_lack : (stage lacking : ℕ) → IsLackingIn stage lacking → 0 < lacking
+  some_lack zero lacking is = omega (arith, is)
+  some_lack (suc zero) lacking is = (let least = is.0 in omega (arith, least))
+  some_lack (suc (suc stage)) lacking is = omega (arith, is)
+
+  pub cut_found : gates_open run.gates (gate_cell p GenerationTwin (suc h.generation)) ≡ true → (call : VaultCall) (stage count : ℕ) (c : Fills) → IsCountIn p q call c stage count → AreRegistersIn keys h.epoch cells call stage image
+      → (s.generation ≡ h.generation → (found_of_life p s (gates_open gates)).generation_gate ≡ true)
+      × IsGateFound h.epoch (q.known.gates (gate_cell p EpochTwin (h.epoch + 1))) call (length (ring_notes p q (shape_of call) c) - count) (found_of_life p s (gates_open gates))
+  cut_found opened (Fetch asks) stage count c many same = (
+    λ stays. generation_found (generation_kept (λ j low. same j (omega (arith, low)))) stays ∙ opened,
+    fetch_found (gates_same (run.gates).epoch 5 cells image (same 6 (omega arith)) (same 8 (omega arith)) knows.epoch),
+  )
+  cut_found opened (End writes) zero count c many same =
+      let lacking : ℕ = length (ring_notes p q Ends c) - count in (
+        λ stays. generation_found (generation_kept (λ j low. same j (omega (arith, low)))) stays ∙ opened,
+        end_found lacking (let set = setting_long p q in omega (arith, many, set)) (unset_left lacking many same) writes,
+      )
+  cut_found opened (End writes) (suc stage) count c many left =
+      let lacking : ℕ = length (ring_notes p q Ends c) - count in (
+        λ stays. generation_found (generation_kept left.0) stays ∙ opened,
+        end_found lacking (some_lack stage lacking many)
+            (subst (λ (x : ℕ). IsRegisterLeft (tagging (run.sealer).keys) 5 (suc x) cells lacking image) (sym at.epoch_hidden) (subst (λ (x : Keys). IsRegisterLeft (tagging x) 5 (suc h.epoch) cells lacking image) (sym at.keys_are) (left.1 lacking many))) writes,
       )
 
 pub calls_gated : {V S : Type 0} (k : Kind V) (disk : S → Disk) → CallsLeaveGates k disk
@@ -232,3 +276,7 @@ calls_gated k disk runs words keys most p f first q h n v at known opened m is_m
   λ call answer w one unserved c refused seen cut shown word_of s image gates left here found.
       gates_found k disk runs words keys most p f first q h n v at known m is_map word_of s image gates here found w answer unserved left c refused seen opened call one cut shown,
 )
+
+pub stages_gated : {V S : Type 0} (k : Kind V) (disk : S → Disk) → StagesLeaveGates k disk
+stages_gated k disk runs words keys most p f first calls steps q h n v at known opened m is_map call drawn stage x is c count many word_of s image gates left here found =
+    cut_found k disk runs words keys most p f first q h n v at known m is_map word_of s image gates here found opened call stage count c many (is.registers image left)

@@ -1,8 +1,8 @@
 -- What is left of a refused call is as its notes tell.
-use Rattle.std.specs.Prelude.{◌≡◌, ◌<◌, ◌≤◌, ◌⊎◌, ℕ, ◌+◌, ◌-◌, ◌%◌, List, [], ◌∷◌, ◌++◌, length, map, take, Option, None, Some, Err}
+use Rattle.std.specs.Prelude.{◌≡◌, ◌<◌, ◌≤◌, ◌⊎◌, ℕ, ◌+◌, ◌-◌, ◌%◌, cond, List, [], ◌∷◌, ◌++◌, length, map, take, Option, None, Some, Err}
 use Rattle.std.proofs.Common.{zero, suc, arith, length-append, refl, sym, ap, ◌∙◌, inl, inr, ⊎_elim}
 use Rattle.std.proofs.lemmas.List.{length-take-le}
-use Rattle.ob_base.specs.Layout.{log_gate, record_cells}
+use Rattle.ob_base.specs.Layout.{EpochTwin, log_gate, record_cells}
 use Rattle.ob_base.specs.Tree.{below}
 use Rattle.ob_base.specs.declared.fault.Fault.{Fault}
 use Rattle.ob_base.specs.declared.fault.Fault.TheVariants as fault
@@ -15,7 +15,7 @@ use Rattle.ob_recover.proofs.Orders.{record_written}
 use Rattle.ob_recover.specs.Known.{fills_with_lifts, public_of_kept}
 use Rattle.ob_recover.specs.Life.{WordId, LifeAct, LifeBatch, Append, ShowBatch}
 use Rattle.ob_recover.specs.Lives.{life_batch}
-use Rattle.ob_schedule.specs.Schedule.{Fills, Public, end_lifts, end_notes, written_by_end}
+use Rattle.ob_schedule.specs.Schedule.{Fills, Public, body_cell, end_lifts, end_notes, gate_cell, written_by_end}
 use Rattle.ob_seal.specs.declared.keys.Keys.{Keys}
 use Rattle.ob_serial.specs.VaultKinds.{Kind}
 use Rattle.ob_serial.specs.Vaults.{DoubtBy, End, Ended, Fetch, RefusedBy, Values, VaultAnswer, VaultCall}
@@ -33,8 +33,8 @@ use Rattle.ob_vault.specs.RingVaults.{EndCalled, RingCalled, Running, record_of_
 use Rattle.ob_vault.specs.Seen.{RingPublic, ring_notes}
 use Rattle.ob_vault.specs.Shapes.{Ends}
 use Rattle.ob_vault.proofs.Leaving.{goes_on_refused, refused_as_told}
-use Rattle.ob_admitted.specs.Told.{CallsLeaveAsNoted, IsLeftAsNoted, StagesLeaveAsNoted, record_row}
-use Rattle.ob_admitted.proofs.Betweens.{written_long}
+use Rattle.ob_admitted.specs.Told.{CallsLeaveAsNoted, IsLeftAsNoted, StagesLeaveAsNoted, record_row, setting_row}
+use Rattle.ob_admitted.proofs.Betweens.{behind_all, written_long}
 use Rattle.ob_admitted.proofs.Cutting.{record_many}
 
 -- ---- how many
@@ -216,9 +216,17 @@ calls_noted k disk counts_now only_now runs words keys most p f first calls step
 )
 
 -- by the stage in which a call was cut off
+-- a set has four notes at least
+pub setting_long : (p : Params) (q : RingPublic) → 4 ≤ length (setting_row p q)
+setting_long p q =
+    let e : ℕ = (q.known).epoch + 1 in
+    behind_all 4 (cond ((q.known).gates (gate_cell p EpochTwin e)) (Write (gate_cell p EpochTwin e) ∷ Sync ∷ []) []) (Write (body_cell p EpochTwin e) ∷ Sync ∷ Write (gate_cell p EpochTwin e) ∷ Sync ∷ []) (omega arith)
+
 pub stages_noted : StagesLeaveAsNoted
 stages_noted p q (Fetch asks) c zero shown made in_flight may are many = (may, inl (inl (are.0, are.1, many)))
 stages_noted p q (Fetch asks) c (suc zero) shown made in_flight may are many = (may, inl (inr (are, many)))
 stages_noted p q (Fetch asks) c (suc (suc stage)) shown made in_flight may are many = (may, inr (are.0, many))
-stages_noted p q (End writes) c zero shown made in_flight may are many = (are.0, inl (are.1, many))
-stages_noted p q (End writes) c (suc stage) shown made in_flight may are many = (are, inr many)
+stages_noted p q (End writes) c zero shown made in_flight may are many = (let set = setting_long p q in (are.0, inl (are.1, omega (arith, many, set))))
+stages_noted p q (End writes) c (suc zero) shown made in_flight may are many = (are.0, inl (are.1, omega (arith, many)))
+stages_noted p q (End writes) c (suc (suc zero)) shown made in_flight may are many = (let least = many.0 in (are.0, inl (are.1, omega (arith, least))))
+stages_noted p q (End writes) c (suc (suc (suc stage))) shown made in_flight may are many = (are, inr (omega (arith, many)))

@@ -9,11 +9,11 @@ use Rattle.ob_schedule.specs.Schedule.{Fills}
 use Rattle.ob_seal.specs.declared.keys.Keys.{Keys}
 use Rattle.ob_recover.proofs.Pads.{life_goes_on}
 use Rattle.ob_recover.specs.Calls.{Finds}
-use Rattle.ob_recover.specs.Life.{Append, IsActAllowed, IsLife, LifeAct, LifeBatch, LifeState, WordId, formatted_life, life_step, reached}
+use Rattle.ob_recover.specs.Life.{IsActAllowed, IsLife, LifeAct, LifeState, WordId, formatted_life, life_step, reached}
 use Rattle.ob_serial.specs.Serial.{Map}
 use Rattle.ob_serial.specs.Vaults.{VaultCall}
 use Rattle.ob_opening.specs.OpeningActs.{IsLeftAt, StandsInLife}
-use Rattle.ob_vault.specs.Acts.{AreBatchesSmall, AreTapeWords, IsBatchSmall}
+use Rattle.ob_vault.specs.Acts.{AreBatchesSmall, AreTapeWords}
 use Rattle.ob_vault.specs.Hidden.{RingHidden}
 use Rattle.ob_vault.specs.Joined.{AreGiven, AreRunsFrom, IsRunTold, RunPart, Served, Stopped}
 use Rattle.ob_vault.specs.KindShown.{public_behind}
@@ -22,14 +22,11 @@ use Rattle.ob_vault.specs.RingKind.{IsRingMap, RingFound, ring_hidden, ring_kind
 use Rattle.ob_vault.specs.Shapes.{Shape}
 use Rattle.ob_vault.specs.Shown.{IsInLife}
 use Rattle.ob_vault.proofs.Fetching.{none_pending}
-use Rattle.ob_vault.proofs.Whole.{reached_join, small_step, whole_goes, whole_run}
+use Rattle.ob_vault.proofs.Joining.{none_found, small_found}
+use Rattle.ob_vault.proofs.Whole.{reached_join, whole_goes, whole_run}
 use Rattle.ob_store.specs.declared.watch.Note.{Note}
 use Rattle.ob_admitted.specs.Told.{AreRunsNoted, IsRunNoted}
 use Rattle.ob_admitted.specs.Walks.{AreRunsTold, AreServedParts, IsRowInLife}
-
-none_found : (found : List LifeAct) → Finds None found → found ≡ []
-none_found found (inl none) = none
-none_found found (inr (a, pending, is)) = none_pending (found ≡ []) a pending
 
 module _ {S : Type 0} (disk : S → Disk) (keys : Keys) (p : Params) (word_of : WordId → ℕ) where
   -- each image that may be left is at this state, or behind the act in flight
@@ -66,12 +63,6 @@ module _ {S : Type 0} (disk : S → Disk) (keys : Keys) (p : Params) (word_of : 
   abbrev Again : S → (parts : List (RunPart S)) (rows : List (List Note)) → AreRunsTold disk keys p parts rows → (Noted : Type 0) → Type 0
   Again new parts rows told Noted = (u : LifeState) (flies : Option LifeAct) → LeftWithin u flies (disk new).may_leave → SmallWithin u flies → Resolved u flies parts rows told Noted
 
-  small_found : (u : LifeState) (made : List LifeAct) (in_flight : Option LifeAct) → AreBatchesSmall (reached p word_of u made).log → ((b : LifeBatch) → in_flight ≡ Some (Append b) → IsBatchSmall b) → (f : List LifeAct) → Finds in_flight f
-      → AreBatchesSmall (reached p word_of (reached p word_of u made) f).log
-  small_found u made in_flight few own f (inl none) = subst (λ (l : List LifeAct). AreBatchesSmall (reached p word_of (reached p word_of u made) l).log) (sym none) few
-  small_found u made in_flight few own f (inr (a, flies, is)) =
-      subst (λ (l : List LifeAct). AreBatchesSmall (reached p word_of (reached p word_of u made) l).log) (sym is) (small_step p word_of (reached p word_of u made) a few (λ b e. own b (flies ∙ e)))
-
   module _ (most : ℕ) (old : S) (found : RingFound) (opened : S) (calls : List VaultCall) (steps : List (Shape × Fills)) (behind : RingHidden) (refused : Option VaultCall) (words : List ℕ) (seen : List Event) (new : S) (parts : List (RunPart S)) (notes : List Note) (rows : List (List Note)) (shown : AreRunsTold disk keys p (Served most old found opened calls steps behind refused words seen new ∷ parts) (notes ∷ rows)) (NotedLater : Type 0) where
     abbrev part : RunPart S
     part = Served most old found opened calls steps behind refused words seen new
@@ -93,7 +84,7 @@ module _ {S : Type 0} (disk : S → Disk) (keys : Keys) (p : Params) (word_of : 
         let there : reached p word_of t (acts ++ left.made) ≡ reached p word_of last left.made = reached_join p word_of t acts left.made ∙ ap (λ (u : LifeState). reached p word_of u left.made) run.leads in
         let r : Resolved (reached p word_of t (acts ++ left.made)) left.in_flight parts rows shown.1 NotedLater = again (reached p word_of t (acts ++ left.made)) left.in_flight
         (λ c will. subst (λ (u : LifeState). IsLeftAt keys p word_of u left.in_flight c) (sym there) (left.images c will))
-        (λ f finds. subst (λ (u : LifeState). AreBatchesSmall (reached p word_of u f).log) (sym there) (small_found last left.made left.in_flight left.small.0 (λ b e. left.small.1 b e) f finds)) in
+        (λ f finds. subst (λ (u : LifeState). AreBatchesSmall (reached p word_of u f).log) (sym there) (small_found p word_of last left.made left.in_flight left.small.0 (λ b e. left.small.1 b e) f finds)) in
         let first : List LifeAct = acts ++ (left.made ++ r.found) in
         let behind_all : reached p word_of t first ≡ reached p word_of (reached p word_of t (acts ++ left.made)) r.found =
         ap (λ (l : List LifeAct). reached p word_of t l) (sym (append_assoc acts left.made r.found)) ∙ reached_join p word_of t (acts ++ left.made) r.found in

@@ -26,13 +26,14 @@ use Rattle.ob_vault.specs.RingKind.{IsRingMap, RingFound, ring_kind, ring_public
 use Rattle.ob_vault.specs.RingSteps.{HasRingWords, RingAt}
 use Rattle.ob_vault.specs.RingVaults.{Running}
 use Rattle.ob_vault.specs.Seen.{RingPublic, ring_notes}
-use Rattle.ob_vault.specs.Shapes.{shape_of}
+use Rattle.ob_vault.specs.Shapes.{Shape, shape_of}
+use Rattle.ob_vault.specs.Spans.{IsCutIn, span}
 use Rattle.ob_histories.specs.Histories.{IsGateLeft, IsHistory}
 use Rattle.ob_histories.specs.Laws.{AreAdmitted}
 use Rattle.ob_histories.specs.Runs.{RunFound}
 use Rattle.ob_admitted.specs.Parts.{IsRefusedShown}
 use Rattle.ob_admitted.specs.Rows.{lines_of_runs}
-use Rattle.ob_admitted.specs.Told.{AreRunsNoted}
+use Rattle.ob_admitted.specs.Told.{AreRunsNoted, IsCountIn}
 use Rattle.ob_admitted.specs.Walks.{AreRunsTold, IsRowInLife}
 use Rattle.ob_admitted.specs.Wholes.{found_of_life}
 
@@ -63,6 +64,14 @@ CallsLeaveGates {V} {S} k disk = (runs : V → Running S) → HasRingWords k dis
     → LeavesGates keys p q h None 0 (disk (runs v).store).may_leave
     × ((call : VaultCall) (answer : VaultAnswer) (w : V) (one : Called k v call answer w) → is_answered answer ≡ false → (c : Fills) (refused : Fault) (seen : List Event) → RingCut most p q h call c (runs w).drawn refused seen → RingCutShown most p q call c refused seen one.notes
     → LeavesGates keys p q h (Some call) (length (ring_notes p q (shape_of call) c) - length one.notes) (disk (runs w).store).may_leave)
+
+-- So does one that was cut off in a stage, by as many of its notes as may have been shown in that.
+abbrev pub StagesLeaveGates : {V S : Type 0} → Kind V → (S → Disk) → Type 0
+StagesLeaveGates {V} {S} k disk = (runs : V → Running S) → HasRingWords k disk runs → (keys : Keys) (most : ℕ) (p : Params) (f : RingFound) (first : V) (calls : List VaultCall) (steps : List (Shape × Fills)) (q : RingPublic) (h : RingHidden) (n : ℕ) (v : V)
+    → RingAt k disk runs keys most p f (disk (runs first).store) q h n v → AreGatesKnown (runs v).run (disk (runs v).store) → gates_open ((runs v).run).gates (gate_cell p GenerationTwin (suc h.generation)) ≡ true
+    → (m : Map nat_cmp) → IsRingMap keys p (disk (runs first).store) f m
+    → (call : VaultCall) (words : List ℕ) (stage : ℕ) (x : S × S) → IsCutIn disk keys most p f (disk (runs first).store) calls steps q h call words (runs v).store stage x → (c : Fills) (count : ℕ) → IsCountIn p q call c stage count
+    → LeavesGates keys p q h (Some call) (length (ring_notes p q (shape_of call) c) - count) (span disk x).may_leave
 
 -- ---- rows of runs
 

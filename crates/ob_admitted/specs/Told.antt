@@ -7,7 +7,9 @@ use Rattle.ob_base.specs.declared.params.Params.{Params}
 use Rattle.ob_store.specs.Disk.{Disk, Image}
 use Rattle.ob_store.specs.declared.event.Event.{Event}
 use Rattle.ob_store.specs.declared.watch.Note.{Note}
-use Rattle.ob_schedule.specs.Schedule.{Fills, record_notes}
+use Rattle.ob_base.specs.Layout.{EpochTwin}
+use Rattle.ob_schedule.specs.Schedule.{Fills, gate_cell, record_notes, set_twin}
+use Rattle.ob_twin.specs.Stages.{IsLackingIn}
 use Rattle.ob_seal.specs.declared.keys.Keys.{Keys}
 use Rattle.ob_recover.specs.Known.{gates_open}
 use Rattle.ob_recover.specs.Life.{WordId, LifeAct, LifeState, ShowLifts, formatted_life, life_slots, planned_labels, reached}
@@ -62,14 +64,18 @@ CallsLeaveAsNoted {V} {S} k disk = (runs : V → Running S) → HasRingWords k d
     × ((word_of : WordId → ℕ) (s : LifeState) (here : IsInLife p word_of (ring_hidden f) s) (tape : AreTapeWords word_of (ring_hidden f).generation (runs w).drawn) (m : Map nat_cmp) (is : IsRingMap keys p (disk (runs first).store) f m)
     → IsLeftAsNoted p q call c (length one.notes) ((goes word_of s here tape).left m is).made ((goes word_of s here tape).left m is).in_flight)
 
+-- the notes with which an end sets the epoch's register
+abbrev pub setting_row : Params → RingPublic → List Note
+setting_row p q = set_twin p EpochTwin ((q.known).epoch + 1) ((q.known).gates (gate_cell p EpochTwin ((q.known).epoch + 1)))
+
 -- So many notes were shown of a call that was cut off in its stage of this number, from 0. Of a batch: those of its record's body at most; all of
--- its record's but the last sync; all of the record's. Of an end: fewer than up to its register's gate; up to that.
+-- its record's but the last sync; all of the record's. Of an end: none of its register's set; and then of that so many lack as in a stage of a set.
 abbrev pub IsCountIn : Params → RingPublic → VaultCall → Fills → (stage : ℕ) → (count : ℕ) → Type 0
 IsCountIn p q (Fetch asks) c zero count = suc count < length (record_row p q)
 IsCountIn p q (Fetch asks) c (suc zero) count = suc count ≡ length (record_row p q)
 IsCountIn p q (Fetch asks) c (suc (suc stage)) count = length (record_row p q) ≤ count
-IsCountIn p q (End writes) c zero count = suc count < length (ring_notes p q Ends c)
-IsCountIn p q (End writes) c (suc stage) count = suc count ≡ length (ring_notes p q Ends c)
+IsCountIn p q (End writes) c zero count = length (setting_row p q) ≤ length (ring_notes p q Ends c) - count
+IsCountIn p q (End writes) c (suc stage) count = IsLackingIn stage (length (ring_notes p q Ends c) - count)
 
 -- a batch is left, and it asks for so many places
 abbrev pub MayBeCut : Params → RingPublic → VaultCall → Type 0

@@ -11,7 +11,11 @@ ghost use Rattle.ob_admitted.specs.Calls.{CallsAreTurns};
 ghost use Rattle.ob_admitted.specs.Cuts.{CutOpeningsShowHistories, CutRunsShowHistories};
 ghost use Rattle.ob_admitted.specs.Fills.{LivesHaveFills};
 ghost use Rattle.ob_admitted.specs.Fronts.{FrontsAreRuns};
-ghost use Rattle.ob_admitted.specs.Gates.{CallsLeaveGates, GatedRunsAreAdmitted};
+ghost use Rattle.ob_admitted.specs.Gates.{
+  CallsLeaveGates,
+  GatedRunsAreAdmitted,
+  StagesLeaveGates,
+};
 ghost use Rattle.ob_admitted.specs.Lives.{LivesAreAdmitted};
 ghost use Rattle.ob_admitted.specs.Notes.{CallsGoByFills};
 ghost use Rattle.ob_admitted.specs.Openings.{OpeningsAreRuns};
@@ -175,8 +179,22 @@ pub fn stages_leave_as_noted()
     ensures { StagesLeaveAsNoted }
 {}
 
+/// And which gates the next run finds behind a call that was cut off in a stage follows from those
+/// notes too: behind a batch those that were known, and behind an end as closing and opening leave
+/// them.
+pub fn stages_leave_gates<V: Vault, S: Store>()
+    ensures { StagesLeaveGates (kind_of V.Vault) (λ store. S.disk store) }
+{}
+
 /// So rows of runs that were cut off in stages, each left as a crash at a moment of the stage leaves it,
 /// are admitted too. Premise: as above.
 pub fn noted_stages_are_admitted<S: Store>()
     ensures { NotedRunsAreAdmitted (span (λ store. S.disk store)) }
+{}
+
+/// And with no premise on gates: rows of runs over a formatted store, whose gates are a format's, cut
+/// off in stages, are admitted, where each run left what its notes tell, and the gates as its calls
+/// and its stage say.
+pub fn gated_stages_are_admitted<S: Store>()
+    ensures { GatedRunsAreAdmitted (span (λ store. S.disk store)) }
 {}

@@ -8,3 +8,4 @@ pub mod Written
 pub mod Filling
 pub mod JobReads
 pub mod Rows
+pub mod RunParts

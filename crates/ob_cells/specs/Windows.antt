@@ -1,5 +1,5 @@
 -- Cells that were sealed and are not yet written.
-use Rattle.std.specs.Prelude.{◌≡◌, ◌≢◌, ◌<◌, ◌≤◌, ℕ, ◌+◌, ◌-◌, ◌*◌, ◌/◌, ◌%◌, ◌^◌, List, [], length, slice_index_or}
+use Rattle.std.specs.Prelude.{◌≡◌, ◌<◌, ◌≤◌, ℕ, ◌+◌, ◌-◌, ◌*◌, ◌^◌, List, [], length, min, slice_index_or}
 use Rattle.ob_seal.specs.declared.keys.Keys.{Keys}
 use Rattle.ob_seal.specs.Seals.{sealed}
 
@@ -31,12 +31,6 @@ AreRowsSealedAs keys base generation number plain many i old new = (length new �
 abbrev pub CanSealRows : ℕ → ℕ → ℕ → ℕ → List (List (List ℕ)) → Type 0
 CanSealRows base many i number rows = (i + 48 * length rows < many + 48) × ((i ≤ many) × ((base + many < 2 ^ 64) × (number + (many - i) ≤ 2 ^ 62)))
 
--- the slot of this number in rows of 48
-abbrev pub slot_in : List (List (List ℕ)) → ℕ → List ℕ
-slot_in rows j = slice_index_or (slice_index_or rows (j % 1536 / 48) []) (j % 48) []
-
--- The rows have the cells of a run from its i-th on that are in the same 1,536 as it, unless it is their first.
-abbrev pub IsWindowReady : Keys → ℕ → ℕ → ℕ → (ℕ → List ℕ) → ℕ → ℕ → List (List (List ℕ)) → Type 0
-IsWindowReady keys base generation first plain many i rows =
-    (j : ℕ) → i % 1536 ≢ 0 → i ≤ j → j < many → j / 1536 ≡ i / 1536
-    → IsSlotSealed keys (base + j) generation (first + j) (plain j) (slot_in rows j)
+-- how many of a run's cells from its i-th on are written while those behind them are sealed
+abbrev pub few_from : ℕ → ℕ → ℕ
+few_from many i = min (many - i) 768

@@ -13,6 +13,19 @@ use std::thread::{Threads, join_mut};
 // How many cells a row has.
 const ROW: u64 = 48;
 
+// How many rows the calling thread could seal in the time in which it starts the others and does
+// what else it has to.
+const LESS: usize = 3;
+
+// A run, a sealer of the generation that its cells are sealed in, and how many threads seal them at
+// most.
+#[derive(Clone, Copy)]
+pub(crate) struct Task<'a, P> {
+    pub(crate) sealer: &'a Sealer,
+    pub(crate) run: &'a CellRun<'a, P>,
+    pub(crate) threads: usize,
+}
+
 // Where a part of a run begins: at which of its cells, and the number that this is sealed under.
 #[derive(Clone, Copy)]
 pub(crate) struct Start {
@@ -60,72 +73,100 @@ fn behind(start: Start, rows: usize) -> Start
 }
 
 // Seals a run's cells from one on, as far as it and the rows go, by the calling thread alone.
-fn seal_in_turn<P: Pieces>(sealer: &Sealer, run: &CellRun<'_, P>, start: Start, rows: &mut [Row])
-    requires can { CanSealRows run.now.base run.now.many start.cell start.number rows.old }
-    ensures { AreRowsSealedAs sealer.now.keys run.now.base sealer.now.generation start.number
-        (P.plain run.now.pieces.now) run.now.many start.cell rows.old rows.new }
+fn seal_in_turn<P: Pieces>(task: &Task<'_, P>, start: Start, rows: &mut [Row])
+    requires can { CanSealRows task.now.run.now.base task.now.run.now.many start.cell start.number
+        rows.old }
+    ensures { AreRowsSealedAs task.now.sealer.now.keys task.now.run.now.base
+        task.now.sealer.now.generation start.number (P.plain task.now.run.now.pieces.now)
+        task.now.run.now.many start.cell rows.old rows.new }
 {
     for k in 0..rows.len() {
-        seal_row(sealer, run, behind(start, k), &mut rows[k]);
+        seal_row(task.sealer, task.run, behind(start, k), &mut rows[k]);
     }
 }
 
-// The same by so many threads.
+// How many of the rows another thread than the calling one seals, of so many threads.
+fn share_of(rows: usize, threads: usize) -> usize
+    requires rows { 1 ≤ rows }
+    requires threads { 1 ≤ threads }
+    ensures { result < rows }
+{
+    (rows.saturating_add(LESS) / threads).min(rows - 1)
+}
+
+// The same by so many threads, the calling one among them: it starts the others, then does what
+// else there is to do, and then seals its own share.
 #[cycle(threads)]
-pub(crate) fn seal_rows<R: Threads + Sync, P: Pieces + Sync>(
+pub(crate) fn seal_rows<R: Threads + Sync, P: Pieces + Sync, F: FnMut() -> A, A>(
     rt: &R,
-    sealer: &Sealer,
-    run: &CellRun<'_, P>,
+    task: &Task<'_, P>,
     start: Start,
     rows: &mut [Row],
     threads: usize,
-)
-    requires can { CanSealRows run.now.base run.now.many start.cell start.number rows.old }
-    ensures { AreRowsSealedAs sealer.now.keys run.now.base sealer.now.generation start.number
-        (P.plain run.now.pieces.now) run.now.many start.cell rows.old rows.new }
+    meanwhile: &mut F,
+) -> A
+    requires can { CanSealRows task.now.run.now.base task.now.run.now.many start.cell start.number
+        rows.old }
+    requires meanwhile { F.pre meanwhile.old }
+    ensures sealed { AreRowsSealedAs task.now.sealer.now.keys task.now.run.now.base
+        task.now.sealer.now.generation start.number (P.plain task.now.run.now.pieces.now)
+        task.now.run.now.many start.cell rows.old rows.new }
+    ensures done { F.step meanwhile.old result meanwhile.new }
 {
     if threads < 2 || rows.is_empty() {
-        seal_in_turn(sealer, run, start, rows);
-        return;
+        let done = meanwhile();
+        seal_in_turn(task, start, rows);
+        return done;
     }
-    let few = rows.len() / threads;
+    let few = share_of(rows.len(), threads);
     let next = behind(start, few);
     let (apart, rest) = rows.split_at_mut(few);
-    seal_apart(rt, sealer, run, start, next, apart, rest, threads - 1);
+    seal_apart(rt, task, start, next, apart, rest, threads - 1, meanwhile)
 }
 
 // Some rows in a thread of their own, and the others from the calling thread on: that starts all
 // threads, one behind the other, so that none waits until another one runs.
 #[cycle(threads)]
-fn seal_apart<R: Threads + Sync, P: Pieces + Sync>(
+fn seal_apart<R: Threads + Sync, P: Pieces + Sync, F: FnMut() -> A, A>(
     rt: &R,
-    sealer: &Sealer,
-    run: &CellRun<'_, P>,
+    task: &Task<'_, P>,
     start: Start,
     next: Start,
     apart: &mut [Row],
     rest: &mut [Row],
     threads: usize,
-)
-    requires apart { CanSealRows run.now.base run.now.many start.cell start.number apart.old }
-    requires rest { CanSealRows run.now.base run.now.many next.cell next.number rest.old }
-    ensures apart { AreRowsSealedAs sealer.now.keys run.now.base sealer.now.generation start.number
-        (P.plain run.now.pieces.now) run.now.many start.cell apart.old apart.new }
-    ensures rest { AreRowsSealedAs sealer.now.keys run.now.base sealer.now.generation next.number
-        (P.plain run.now.pieces.now) run.now.many next.cell rest.old rest.new }
+    meanwhile: &mut F,
+) -> A
+    requires apart { CanSealRows task.now.run.now.base task.now.run.now.many start.cell start.number
+        apart.old }
+    requires rest { CanSealRows task.now.run.now.base task.now.run.now.many next.cell next.number
+        rest.old }
+    requires meanwhile { F.pre meanwhile.old }
+    ensures apart { AreRowsSealedAs task.now.sealer.now.keys task.now.run.now.base
+        task.now.sealer.now.generation start.number (P.plain task.now.run.now.pieces.now)
+        task.now.run.now.many start.cell apart.old apart.new }
+    ensures rest { AreRowsSealedAs task.now.sealer.now.keys task.now.run.now.base
+        task.now.sealer.now.generation next.number (P.plain task.now.run.now.pieces.now)
+        task.now.run.now.many next.cell rest.old rest.new }
+    ensures done { F.step meanwhile.old result meanwhile.new }
 {
     let mut there = ||
-        requires { CanSealRows run.now.base run.now.many start.cell start.number apart.now }
-        ensures { AreRowsSealedAs sealer.entry.now.keys run.entry.now.base
-            sealer.entry.now.generation start.number (P.plain run.entry.now.pieces.now)
-            run.entry.now.many start.cell apart.entry.now apart.exit.now }
-    { seal_in_turn(sealer, run, start, apart) };
-    let mut here = ||
+        requires { CanSealRows task.now.run.now.base task.now.run.now.many start.cell start.number
+            apart.now }
+        ensures { AreRowsSealedAs task.entry.now.sealer.now.keys task.entry.now.run.now.base
+            task.entry.now.sealer.now.generation start.number
+            (P.plain task.entry.now.run.now.pieces.now) task.entry.now.run.now.many start.cell
+            apart.entry.now apart.exit.now }
+    { seal_in_turn(task, start, apart) };
+    let mut here = || -> A
         requires { IsSync R.row × IsSync P.row
-            × CanSealRows run.now.base run.now.many next.cell next.number rest.now }
-        ensures { AreRowsSealedAs sealer.entry.now.keys run.entry.now.base
-            sealer.entry.now.generation next.number (P.plain run.entry.now.pieces.now)
-            run.entry.now.many next.cell rest.entry.now rest.exit.now }
-    { seal_rows(rt, sealer, run, next, rest, threads) };
-    join_mut(rt, &mut there, &mut here);
+            × (CanSealRows task.now.run.now.base task.now.run.now.many next.cell next.number
+            rest.now × F.pre meanwhile.now) }
+        ensures { AreRowsSealedAs task.entry.now.sealer.now.keys task.entry.now.run.now.base
+            task.entry.now.sealer.now.generation next.number
+            (P.plain task.entry.now.run.now.pieces.now) task.entry.now.run.now.many next.cell
+            rest.entry.now rest.exit.now
+            × F.step meanwhile.entry.now result meanwhile.exit.now }
+    { seal_rows(rt, task, next, rest, threads, meanwhile) };
+    join_mut(rt, &mut there, &mut here).1
 }

@@ -155,7 +155,7 @@ fn is_same_by_threads<R: Abort + Threads + Sync>(
 fn is_so_refused<R: Abort + Threads + Sync>(rt: &R, alloc: Global, cut: &Cut<'_>, many: u64) -> bool
     requires { (1 ≤ many) × (many ≤ 3000) }
 {
-    for &at in &[0, 63, 1023, 1024, 1535, 1536] {
+    for &at in &[0, 63, 767, 768, 1023, 1024, 1535, 1536] {
         if at < many - 1 && !is_same_by_threads(rt, alloc, cut, many, &[Fail::Write(at)]) {
             return false;
         }
@@ -163,7 +163,7 @@ fn is_so_refused<R: Abort + Threads + Sync>(rt: &R, alloc: Global, cut: &Cut<'_>
     is_same_by_threads(rt, alloc, cut, many, &[Fail::Write(many - 1)])
 }
 
-const MANY: &[u64] = &[1, 63, 64, 1024, 1025, 1536, 1537, 3000];
+const MANY: &[u64] = &[1, 63, 64, 768, 769, 1024, 1025, 1536, 1537, 3000];
 
 // Whether runs of so many cells leave the same by threads, where no write fails, or where one does.
 fn are_same<R: Abort + Threads + Sync>(rt: &R, alloc: Global, refused: bool) -> bool {

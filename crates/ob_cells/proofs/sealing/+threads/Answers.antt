@@ -1,15 +1,15 @@
-use Rattle.std.proofs.Common.{◌≡◌, ◌+◌, ◌*◌, ◌/◌, ◌∙◌, ℕ, length, arith, subst, length-append}
+use Rattle.std.proofs.Common.{◌≡◌, ◌+◌, ◌*◌, ◌∙◌, ℕ, length, arith, subst, length-append}
 use Rattle.ob_cells.specs.Windows.{AreRowsSealed}
 use Rattle.ob_cells.proofs.Rows.{rows_joined}
 use Rattle.ob_cells.proofs.sealing.+threads.Goals as goal
 
-pub seal_rows-returns : goal.seal_rows-returns
-seal_rows-returns g t c =
-    let s = c.args.sealer.now in
-    let run = c.args.run.now in
+pub seal_rows-returns-clause-sealed : goal.seal_rows-returns-clause-sealed
+seal_rows-returns-clause-sealed g t c =
+    let s = c.args.task.now.sealer.now in
+    let run = c.args.task.now.run.now in
     let start = c.args.start in
     let next = c.behind-next.result in
-    let few = length c.args.rows.now / c.args.threads in
+    let few = c.share_of-few.result in
     let plain = g.P.Pieces.plain run.pieces.now in
     let xs = c.seal_apart.new.apart in
     let ys = c.seal_apart.new.rest in

@@ -48,7 +48,6 @@ close_epoch-requires-clause-epoch g c κs inside =
     let run1 : Run = record run { spent = true } in
     let mid = c.make_end.new.run in
     let old = g.S.Store.disk c.args.store.now in
-    let mids = g.S.Store.disk c.make_end.new.store in
     let words = words_since (g.T.Tape.drawn c.args.tape.now) (g.T.Tape.drawn c.make_end.new.tape) in
     let kept = c.make_end.ensures.kept in
     let writes = c.args.writes.now in
@@ -67,7 +66,6 @@ close_epoch-requires-clause-room g c κs inside =
     let run1 : Run = record run { spent = true } in
     let mid = c.make_end.new.run in
     let old = g.S.Store.disk c.args.store.now in
-    let mids = g.S.Store.disk c.make_end.new.store in
     let words = words_since (g.T.Tape.drawn c.args.tape.now) (g.T.Tape.drawn c.make_end.new.tape) in
     let kept = c.make_end.ensures.kept in
     let writes = c.args.writes.now in
@@ -84,7 +82,6 @@ close_epoch-requires-clause-sealed g c κs inside =
     let run1 : Run = record run { spent = true } in
     let mid = c.make_end.new.run in
     let old = g.S.Store.disk c.args.store.now in
-    let mids = g.S.Store.disk c.make_end.new.store in
     let words = words_since (g.T.Tape.drawn c.args.tape.now) (g.T.Tape.drawn c.make_end.new.tape) in
     let kept = c.make_end.ensures.kept in
     let writes = c.args.writes.now in
@@ -101,7 +98,6 @@ close_epoch-requires-clause-obeys g c κs inside =
     let run1 : Run = record run { spent = true } in
     let mid = c.make_end.new.run in
     let old = g.S.Store.disk c.args.store.now in
-    let mids = g.S.Store.disk c.make_end.new.store in
     let words = words_since (g.T.Tape.drawn c.args.tape.now) (g.T.Tape.drawn c.make_end.new.tape) in
     let kept = c.make_end.ensures.kept in
     let writes = c.args.writes.now in
@@ -114,12 +110,9 @@ close_epoch-requires-clause-obeys g c κs inside =
 
 pub close_epoch-requires-clause-told : goal.close_epoch-requires-clause-told
 close_epoch-requires-clause-told g c κs inside =
-    let run = c.args.run.now in
-    let run1 : Run = record run { spent = true } in
     let mid = c.make_end.new.run in
     let old = g.S.Store.disk c.args.store.now in
     let mids = g.S.Store.disk c.make_end.new.store in
-    let words = words_since (g.T.Tape.drawn c.args.tape.now) (g.T.Tape.drawn c.make_end.new.tape) in
     let kept = c.make_end.ensures.kept in
     λ told.
     let before = c.in-Ok.ensures.serves.goes.told told in
@@ -128,12 +121,7 @@ close_epoch-requires-clause-told g c κs inside =
 pub returns-in-Err-clause-does : goal.returns-in-Err-clause-does
 returns-in-Err-clause-does g c = λ start t seals stands.
     let run = c.args.run.now in
-    let run1 : Run = record run { spent = true } in
     let mid = c.make_end.new.run in
-    let old = g.S.Store.disk c.args.store.now in
-    let mids = g.S.Store.disk c.make_end.new.store in
-    let words = words_since (g.T.Tape.drawn c.args.tape.now) (g.T.Tape.drawn c.make_end.new.tape) in
-    let kept = c.make_end.ensures.kept in
     let notes = end_write_notes mid.ring (suc run.epoch) in
     does_made c.args.crew.now.lanes (lift_cells run.params start.versions t) (lift_notes run.params start.versions t) notes (is_closed_first run.gates.epoch (place_of (suc run.epoch))) (suc run.epoch) _ _ _ _ c.in-Err.fault
     (c.in-Err.ensures.told start t seals stands)
@@ -144,12 +132,10 @@ returns-in-Err-clause-stands g c = λ s was. tt
 pub returns-in-Err-clause-images : goal.returns-in-Err-clause-images
 returns-in-Err-clause-images g c = λ s was.
     let run = c.args.run.now in
-    let run1 : Run = record run { spent = true } in
     let mid = c.make_end.new.run in
     let old = g.S.Store.disk c.args.store.now in
     let mids = g.S.Store.disk c.make_end.new.store in
     let words = words_since (g.T.Tape.drawn c.args.tape.now) (g.T.Tape.drawn c.make_end.new.tape) in
-    let kept = c.make_end.ensures.kept in
     let ws = end_writes run.params c.args.writes.now words run.sealer.generation run.drawn in
     let leaves = read_leaves run.sealer.keys run.params s old mids (g.met.S.Store.only_now c.args.store.now) was.settled was.stands c.make_end.ensures.passes in
     moments_before g.S.Store.disk c.args.crew.now.lanes s ws run mid c.args.store.now c.make_end.new.store c.make_end.new.store c.in-Err.fault leaves
@@ -157,13 +143,9 @@ returns-in-Err-clause-images g c = λ s was.
 
 pub returns-in-Err-close_epoch-clause-serves : goal.returns-in-Err-close_epoch-clause-serves
 returns-in-Err-close_epoch-clause-serves g c =
-    let run = c.args.run.now in
-    let run1 : Run = record run { spent = true } in
     let mid = c.make_end.new.run in
     let old = g.S.Store.disk c.args.store.now in
     let mids = g.S.Store.disk c.make_end.new.store in
-    let words = words_since (g.T.Tape.drawn c.args.tape.now) (g.T.Tape.drawn c.make_end.new.tape) in
-    let kept = c.make_end.ensures.kept in
     let new = g.S.Store.disk c.close_epoch.new.store in
     subst (λ (e : EndErr). Serves {T = Unit {0}} {E = EndErr} IsStoreEnd old new (Err e)) (sym c.end_err.ensures)
     (serves_closed old mids new (mid.epoch + 1) c.in-Err-close_epoch.refused c.in-Ok.ensures.serves c.in-Err-close_epoch.ensures.serves c.in-Err-close_epoch.ensures.faults)
@@ -174,7 +156,6 @@ returns-in-Err-close_epoch-clause-seals g c = λ t stands.
     let run1 : Run = record run { spent = true } in
     let mid = c.make_end.new.run in
     let old = g.S.Store.disk c.args.store.now in
-    let mids = g.S.Store.disk c.make_end.new.store in
     let words = words_since (g.T.Tape.drawn c.args.tape.now) (g.T.Tape.drawn c.make_end.new.tape) in
     let kept = c.make_end.ensures.kept in
     let writes = c.args.writes.now in
@@ -190,11 +171,8 @@ returns-in-Err-close_epoch-clause-seals g c = λ t stands.
 pub returns-in-Err-close_epoch-clause-does : goal.returns-in-Err-close_epoch-clause-does
 returns-in-Err-close_epoch-clause-does g c = λ start t seals stands.
     let run = c.args.run.now in
-    let run1 : Run = record run { spent = true } in
     let mid = c.make_end.new.run in
     let old = g.S.Store.disk c.args.store.now in
-    let mids = g.S.Store.disk c.make_end.new.store in
-    let words = words_since (g.T.Tape.drawn c.args.tape.now) (g.T.Tape.drawn c.make_end.new.tape) in
     let kept = c.make_end.ensures.kept in
     let new = g.S.Store.disk c.close_epoch.new.store in
     let last = c.close_epoch.new.ring in
@@ -265,13 +243,9 @@ returns-in-Err-close_epoch-clause-images g c = λ s was.
 
 pub returns-clause-serves : goal.returns-clause-serves
 returns-clause-serves g c =
-    let run = c.args.run.now in
-    let run1 : Run = record run { spent = true } in
     let mid = c.make_end.new.run in
     let old = g.S.Store.disk c.args.store.now in
     let mids = g.S.Store.disk c.make_end.new.store in
-    let words = words_since (g.T.Tape.drawn c.args.tape.now) (g.T.Tape.drawn c.make_end.new.tape) in
-    let kept = c.make_end.ensures.kept in
     let new = g.S.Store.disk c.close_epoch.new.store in
     serves_ended old mids new (mid.epoch + 1) c.in-Ok.ensures.serves c.in-Ok-close_epoch.ensures.serves
 
@@ -281,7 +255,6 @@ returns-clause-seals g c = λ t stands.
     let run1 : Run = record run { spent = true } in
     let mid = c.make_end.new.run in
     let old = g.S.Store.disk c.args.store.now in
-    let mids = g.S.Store.disk c.make_end.new.store in
     let words = words_since (g.T.Tape.drawn c.args.tape.now) (g.T.Tape.drawn c.make_end.new.tape) in
     let kept = c.make_end.ensures.kept in
     let writes = c.args.writes.now in
@@ -295,29 +268,16 @@ returns-clause-seals g c = λ t stands.
 
 pub returns-clause-durable : goal.returns-clause-durable
 returns-clause-durable g c =
-    let run = c.args.run.now in
-    let run1 : Run = record run { spent = true } in
-    let mid = c.make_end.new.run in
-    let old = g.S.Store.disk c.args.store.now in
-    let mids = g.S.Store.disk c.make_end.new.store in
-    let words = words_since (g.T.Tape.drawn c.args.tape.now) (g.T.Tape.drawn c.make_end.new.tape) in
-    let kept = c.make_end.ensures.kept in
     λ tells. c.in-Ok-close_epoch.ensures.durable (c.make_end.ensures.keeps.tells tells)
 
 pub returns-clause-does : goal.returns-clause-does
 returns-clause-does g c = λ start t seals stands.
     let run = c.args.run.now in
-    let run1 : Run = record run { spent = true } in
     let mid = c.make_end.new.run in
-    let old = g.S.Store.disk c.args.store.now in
     let mids = g.S.Store.disk c.make_end.new.store in
-    let words = words_since (g.T.Tape.drawn c.args.tape.now) (g.T.Tape.drawn c.make_end.new.tape) in
     let kept = c.make_end.ensures.kept in
-    let new = g.S.Store.disk c.close_epoch.new.store in
     let last = c.close_epoch.new.ring in
     let stash = c.close_epoch.ensures.kept in
-    let cells = lift_cells run.params start.versions t in
-    let notes = lift_notes run.params start.versions t in
     let closes = is_closed_first run.gates.epoch (place_of (suc run.epoch)) in
     let one : mid.epoch + 1 ≡ suc run.epoch = (let same : mid.epoch ≡ run.epoch = ap (λ (m : Run). m.epoch) kept in omega (arith, same)) in
     let same_closes : is_closed_first mid.gates.epoch (place_of (mid.epoch + 1)) ≡ closes = ap (λ (m : Run). is_closed_first m.gates.epoch (place_of (m.epoch + 1))) kept ∙ ap (λ n. is_closed_first run.gates.epoch (place_of n)) (one_more run.epoch) in
@@ -334,7 +294,6 @@ returns-clause-ready g c =
     let run1 : Run = record run { spent = true } in
     let mid = c.make_end.new.run in
     let old = g.S.Store.disk c.args.store.now in
-    let mids = g.S.Store.disk c.make_end.new.store in
     let words = words_since (g.T.Tape.drawn c.args.tape.now) (g.T.Tape.drawn c.make_end.new.tape) in
     let kept = c.make_end.ensures.kept in
     let writes = c.args.writes.now in
@@ -456,12 +415,8 @@ returns-clause-draws g c = λ t stands. c.in-Ok.ensures.draws t stands
 pub returns-in-Err-clause-scheduled : goal.returns-in-Err-clause-scheduled
 returns-in-Err-clause-scheduled g c =
     let run = c.args.run.now in
-    let run1 : Run = record run { spent = true } in
-    let mid = c.make_end.new.run in
     let old = g.S.Store.disk c.args.store.now in
     let mids = g.S.Store.disk c.make_end.new.store in
-    let words = words_since (g.T.Tape.drawn c.args.tape.now) (g.T.Tape.drawn c.make_end.new.tape) in
-    let kept = c.make_end.ensures.kept in
     let fit = c.requires.ready.planner in
     let jobs = lift_jobs run.params run.ring.metas.versions fit.table in
     let cells = lift_cells run.params run.ring.metas.versions fit.table in
@@ -567,7 +522,6 @@ returns-clause-onward g c = λ kept_content rs from.
     let run1 : Run = record run { spent = true } in
     let mid = c.make_end.new.run in
     let old = g.S.Store.disk c.args.store.now in
-    let mids = g.S.Store.disk c.make_end.new.store in
     let words = words_since (g.T.Tape.drawn c.args.tape.now) (g.T.Tape.drawn c.make_end.new.tape) in
     let kept = c.make_end.ensures.kept in
     let writes = c.args.writes.now in
