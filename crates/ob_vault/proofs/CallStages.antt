@@ -1,14 +1,14 @@
 -- A call comes in stages, in each life that is there.
 use Rattle.std.specs.Prelude.{◌≡◌, ℕ, suc, ◌+◌, ◌<◌, ◌≤◌, ◌^◌, List, [], ◌∷◌, map, length, Option, Some, None, Ok, Err}
 use Rattle.std.specs.Ordering.{nat_cmp}
-use Rattle.std.proofs.Common.{arith, false, refl, sym, true, ap, subst, Bool, inl, inr, ⊎_elim}
+use Rattle.std.proofs.Common.{false, refl, sym, true, ap, subst, Bool, inl, inr, ⊎_elim}
 use Rattle.std.proofs.lemmas.Bool.{cases_lt, false≢true}
 use Rattle.ob_base.specs.declared.fault.Fault.{Fault}
 use Rattle.ob_base.specs.declared.fault.Fault.TheVariants as fault
 use Rattle.ob_base.specs.declared.params.Params.{Params}
 use Rattle.ob_base.specs.declared.value.Write.{Write}
 use Rattle.ob_end.specs.EndRuns.{AreEntriesWritten, IsAtContent, MayEndEpoch, TakeBucketWords, standing_at_end, table_ended, words_for_end}
-use Rattle.ob_end.specs.Moments.{AreMadeBut, IsEndInStages, IsEndMadeButSet, end_setting}
+use Rattle.ob_end.specs.Moments.{IsEndInStages, IsEndMadeButSet}
 use Rattle.ob_fetch.specs.Fetches.{DrawsWords, FetchStages, IsFetchInStages, words_since}
 use Rattle.ob_fetch.specs.declared.run.Run.{Run}
 use Rattle.ob_log.specs.Appends.{append_notes}
@@ -16,15 +16,14 @@ use Rattle.ob_log.specs.Logs.{BatchRecord}
 use Rattle.ob_opening.specs.OpeningActs.{IsLeftAt, StandsInLife}
 use Rattle.ob_recover.specs.Calls.{Ended as EndOf, Fetched, LifeCall}
 use Rattle.ob_recover.specs.Life.{Append, End as EndAct, IsActAllowed, LifeAct, LifeBatch, LifeState, ShowBatch, ShowLifts, WordId}
-use Rattle.ob_recover.specs.Known.{fills_with_lifts, public_of_kept, slot_kept}
+use Rattle.ob_recover.specs.Known.{slot_kept}
 use Rattle.ob_recover.specs.Lives.{life_batch}
 use Rattle.ob_fetch.proofs.NextLaws.{stands_listed}
 use Rattle.ob_ring.specs.FlatTable.{FlatTable}
 use Rattle.ob_ring.specs.Ring.{StandsFor}
 use Rattle.ob_stand.specs.Table.{flat_of}
 use Rattle.ob_recover.specs.Repeats.{content_of_ring, table_after_records}
-use Rattle.ob_schedule.specs.Phases.{Phase, end_phases}
-use Rattle.ob_schedule.specs.Schedule.{Fills, Public}
+use Rattle.ob_schedule.specs.Schedule.{Fills}
 use Rattle.ob_seal.specs.declared.keys.Keys.{Keys}
 use Rattle.ob_serial.specs.Serial.{Map}
 use Rattle.ob_serial.specs.VaultKinds.{Called, Kind}
@@ -39,7 +38,6 @@ use Rattle.ob_store.specs.Told.{events_of}
 use Rattle.ob_store.specs.declared.watch.Note.{Note}
 use Rattle.ob_tables.specs.declared.entry.Entry.{Entry}
 use Rattle.ob_twin.specs.Opening.{is_closed_first}
-use Rattle.ob_twin.specs.Orders.{set_notes}
 use Rattle.ob_twin.specs.Register.{place_of}
 use Rattle.ob_twin.specs.Stages.{AreSpans}
 use Rattle.ob_vault.proofs.Calling as calling
@@ -55,8 +53,8 @@ use Rattle.ob_vault.specs.KindShown.{AreDrawn}
 use Rattle.ob_vault.specs.RingKind.{IsRingMap, RingFound, ring_hidden, ring_kind}
 use Rattle.ob_vault.specs.RingSteps.{HasRingWords, RingAt, RunIsAtHidden}
 use Rattle.ob_vault.specs.RingVaults.{EndCalled, FetchCalled, RingCalled, Running, record_of_fetch, write_from, writes_of_end}
-use Rattle.ob_vault.specs.Seen.{RingPublic, ring_phases}
-use Rattle.ob_vault.specs.Shapes.{Ends, Shape}
+use Rattle.ob_vault.specs.Seen.{RingPublic}
+use Rattle.ob_vault.specs.Shapes.{Shape}
 use Rattle.ob_vault.specs.Shown.{AreFilledBy, IsInLife}
 use Rattle.ob_vault.specs.Spans.{IsCutIn}
 use Rattle.ob_vault.specs.Staged.{CallsComeInStages, IsCallStaged, IsCalledFirst}
@@ -227,11 +225,7 @@ module _ {V S : Type 0} (k : Kind V) (disk : S → Disk) (runs : V → Running S
     set_called : (x : S) → IsEndMadeButSet (runs v).lanes run (disk (runs v).store).seen (disk x).seen → IsCalledFirst most p q h (End ws) (disk (runs v).store).seen (disk x).seen
     set_called x made = (
       is_closed_first (run.gates).epoch (place_of (suc run.epoch)),
-      subst (λ (n : ℕ). AreMadeBut (set_notes (is_closed_first (run.gates).epoch (place_of (suc run.epoch))) 5 n) most (ring_phases p q Ends (fills_with_lifts p h.content h.records)) (disk (runs v).store).seen (disk x).seen)
-          (let same = ap (λ (y : Public). y.epoch) at.known in omega (arith, same))
-          (subst (λ (l : List Phase). AreMadeBut (end_setting run) most l (disk (runs v).store).seen (disk x).seen) (calling.end_is k disk runs words keys most p f opened q h [] n v w at)
-          (subst (λ (n : ℕ). AreMadeBut (end_setting run) n (end_phases run.params (public_of_kept run.params h.content h.records run.epoch run.gates) (fills_with_lifts run.params h.content h.records)) (disk (runs v).store).seen (disk x).seen) at.lanes
-          (made h.content h.records at.planned))),
+      spanning.named_made k disk runs words counts_now only_now keys most p f opened calls steps q h n v drawn at m is_map ws answer w one none 0 (disk (runs v).store).seen (disk x).seen (made h.content h.records at.planned),
     )
 
     -- its acts fill its holes

@@ -49,3 +49,4 @@ pub mod Formatted
 pub mod SealCounts
 pub mod Given
 pub mod Registers
+pub mod SetParts

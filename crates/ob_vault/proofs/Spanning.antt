@@ -1,5 +1,5 @@
 -- A run that is cut off in a stage of a call goes on with its life.
-use Rattle.std.specs.Prelude.{◌≡◌, ◌⊎◌, ℕ, zero, suc, ◌+◌, ◌%◌, ◌<◌, ◌≤◌, ◌^◌, List, [], ◌∷◌, ◌++◌, map, length, Option, Some, None, Result, Ok, Err}
+use Rattle.std.specs.Prelude.{◌≡◌, ◌⊎◌, Bool, ℕ, zero, suc, ◌+◌, ◌%◌, ◌<◌, ◌≤◌, ◌^◌, List, [], ◌∷◌, ◌++◌, map, length, Option, Some, None, Result, Ok, Err}
 use Rattle.std.specs.Ordering.{nat_cmp}
 use Rattle.std.proofs.Common.{arith, refl, sym, ap, subst, ◌∙◌, inl, inr, ⊎_elim}
 use Rattle.std.proofs.lemmas.Bool.{cases_lt}
@@ -11,24 +11,27 @@ use Rattle.ob_base.specs.declared.value.Write.{Write}
 use Rattle.ob_end.specs.EndRuns.{AreEntriesWritten, IsAtContent, MayEndEpoch, TakeBucketWords, standing_at_end, table_ended, words_for_end}
 use Rattle.ob_end.proofs.Spans.{spans_so}
 use Rattle.ob_end.specs.EndWrites.{SameFirst}
-use Rattle.ob_end.specs.Moments.{EndSpans, IsEndMadeButSet}
+use Rattle.ob_end.proofs.Rows.{before_end}
+use Rattle.ob_end.specs.Moments.{AreMadeBut, EndSpans, IsEndMadeButSet}
+use Rattle.ob_end.specs.Shown.{before_gate}
 use Rattle.ob_end.specs.Stages.{EndStagesSet, IsEndSetStage, IsEndSpanned}
 use Rattle.ob_fetch.specs.Fetches.{AreFirstMade, DrawsWords, FetchStages, IsFetchInStages, IsRecordInStages, KeepsFirst, words_since}
-use Rattle.ob_log.specs.Appends.{body_notes}
+use Rattle.ob_base.specs.Layout.{log_gate}
+use Rattle.ob_log.specs.Appends.{append_notes, body_notes}
 use Rattle.ob_fetch.specs.declared.run.Run.{Run}
 use Rattle.ob_fresh.specs.Drawn.{DrawInTurn, WordsKept}
 use Rattle.ob_log.specs.Logs.{BatchRecord}
 use Rattle.ob_opening.specs.OpeningActs.{IsLeftAt}
 use Rattle.ob_recover.specs.Life.{Append, End as EndAct, IsLife, LifeAct, LifeBatch, LifeState, ShowBatch, ShowLifts, WordId, reached}
-use Rattle.ob_recover.specs.Known.{slot_kept}
+use Rattle.ob_recover.specs.Known.{fills_with_lifts, public_of_kept, slot_kept}
 use Rattle.ob_recover.specs.Lives.{life_batch}
 use Rattle.ob_fetch.proofs.NextLaws.{stands_listed}
 use Rattle.ob_ring.specs.FlatTable.{FlatTable}
 use Rattle.ob_ring.specs.Ring.{StandsFor}
 use Rattle.ob_stand.specs.Table.{flat_of}
 use Rattle.ob_recover.specs.Repeats.{content_of_ring, table_after_records}
-use Rattle.ob_schedule.specs.Phases.{phases_of}
-use Rattle.ob_schedule.specs.Schedule.{Fills, record_notes}
+use Rattle.ob_schedule.specs.Phases.{Phase, end_phases, phases_of}
+use Rattle.ob_schedule.specs.Schedule.{Fills, Public, record_notes}
 use Rattle.ob_seal.specs.declared.keys.Keys.{Keys}
 use Rattle.ob_serial.specs.Serial.{Map}
 use Rattle.ob_serial.specs.VaultKinds.{Called, Kind}
@@ -36,7 +39,11 @@ use Rattle.ob_serial.specs.Vaults.{DoubtBy, End, Ended, Fetch, RefusedBy, Values
 use Rattle.ob_serial.specs.declared.vault.EndErr.{EndErr}
 use Rattle.ob_serial.specs.declared.vault.EndErr.TheVariants as end
 use Rattle.ob_stand.specs.Stands.{OneOf, RingStanding, Stands, with_record}
+use Rattle.ob_store.proofs.Events.{none_noted}
 use Rattle.ob_store.proofs.Moments.{no_later}
+use Rattle.ob_store.specs.Calls.{Notes}
+use Rattle.ob_store.specs.Told.{events_of}
+use Rattle.ob_store.specs.declared.watch.Note.TheVariants as note
 use Rattle.ob_store.specs.Disk.{Clock, Disk, Image, NotAfter}
 use Rattle.ob_store.specs.Images.{LeavesOnly}
 use Rattle.ob_store.specs.declared.event.Event.{Event}
@@ -45,10 +52,12 @@ use Rattle.ob_tables.specs.declared.entry.Entry.{Entry}
 use Rattle.ob_twin.specs.Keyed.{tagging}
 use Rattle.ob_twin.specs.Opening.{is_closed_first}
 use Rattle.ob_twin.specs.Register.{place_of}
-use Rattle.ob_twin.specs.Stages.{AreSpans}
+use Rattle.ob_twin.specs.Stages.{AreSpans, made_before}
 use Rattle.ob_twin.specs.Stops.{IsRegisterLeft}
 use Rattle.ob_vault.proofs.Cutting.{filled_batch, filled_end}
 use Rattle.ob_vault.proofs.DrawnChains.{drawn_shown}
+use Rattle.ob_vault.proofs.Calling as calling
+use Rattle.ob_vault.proofs.SetParts.{made_further}
 use Rattle.ob_vault.proofs.Ending as ending
 use Rattle.ob_vault.proofs.Fetching as fetching
 use Rattle.ob_vault.proofs.Joining.{runs_are_one_life}
@@ -61,10 +70,10 @@ use Rattle.ob_vault.specs.Lives.{AreFirstActs, IsCutInLife, IsLeftInLife, IsShow
 use Rattle.ob_vault.specs.RingKind.{IsRingMap, RingFound, ring_hidden, ring_kind}
 use Rattle.ob_vault.specs.RingSteps.{HasRingWords, RingAt, RunIsAtHidden}
 use Rattle.ob_vault.specs.RingVaults.{EndCalled, FetchCalled, KeepsRun, RingCalled, Running, record_of_fetch, write_from, writes_of_end}
-use Rattle.ob_vault.specs.Seen.{RingPublic}
-use Rattle.ob_vault.specs.Shapes.{Shape}
+use Rattle.ob_vault.specs.Seen.{RingPublic, ring_phases}
+use Rattle.ob_vault.specs.Shapes.{Ends, Shape}
 use Rattle.ob_vault.specs.Shown.{AreFilledBy, AreOfLife, IsInLife}
-use Rattle.ob_vault.specs.Spans.{AreRegistersIn, IsCutIn, IsMadeIn, IsSeenIn, RowsOfStages, RunsStopInStages, StopsIn, span}
+use Rattle.ob_vault.specs.Spans.{AreRegistersIn, IsCalledBefore, IsCutIn, IsMadeIn, IsSeenIn, RowsOfStages, RunsStopInStages, StopsIn, set_from, span}
 use Rattle.ob_vault.specs.Stages.{IsStage, StageActs}
 
 -- stages whose numbers begin with one more
@@ -153,8 +162,11 @@ module _ {V S : Type 0} (k : Kind V) (disk : S → Disk) (runs : V → Running S
     abbrev Left : ℕ → S × S → Type 0
     Left stage x = (image : Image) → (span disk x).may_leave image → AreRegistersIn keys h.epoch (disk (runs v).store).cells call stage image
 
-    cut_in : (stage : ℕ) (x : S × S) → Left stage x → ((seen : List Event) → IsSeenIn most p q call stage seen → IsThere stage x seen) → IsCut stage x
-    cut_in stage x left each = record { stops = λ seen may. goes stage x seen (each seen may); registers = left }
+    abbrev Before : ℕ → S → Type 0
+    Before stage a = IsCalledBefore most p q h call stage (disk (runs v).store).seen (disk a).seen
+
+    cut_in : (stage : ℕ) (x : S × S) → Left stage x → Before stage x.0 → ((seen : List Event) → IsSeenIn most p q call stage seen → IsThere stage x seen) → IsCut stage x
+    cut_in stage x left made each = record { stops = λ seen may. goes stage x seen (each seen may); registers = left; made = made }
 
     abbrev Spans : Type 0
     Spans = (ends : List S) × AreSpans IsCut 0 (runs v).store ends (runs w).store
@@ -184,9 +196,18 @@ module _ {V S : Type 0} (k : Kind V) (disk : S → Disk) (runs : V → Running S
     public_phases word_of t here tape seen first =
         subst (λ (row : List Note). AreFirst most (phases_of row) seen) (sym (leaving.public_is k disk runs words counts_now only_now keys most p f opened q h n v at word_of t here lies (Fetch asks) answer w one tape)) first
 
+    -- by the names of what is public
+    body_called : (a : S) → Notes (events_of (body_notes run.params (suc run.epoch) r.batch)) (disk (runs v).store).seen (disk a).seen → Before (Fetch asks) answer w one 1 a
+    body_called a made =
+        subst (λ (row : List Note). Notes (events_of row) (disk (runs v).store).seen (disk a).seen)
+        (sym (before_end (body_notes run.params (suc run.epoch) r.batch) (note.Write (log_gate run.params (suc run.epoch % 2) r.batch)) note.Sync) ∙ ap (λ (row : List Note). before_gate row) (calling.record_is k disk runs words keys most p f opened q h [] n v w at)) made
+
+    log_called : (a : S) → Notes (events_of (append_notes run.params (suc run.epoch) r.batch)) (disk (runs v).store).seen (disk a).seen → Before (Fetch asks) answer w one 2 a
+    log_called a made = subst (λ (row : List Note). Notes (events_of row) (disk (runs v).store).seen (disk a).seen) (calling.record_is k disk runs words keys most p f opened q h [] n v w at) made
+
     -- its record's body
     keeping : (x : S) → LeavesOnly (disk (runs v).store) (disk x) (Stands own_keys run.params st) → Kept (runs v).store x → IsCut (Fetch asks) answer w one 0 ((runs v).store, x)
-    keeping x all kept = cut_in (Fetch asks) answer w one 0 ((runs v).store, x) kept (λ seen barely word_of t here tape. record {
+    keeping x all kept = cut_in (Fetch asks) answer w one 0 ((runs v).store, x) kept (none_noted (disk (runs v).store).seen) (λ seen barely word_of t here tape. record {
       row = ([], None);
       made = (refl, refl);
       staged = fetching.keeping disk word_of t (runs v) (runs w) one.notes asks (runs_in (Fetch asks) answer w one word_of t here tape) (own_tape word_of tape) was_drawn whole draws few (runs v).store x all;
@@ -195,8 +216,8 @@ module _ {V S : Type 0} (k : Kind V) (disk : S → Disk) (runs : V → Running S
     })
 
     -- and its gate
-    logging : (a x : S) → LeavesOnly (disk a) (disk x) (OneOf own_keys run.params st (with_record st r)) → Kept a x → IsCut (Fetch asks) answer w one 1 (a, x)
-    logging a x all kept = cut_in (Fetch asks) answer w one 1 (a, x) kept (λ seen barely word_of t here tape. record {
+    logging : (a x : S) → LeavesOnly (disk a) (disk x) (OneOf own_keys run.params st (with_record st r)) → Kept a x → Notes (events_of (body_notes run.params (suc run.epoch) r.batch)) (disk (runs v).store).seen (disk a).seen → IsCut (Fetch asks) answer w one 1 (a, x)
+    logging a x all kept made = cut_in (Fetch asks) answer w one 1 (a, x) kept (body_called a made) (λ seen barely word_of t here tape. record {
       row = ([], Some (Append b));
       made = refl;
       staged = fetching.logging disk word_of t (runs v) (runs w) one.notes asks (runs_in (Fetch asks) answer w one word_of t here tape) (own_tape word_of tape) was_drawn whole draws few some a x all;
@@ -205,8 +226,8 @@ module _ {V S : Type 0} (k : Kind V) (disk : S → Disk) (runs : V → Running S
     })
 
     -- and what it shows
-    reading : (a x : S) (stage : ℕ) → LeavesOnly (disk a) (disk x) (Stands own_keys run.params (with_record st r)) → Kept a x → IsCut (Fetch asks) answer w one (suc (suc stage)) (a, x)
-    reading a x stage all kept = cut_in (Fetch asks) answer w one (suc (suc stage)) (a, x) kept (λ seen any word_of t here tape. record {
+    reading : (a x : S) (stage : ℕ) → LeavesOnly (disk a) (disk x) (Stands own_keys run.params (with_record st r)) → Kept a x → Notes (events_of (append_notes run.params (suc run.epoch) r.batch)) (disk (runs v).store).seen (disk a).seen → IsCut (Fetch asks) answer w one (suc (suc stage)) (a, x)
+    reading a x stage all kept made = cut_in (Fetch asks) answer w one (suc (suc stage)) (a, x) kept (log_called a made) (λ seen any word_of t here tape. record {
       row = (Append b ∷ ShowBatch ∷ [], None);
       made = ((b, refl, refl), refl);
       staged = fetching.reading disk word_of t (runs v) (runs w) one.notes asks (runs_in (Fetch asks) answer w one word_of t here tape) (own_tape word_of tape) was_drawn whole draws few some a x all;
@@ -224,7 +245,7 @@ module _ {V S : Type 0} (k : Kind V) (disk : S → Disk) (runs : V → Running S
     both x =
         let log = (x.logs).stages in (
           log.between ∷ x.between ∷ (runs w).store ∷ [],
-          (keeping log.between log.until (x.logs).kept.0, (logging log.between x.between log.since (x.logs).kept.1, (reading x.between (runs w).store 0 x.since x.kept, refl))),
+          (keeping log.between log.until (x.logs).kept.0, (logging log.between x.between log.since (x.logs).kept.1 log.made, (reading x.between (runs w).store 0 x.since x.kept x.made, refl))),
         )
 
     by_store : (unsure : Option ℕ) → FetchStages disk run st r (runs v).store (runs w).store (Err (fault.StoreFault unsure)) → Spans (Fetch asks) answer w one
@@ -233,7 +254,7 @@ module _ {V S : Type 0} (k : Kind V) (disk : S → Disk) (runs : V → Running S
         (λ (alone : AreFirstMade (body_notes run.params (suc run.epoch) r.batch) (disk (runs v).store).seen (disk (runs w).store).seen × LeavesOnly (disk (runs v).store) (disk (runs w).store) (Stands own_keys run.params st)).
         ((runs w).store ∷ [], (keeping (runs w).store alone.1 x.kept, refl)))
         (λ (logs : IsRecordInStages disk run st r (runs v).store (runs w).store).
-        let log = logs.stages in (log.between ∷ (runs w).store ∷ [], (keeping log.between log.until logs.kept.0, (logging log.between (runs w).store log.since logs.kept.1, refl))))
+        let log = logs.stages in (log.between ∷ (runs w).store ∷ [], (keeping log.between log.until logs.kept.0, (logging log.between (runs w).store log.since logs.kept.1 log.made, refl))))
         x.how
 
   module _ (asks : List (Option ℕ)) (answer : VaultAnswer) (w : V) (one : Called k v (Fetch asks) answer w) where
@@ -276,8 +297,8 @@ module _ {V S : Type 0} (k : Kind V) (disk : S → Disk) (runs : V → Running S
     lifts_shown word_of t seen here = inl (inr refl, λ f' d. filled_end p word_of t h here ws f' d)
 
     -- a stage before the gate is opened
-    filling : (stage : ℕ) (a x : S) → IsMadeIn (End ws) stage (ShowLifts ∷ []) None → LeavesOnly (disk a) (disk x) (Stands own_keys run.params st) → Left (End ws) answer w one stage (a, x) → IsCut (End ws) answer w one stage (a, x)
-    filling stage a x made all left = cut_in (End ws) answer w one stage (a, x) left (λ seen any word_of t here tape. record {
+    filling : (stage : ℕ) (a x : S) → IsMadeIn (End ws) stage (ShowLifts ∷ []) None → LeavesOnly (disk a) (disk x) (Stands own_keys run.params st) → Left (End ws) answer w one stage (a, x) → Before (End ws) answer w one stage a → IsCut (End ws) answer w one stage (a, x)
+    filling stage a x made all left before = cut_in (End ws) answer w one stage (a, x) left before (λ seen any word_of t here tape. record {
       row = (ShowLifts ∷ [], None);
       made = made;
       staged = ending.filling disk word_of t (runs v) (runs w) one.notes ws (runs_in (End ws) answer w one word_of t here tape) (end_tape word_of tape) (λ u c. counts_now (runs w).store u c) none a x all;
@@ -290,8 +311,9 @@ module _ {V S : Type 0} (k : Kind V) (disk : S → Disk) (runs : V → Running S
         → IsStage disk own_keys run.params word_of t (ShowLifts ∷ [], Some the_end) a x
 
     -- and while it is
-    setting : (stage : ℕ) (a x : S) → Set a x → LeavesOnly (disk a) (disk x) (OneOf own_keys run.params st (standing_at_end st (runs w).run fs)) → Left (End ws) answer w one (suc (suc (suc stage))) (a, x) → IsCut (End ws) answer w one (suc (suc (suc stage))) (a, x)
-    setting stage a x staged all left = cut_in (End ws) answer w one (suc (suc (suc stage))) (a, x) left (λ seen any word_of t here tape. record {
+    setting : (stage : ℕ) (a x : S) → Set a x → LeavesOnly (disk a) (disk x) (OneOf own_keys run.params st (standing_at_end st (runs w).run fs)) → Left (End ws) answer w one (suc (suc (suc stage))) (a, x) → Before (End ws) answer w one (suc (suc (suc stage))) a
+        → IsCut (End ws) answer w one (suc (suc (suc stage))) (a, x)
+    setting stage a x staged all left before = cut_in (End ws) answer w one (suc (suc (suc stage))) (a, x) left before (λ seen any word_of t here tape. record {
       row = (ShowLifts ∷ [], Some the_end);
       made = refl;
       staged = staged word_of t here tape all;
@@ -299,8 +321,11 @@ module _ {V S : Type 0} (k : Kind V) (disk : S → Disk) (runs : V → Running S
       shown = lifts_shown word_of t seen here;
     })
 
+    abbrev closed : Bool
+    closed = is_closed_first (run.gates).epoch (place_of (suc run.epoch))
+
     abbrev SetStage : S → ℕ → S × S → Type 0
-    SetStage wrote stage x = IsEndSetStage disk own_keys run.params st (standing_at_end st (runs w).run fs) (is_closed_first (run.gates).epoch (place_of (suc run.epoch))) (runs v).store wrote stage x
+    SetStage wrote stage x = IsEndSetStage disk own_keys run.params st (standing_at_end st (runs w).run fs) closed (runs v).store wrote stage x
 
     -- by the names of what is hidden
     own_epoch : st.epoch ≡ h.epoch
@@ -313,21 +338,37 @@ module _ {V S : Type 0} (k : Kind V) (disk : S → Disk) (runs : V → Running S
           (subst (λ (y : Keys). IsRegisterLeft (tagging y) 5 (suc st.epoch) (disk (runs v).store).cells lacking image) at.keys_are (is.gates lacking few image left)),
     )
 
-    set_cut : (bound : ℕ) → ((a x : S) → 2 < bound → Set a x) → (wrote : S) (stage : ℕ) (x : S × S) → stage < bound → SetStage wrote stage x → IsCut (End ws) answer w one (suc stage) x
-    set_cut bound staged wrote zero x low is = filling 1 x.0 x.1 (refl, refl) is.stands (registers wrote 0 x is)
-    set_cut bound staged wrote (suc zero) x low is = filling 2 x.0 x.1 (refl, refl) is.stands (registers wrote 1 x is)
-    set_cut bound staged wrote (suc (suc stage)) x low is = setting stage x.0 x.1 (staged x.0 x.1 (omega (arith, low))) is.stands (registers wrote (suc (suc stage)) x is)
+    -- by the names of what is public
+    pub named_made : (stage : ℕ) (a b : Option (List Event)) → AreMadeBut (set_from closed (suc run.epoch) stage) (runs v).lanes (end_phases run.params (public_of_kept run.params h.content h.records run.epoch run.gates) (fills_with_lifts run.params h.content h.records)) a b
+        → AreMadeBut (set_from closed ((q.known).epoch + 1) stage) most (ring_phases p q Ends (fills_with_lifts p h.content h.records)) a b
+    named_made stage a b made =
+        subst (λ (e : ℕ). AreMadeBut (set_from closed e stage) most (ring_phases p q Ends (fills_with_lifts p h.content h.records)) a b) (let same = ap (λ (y : Public). y.epoch) at.known in omega (arith, same))
+        (subst (λ (l : List Phase). AreMadeBut (set_from closed (suc run.epoch) stage) most l a b) (calling.end_is k disk runs words keys most p f opened q h [] n v w at)
+        (subst (λ (i : ℕ). AreMadeBut (set_from closed (suc run.epoch) stage) i (end_phases run.params (public_of_kept run.params h.content h.records run.epoch run.gates) (fills_with_lifts run.params h.content h.records)) a b) at.lanes made))
+
+    abbrev Wrote : S → Type 0
+    Wrote wrote = IsEndMadeButSet (runs v).lanes run (disk (runs v).store).seen (disk wrote).seen
+
+    set_called : (wrote : S) → Wrote wrote → (stage : ℕ) (x : S × S) → SetStage wrote stage x → Before (End ws) answer w one (suc stage) x.0
+    set_called wrote all stage x is = (
+      closed,
+      named_made stage (disk (runs v).store).seen (disk x.0).seen
+          (made_further (runs v).lanes closed (suc run.epoch) stage (end_phases run.params (public_of_kept run.params h.content h.records run.epoch run.gates) (fills_with_lifts run.params h.content h.records)) (disk (runs v).store).seen (disk wrote).seen (disk x.0).seen
+          (all h.content h.records at.planned)
+          (subst (λ (e : ℕ). Notes (events_of (made_before closed 5 (suc e) stage)) (disk wrote).seen (disk x.0).seen) (sym ((lies.at).runs).epoch_is) is.made)),
+    )
+
+    set_cut : (bound : ℕ) → ((a x : S) → 2 < bound → Set a x) → (wrote : S) → Wrote wrote → (stage : ℕ) (x : S × S) → stage < bound → SetStage wrote stage x → IsCut (End ws) answer w one (suc stage) x
+    set_cut bound staged wrote all zero x low is = filling 1 x.0 x.1 (refl, refl) is.stands (registers wrote 0 x is) (set_called wrote all 0 x is)
+    set_cut bound staged wrote all (suc zero) x low is = filling 2 x.0 x.1 (refl, refl) is.stands (registers wrote 1 x is) (set_called wrote all 1 x is)
+    set_cut bound staged wrote all (suc (suc stage)) x low is = setting stage x.0 x.1 (staged x.0 x.1 (omega (arith, low))) is.stands (registers wrote (suc (suc stage)) x is) (set_called wrote all (suc (suc stage)) x is)
 
     -- its writes, and so many stages of its set
-    spanned : (bound : ℕ) (Made : Option (List Event) → Option (List Event) → Type 0) (IsMany : ℕ → Type 0) → ((many : ℕ) → IsMany many → many ≤ bound) → ((a x : S) → 2 < bound → Set a x)
-        → IsEndSpanned disk own_keys run.params st (standing_at_end st (runs w).run fs) (is_closed_first (run.gates).epoch (place_of (suc run.epoch))) Made IsMany (runs v).store (runs w).store → Spans (End ws) answer w one
-    spanned bound Made IsMany few staged x = (
+    spanned : (bound : ℕ) (IsMany : ℕ → Type 0) → ((many : ℕ) → IsMany many → many ≤ bound) → ((a x : S) → 2 < bound → Set a x)
+        → IsEndSpanned disk own_keys run.params st (standing_at_end st (runs w).run fs) closed (IsEndMadeButSet (runs v).lanes run) IsMany (runs v).store (runs w).store → Spans (End ws) answer w one
+    spanned bound IsMany few staged x = (
       x.wrote ∷ x.ends,
-      (
-        filling 0 (runs v).store x.wrote (refl, refl) x.writing (λ image left. first_left image (passed_back image left)),
-        spans_later (IsCut (End ws) answer w one) 0 x.wrote x.ends (runs w).store
-            (spans_so (SetStage x.wrote) (λ stage y. IsCut (End ws) answer w one (suc stage) y) bound (λ stage y low is. set_cut bound staged x.wrote stage y low is) 0 x.wrote x.ends (runs w).store (let most_are = few (length x.ends) x.many in omega (arith, most_are)) x.setting),
-      ),
+      (filling 0 (runs v).store x.wrote (refl, refl) x.writing (λ image left. first_left image (passed_back image left)) (none_noted (disk (runs v).store).seen), ⊎_elim none_set all_set x.made),
     )
       where
         passed_back : (image : Image) → (span disk ((runs v).store, x.wrote)).may_leave image → (disk (runs v).store).may_leave image ⊎ ((d : Image) × (disk (runs v).store).may_leave d × SameFirst image d)
@@ -337,13 +378,20 @@ module _ {V S : Type 0} (k : Kind V) (disk : S → Disk) (runs : V → Running S
         first_left image (inl now) j low = (lies.at).settled image now j
         first_left image (inr back) j low = back.2 j low ∙ (lies.at).settled back.0 back.1 j
 
+        none_set : x.ends ≡ [] → AreSpans (IsCut (End ws) answer w one) 1 x.wrote x.ends (runs w).store
+        none_set none = subst (λ (ends : List S). AreSpans (SetStage x.wrote) 0 x.wrote ends (runs w).store → AreSpans (IsCut (End ws) answer w one) 1 x.wrote ends (runs w).store) (sym none) (λ same. same) x.setting
+
+        all_set : Wrote x.wrote → AreSpans (IsCut (End ws) answer w one) 1 x.wrote x.ends (runs w).store
+        all_set all = spans_later (IsCut (End ws) answer w one) 0 x.wrote x.ends (runs w).store
+            (spans_so (SetStage x.wrote) (λ stage y. IsCut (End ws) answer w one (suc stage) y) bound (λ stage y low is. set_cut bound staged x.wrote all stage y low is) 0 x.wrote x.ends (runs w).store (let most_are = few (length x.ends) x.many in omega (arith, most_are)) x.setting)
+
     -- all was written, but maybe for the register
     ended : (result : Result (Unit {0}) EndErr) (was_drawn : run.drawn ≡ length (runs v).drawn) (drawn' : ((runs w).run).drawn ≡ length (runs w).drawn) (few : length writes ≤ (run.params).writes)
         (may : MayEndEpoch run.params (table st) run.epoch run.drawn (run.sealer).next fs) (draws : DrawsWords (words_for_end run.params (table st)) (runs v).drawn (runs w).drawn) (then : StandsFor ((runs w).run).ring (table_ended run.params (table st) fs))
         (entries : AreEntriesWritten fs run.ring ((runs w).run).ring) (filled : TakeBucketWords run.params (table st) (words_since (runs v).drawn (runs w).drawn) (run.sealer).generation (run.sealer).next run.ring ((runs w).run).ring)
         (content : IsAtContent run.params ((runs w).run).ring) → ((many : ℕ) → EndStagesSet result many → many ≤ 3) → EndSpans disk (runs v).lanes st fs run (runs w).run (runs v).store (runs w).store result → Spans (End ws) answer w one
     ended result was_drawn drawn' few may draws then entries filled content most_are x =
-        spanned 3 (IsEndMadeButSet (runs v).lanes run) (EndStagesSet result) most_are
+        spanned 3 (EndStagesSet result) most_are
         (λ a y low word_of t here tape all. ending.setting disk word_of t (runs v) (runs w) one.notes ws (runs_in (End ws) answer w one word_of t here tape) (end_tape word_of tape) (λ u c. counts_now (runs w).store u c) none was_drawn drawn' few may draws then entries filled content a y all) x
 
     end_ok : EndCalled disk (runs v) (runs w) one.notes writes (Ok tt) → Spans (End ws) answer w one
@@ -353,7 +401,7 @@ module _ {V S : Type 0} (k : Kind V) (disk : S → Disk) (runs : V → Running S
     end_unsure f' is = ended (Err (end.Unsure f')) (is.run).was_drawn (is.run).drawn is.few (is.answers (table st) stands0) (is.draws (table st) stands0) (is.table (table st) stands0) is.entries (is.filled (table st) stands0) is.content (λ many all. omega (arith, all)) (is.spans st lies.at)
 
     end_before : (f' : Fault) → EndCalled disk (runs v) (runs w) one.notes writes (Err (end.Before f')) → Spans (End ws) answer w one
-    end_before f' is = spanned 2 (IsEndMadeButSet (runs v).lanes run) (EndStagesSet (Err (end.Before f'))) (λ many few. few) (λ a x low. absurd (omega (arith, low))) (is.spans st lies.at)
+    end_before f' is = spanned 2 (EndStagesSet (Err (end.Before f'))) (λ many few. few) (λ a x low. absurd (omega (arith, low))) (is.spans st lies.at)
 
   -- ---- by the answer
 
