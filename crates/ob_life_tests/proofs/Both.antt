@@ -12,6 +12,7 @@ use Rattle.ob_top.specs.Pasts.{PastLife, with_acts}
 use Rattle.ob_vault.specs.Acts.{AreTapeWords}
 use Rattle.ob_vault.specs.Formats.{beginning}
 use Rattle.ob_vault.specs.RingLives.{ring_lives}
+use Rattle.ob_top.specs.Audited.{ring_audits}
 use Rattle.ob_vault.specs.RingKind.{ring_kind}
 use Rattle.ob_life_tests.specs.Held.{HasHeadline, HeadlinesHold, KeepsToHeadline}
 
@@ -20,7 +21,7 @@ abbrev IsOfWords : (WordId → ℕ) → Given → Type 0
 IsOfWords word_of tape = AreTapeWords word_of tape.generation tape.words
 
 module _ {S : Type 0} (disk : S → Disk) (keys : Keys) (p : Params) (made_by first_by second_by : Given) (blank made ran left new : S) (word_of : WordId → ℕ) where
-  pub both_held : FormatsStand disk → CrashesStand disk → IsFormatted ring_kind ring_lives disk made_by keys p blank made → (disk blank).tells → (disk made).leaves → IsOfWords word_of made_by
+  pub both_held : FormatsStand disk → CrashesStand disk → IsFormatted ring_kind ring_lives ring_audits disk made_by keys p blank made → (disk blank).tells → (disk made).leaves → IsOfWords word_of made_by
       → KeepsToHeadline disk keys first_by made ran → IsOfWords word_of first_by
       → (disk ran).may_leave (disk left).cells → IsSynced (disk left) → (disk left).tells → (disk left).leaves
       → KeepsToHeadline disk keys second_by left new → IsOfWords word_of second_by → HeadlinesHold disk keys p word_of first_by second_by made ran left new

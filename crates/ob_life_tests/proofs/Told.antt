@@ -24,6 +24,7 @@ use Rattle.ob_top.specs.Pasts.{PastLife}
 use Rattle.ob_top.specs.Promised.{Promised}
 use Rattle.ob_top.specs.Runs.{RunDone}
 use Rattle.ob_vault.specs.RingLives.{ring_lives}
+use Rattle.ob_top.specs.Audited.{ring_audits}
 use Rattle.ob_vault.specs.RingKind.{ring_kind}
 use Rattle.ob_word_forms.specs.Forms.{ArePlain, IsPlain}
 use Rattle.ob_shares.specs.declared.shares.Shares.{Shares}
@@ -49,11 +50,11 @@ module _ {S W : Type 0} (disk : S → Disk) (text : Bor (List ℕ)) (old new : S
 
   abbrev FormatTells : Given → List (List ℕ) → Type 0
   FormatTells tape numbers = Tell Memory ⊎ (((field : Field) × IsBadNumber numbers field × Tell (BadParams field))
-      ⊎ ((p : Params) × AreParams numbers p × (KeysTell ⊎ ((keys : Keys) × HasKeys (Some text) keys × ((is ≡ was) × FormatDone ring_kind ring_lives disk tape keys p old new before after blind blind status)))))
+      ⊎ ((p : Params) × AreParams numbers p × (KeysTell ⊎ ((keys : Keys) × HasKeys (Some text) keys × ((is ≡ was) × FormatDone ring_kind ring_lives ring_audits disk tape keys p old new before after blind blind status)))))
 
   abbrev RunTells : BeatKind → Given → Option (List ℕ) → Bool → AskedShares → Type 0
   RunTells beat tape lanes turns limits = Tell Memory ⊎ ((AreBadLanes lanes × Tell (BadParams LANES))
-      ⊎ ((k : ℕ) × AreLanes lanes k × (shares : Shares) × AreShares limits shares × (KeysTell ⊎ ((keys : Keys) × HasKeys (Some text) keys × ((is ≡ was) × RunDone ring_kind ring_lives disk (manner beat (not turns) k shares) tape keys old new before after blind blind status)))))
+      ⊎ ((k : ℕ) × AreLanes lanes k × (shares : Shares) × AreShares limits shares × (KeysTell ⊎ ((keys : Keys) × HasKeys (Some text) keys × ((is ≡ was) × RunDone ring_kind ring_lives ring_audits disk (manner beat (not turns) k shares) tape keys old new before after blind blind status)))))
 
   no_keys : (A : Type 0) → KeysTell → status ≡ 0 → A
   no_keys A (f, (refused, none), (kept, told)) zero = let two : status ≡ 2 = told.status_is ∙ ap fault_status refused in absurd (omega (arith, two, zero))
@@ -63,7 +64,7 @@ module _ {S W : Type 0} (disk : S → Disk) (text : Bor (List ℕ)) (old new : S
   made tape numbers (inr (inl (field, bad, (kept, told)))) zero = absurd (omega (arith, told.status_is, zero))
   made tape numbers (inr (inr (p, are, inl refused))) zero = no_keys (HasFormatted disk text.now tape old new) refused zero
   made tape numbers (inr (inr (p, are, inr (keys, has, (untraced, done))))) zero =
-      record { keys = keys; are = has; p = p; before = before; after = after; done = subst (λ n. FormatDone ring_kind ring_lives disk tape keys p old new before after blind blind n) zero done }
+      record { keys = keys; are = has; p = p; before = before; after = after; done = subst (λ n. FormatDone ring_kind ring_lives ring_audits disk tape keys p old new before after blind blind n) zero done }
 
   -- the call, with this status
   abbrev called : Manner → Given → (lacks : Bool) (rose_from rose_to n : ℕ) → RunCall S
@@ -98,7 +99,7 @@ module _ {S W : Type 0} (disk : S → Disk) (text : Bor (List ℕ)) (old new : S
     by = manner beat (not turns) k shares;
     before = before;
     after = after;
-    done = subst (λ n. RunDone ring_kind ring_lives disk (manner beat (not turns) k shares) tape keys old new before after blind blind n) zero done;
+    done = subst (λ n. RunDone ring_kind ring_lives ring_audits disk (manner beat (not turns) k shares) tape keys old new before after blind blind n) zero done;
     held = held keys (manner beat (not turns) k shares) tape lacks rose_from rose_to (promised k shares keys are given has) zero;
   }
 

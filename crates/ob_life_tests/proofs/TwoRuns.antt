@@ -28,6 +28,7 @@ use Rattle.ob_vault.specs.Formats.{beginning}
 use Rattle.ob_vault.specs.Kinds.{Stands}
 use Rattle.ob_vault.specs.Lives.{RingBegins, RingGoesOn}
 use Rattle.ob_vault.specs.RingLives.{ring_lives}
+use Rattle.ob_top.specs.Audited.{ring_audits}
 use Rattle.ob_vault.specs.RingKind.{IsRingFound, IsRingMap, RingFound, ring_kind}
 use Rattle.ob_vault.specs.Shapes.{answered, refused}
 use Rattle.ob_words.proofs.Named.{one_keys}
@@ -93,7 +94,7 @@ module _ {S : Type 0} (disk : S → Disk) (keys : Keys) (p : Params) where
 
   module _ (counts_now : (x : S) (t : Clock) (c : Image) → NotAfter t (disk x).moment → (disk x).may_leave c → (disk x).left_since t c) (includes_reads : (x : S) → (disk x).tells → (disk x).leaves → (disk x).may_leave (disk x).cells)
       (one_life : RunsAreOneLife disk) (pads : PadsAreFresh disk) (formats : FormatsStand disk) (crashes : CrashesStand disk)
-      (made_by first_by second_by : Given) (blank made ran left new : S) (dummies : 0 < p.dummies) (format_is : format.IsFormatted ring_kind ring_lives disk made_by keys p blank made)
+      (made_by first_by second_by : Given) (blank made ran left new : S) (dummies : 0 < p.dummies) (format_is : format.IsFormatted ring_kind ring_lives ring_audits disk made_by keys p blank made)
       (sound : IsSound ring_kind keys p (disk made)) (told_blank : (disk blank).tells) (leaves_blank : (disk blank).leaves) (leaves_made : (disk made).leaves)
       (first : IsWholeRun disk keys first_by made ran) (sound_on : IsSound ring_kind keys p (disk ran)) (may : (disk ran).may_leave (disk left).cells) (sure : IsSynced (disk left)) (told_left : (disk left).tells) (leaves_left : (disk left).leaves)
       (second : IsWholeRun disk keys second_by left new) (first_holds : KeepsToHeadline disk keys first_by made ran) (second_holds : KeepsToHeadline disk keys second_by left new) where
@@ -165,8 +166,8 @@ lived_so {S} disk counts_now includes_reads one_life pads formats crashes tells 
     let keys : Keys = f.keys in
     let one_same : one.keys ≡ keys = one_keys (Some text) one.keys keys one.are f.are in
     let two_same : two.keys ≡ keys = one_keys (Some text) two.keys keys two.are f.are in
-    let one_done = subst (λ (k : Keys). RunDone ring_kind ring_lives disk one.by first_by k made ran one.before one.after blind blind 0) one_same one.done in
-    let two_done = subst (λ (k : Keys). RunDone ring_kind ring_lives disk two.by second_by k left new two.before two.after blind blind 0) two_same two.done in
+    let one_done = subst (λ (k : Keys). RunDone ring_kind ring_lives ring_audits disk one.by first_by k made ran one.before one.after blind blind 0) one_same one.done in
+    let two_done = subst (λ (k : Keys). RunDone ring_kind ring_lives ring_audits disk two.by second_by k left new two.before two.after blind blind 0) two_same two.done in
     let one_held = subst (λ (k : Keys). KeepsToHeadline disk k first_by made ran) one_same one.held in
     let two_held = subst (λ (k : Keys). KeepsToHeadline disk k second_by left new) two_same two.held in
     let sound = (f.done).sound refl (tells blank) in (

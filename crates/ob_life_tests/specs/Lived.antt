@@ -19,6 +19,7 @@ use Rattle.ob_top.specs.Runs.{Ran, RunDone}
 use Rattle.ob_vault.specs.Acts.{AreTapeWords}
 use Rattle.ob_vault.specs.Joined.{AreGiven, IsOneLife, RunPart, Served}
 use Rattle.ob_vault.specs.RingLives.{ring_lives}
+use Rattle.ob_top.specs.Audited.{ring_audits}
 use Rattle.ob_vault.specs.RingKind.{ring_kind}
 use Rattle.ob_vault.specs.Shapes.{answered, refused}
 use Rattle.ob_words.specs.Work.{AreKeys}
@@ -32,7 +33,7 @@ module _ {S : Type 0} (disk : S → Disk) where
     pub p : Params
     pub before : Outside
     pub after : Outside
-    pub done : FormatDone ring_kind ring_lives disk tape keys p old new before after blind blind 0
+    pub done : FormatDone ring_kind ring_lives ring_audits disk tape keys p old new before after blind blind 0
 
   -- a run that answered 0
   pub record HasRun (text : List ℕ) (tape : Given) (old new : S) : Type 0 where
@@ -41,7 +42,7 @@ module _ {S : Type 0} (disk : S → Disk) where
     pub by : Manner
     pub before : Outside
     pub after : Outside
-    pub done : RunDone ring_kind ring_lives disk by tape keys old new before after blind blind 0
+    pub done : RunDone ring_kind ring_lives ring_audits disk by tape keys old new before after blind blind 0
     pub held : KeepsToHeadline disk keys tape old new
 
   -- a whole run, whose script came to its end
@@ -50,7 +51,7 @@ module _ {S : Type 0} (disk : S → Disk) where
     pub before : Outside
     pub after : Outside
     pub records : List (EpochRecord ℕ)
-    pub ran : Ran ring_kind ring_lives disk by tape keys old new before after blind blind records None
+    pub ran : Ran ring_kind ring_lives ring_audits disk by tape keys old new before after blind blind records None
 
   module _ {keys : Keys} {tape : Given} {old new : S} (r : IsWholeRun keys tape old new) where
     -- it as a part of a life

@@ -15,6 +15,7 @@ use Rattle.ob_store.specs.declared.watch.Note.TheVariants.{Read}
 use Rattle.ob_twin.specs.Got.{DoesReads}
 use Rattle.ob_vault.specs.RingKind.{ring_kind}
 use Rattle.ob_vault.specs.RingLives.{ring_lives}
+use Rattle.ob_top.specs.Audited.{ring_audits}
 use Rattle.ob_top.specs.Begun.{EndsAtHead}
 use Rattle.ob_top.specs.Outside.{Given, Outside}
 use Rattle.ob_top.specs.Parts.{Manner, head_cells, reading_head}
@@ -50,7 +51,7 @@ no_head : {A : Type 0} → ◌≡◌ {A = List ℕ} [] head_cells → A
 no_head is = absurd (cc is)
 
 module _ {X : Type 0} (disk : X → Disk) (by : Manner) (tape : Given) (keys : Keys) (old new : X) (before : Outside) (t u : Trace) where
-  ran_keeps : (after : Outside) (records : List (EpochRecord ℕ)) (err : Option RunErr) → Ran ring_kind ring_lives disk (reading_head [] by) tape keys old new before after t u records err → u.anchors ≡ t.anchors
+  ran_keeps : (after : Outside) (records : List (EpochRecord ℕ)) (err : Option RunErr) → Ran ring_kind ring_lives ring_audits disk (reading_head [] by) tape keys old new before after t u records err → u.anchors ≡ t.anchors
   ran_keeps after records err ran = ran.serving.shown.shows.anchors ∙ ran.opening_shown.anchors
 
   early_keeps : (after : Outside) (err : RunErr) → EndsEarly ring_kind ring_lives [] keys by.lanes by.shares (disk old) (disk new) t u disk before.input after.input err → u.anchors ≡ t.anchors
@@ -60,12 +61,12 @@ module _ {X : Type 0} (disk : X → Disk) (by : Manner) (tape : Given) (keys : K
   early_keeps after failed.Unwatched (inl head) = no_head head.own
   early_keeps after failed.Unwatched (inr opening) = opening.shown.behind.anchors ∙ opening.shown.head.anchors
 
-  went_keeps : (after : Outside) (records : List (EpochRecord ℕ)) (err : Option RunErr) → Went ring_kind ring_lives disk (reading_head [] by) tape keys old new before after t u records err → u.anchors ≡ t.anchors
+  went_keeps : (after : Outside) (records : List (EpochRecord ℕ)) (err : Option RunErr) → Went ring_kind ring_lives ring_audits disk (reading_head [] by) tape keys old new before after t u records err → u.anchors ≡ t.anchors
   went_keeps after records None ran = ran_keeps after records None ran
   went_keeps after records (Some err) (inl (none, ended, lives)) = early_keeps after err ended
   went_keeps after records (Some err) (inr ran) = ran_keeps after records (Some err) ran
 
-  pub run_keeps : (after : Outside) (status : ℕ) → RunDone ring_kind ring_lives disk (reading_head [] by) tape keys old new before after t u status → u.anchors ≡ t.anchors
+  pub run_keeps : (after : Outside) (status : ℕ) → RunDone ring_kind ring_lives ring_audits disk (reading_head [] by) tape keys old new before after t u status → u.anchors ≡ t.anchors
   run_keeps after status d = went_keeps _ d.records d.err d.went
 
 -- so the sink is still the one that was lent

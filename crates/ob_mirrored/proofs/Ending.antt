@@ -19,6 +19,7 @@ use Rattle.ob_store.specs.Lines.{Trace}
 use Rattle.ob_vault.proofs.Standing.{ring_keeps}
 use Rattle.ob_vault.specs.RingKind.{RingMayStop, ring_kind}
 use Rattle.ob_vault.specs.RingLives.{ring_lives}
+use Rattle.ob_top.specs.Audited.{ring_audits}
 use Rattle.ob_top.proofs.Beginnings.{ring_quiet}
 use Rattle.ob_top.proofs.Completing.{StopsFor, run_answers}
 use Rattle.ob_top.proofs.Finishing.{run_done}
@@ -34,10 +35,10 @@ use Rattle.ob_top.specs.Runs.{Ran, RunDone, RunOn}
 
 module _ {X : Type 0} (disk : X → Disk) (by : Manner) (tape : Given) (keys : Keys) (old new : X) (input input_new output output_new : Flow) (t u : Trace) (status : ℕ) where
   abbrev pub Done : Type 0
-  Done = RunDone ring_kind ring_lives disk (reading_head [] by) tape keys old new (outside input output) (outside input_new output_new) t u status
+  Done = RunDone ring_kind ring_lives ring_audits disk (reading_head [] by) tape keys old new (outside input output) (outside input_new output_new) t u status
 
-  pub ended_run : (mid : Flow) (err : Option RunErr) → RunOn ring_kind ring_lives disk (reading_head [] by) tape keys old new (outside input output) (outside input_new mid) t u err → IsCommandFinished mid output_new err status → Done
-  ended_run mid err r f = run_done ring_kind ring_quiet ring_lives disk (reading_head [] by) tape keys old new (outside input output) (outside input_new mid) (outside input_new output_new) t u refl status err r f
+  pub ended_run : (mid : Flow) (err : Option RunErr) → RunOn ring_kind ring_lives ring_audits disk (reading_head [] by) tape keys old new (outside input output) (outside input_new mid) t u err → IsCommandFinished mid output_new err status → Done
+  ended_run mid err r f = run_done ring_kind ring_quiet ring_lives ring_audits disk (reading_head [] by) tape keys old new (outside input output) (outside input_new mid) (outside input_new output_new) t u refl status err r f
 
   -- the call, as the headline has it
   abbrev pub behind_join : RunCall X
@@ -64,7 +65,7 @@ module _ {X : Type 0} (disk : X → Disk) (by : Manner) (tape : Given) (keys : K
       Full = StopsFull disk (λ (f : Flow). f) by.beat tape words text was is (outside input output) (outside input_new output_new) status (reading_head [] by) can.keys can.p old new
 
       by_stop : (f : Fault) → RingMayStop can.p f → status ≡ status_of (Some f) → (records : List (EpochRecord ℕ)) (first last : Trace) (written : Flow)
-          → Ran ring_kind ring_lives disk (reading_head [] by) tape can.keys old new (outside input output) (outside input_new written) first last records (Some (failed.Fault f)) → Full
+          → Ran ring_kind ring_lives ring_audits disk (reading_head [] by) tape can.keys old new (outside input output) (outside input_new written) first last records (Some (failed.Fault f)) → Full
       by_stop (fault.StashFull rows) (past, few) is records first last written ran = record { status_is = is; fewer = omega (arith, past, few); records = records; rows = rows; first = first; last = last; written = written; ran = ran }
       by_stop fault.Memory may is records first last written ran = absurd may
       by_stop fault.Usage may is records first last written ran = absurd may
@@ -77,12 +78,12 @@ module _ {X : Type 0} (disk : X → Disk) (by : Manner) (tape : Given) (keys : K
       by_stop fault.SourceFault may is records first last written ran = absurd may
       by_stop fault.SinkFault may is records first last written ran = absurd may
 
-      by_answer : (status ≡ 0) ⊎ ((status ≡ 9) ⊎ StopsFor ring_kind ring_keeps ring_lives disk words text old new (λ (f : Flow). f) was is (outside input output) (outside input_new output_new) script can (reading_head [] by) tape status)
+      by_answer : (status ≡ 0) ⊎ ((status ≡ 9) ⊎ StopsFor ring_kind ring_keeps ring_lives ring_audits disk words text old new (λ (f : Flow). f) was is (outside input output) (outside input_new output_new) script can (reading_head [] by) tape status)
           → (status ≡ 0) ⊎ ((status ≡ 9) ⊎ Full)
       by_answer (inl none) = inl none
       by_answer (inr (inl nine)) = inr (inl nine)
       by_answer (inr (inr s)) = inr (inr (by_stop s.told s.may s.status_is s.records s.first s.last s.written s.ran))
 
       pub ended_complete : can.keys ≡ keys → by.shares ≡ can.shares → (Rose t.faults u.faults → ⊥) → (status ≡ 0) ⊎ ((status ≡ 9) ⊎ Full)
-      ended_complete same shared holds = by_answer (run_answers ring_kind ring_keeps ring_lives disk words text old new (λ (f : Flow). f) was is (outside input output) (outside input_new output_new) script can (reading_head [] by) shared tape status t u whole holds
-          (subst (λ (k : Keys). RunDone ring_kind ring_lives disk (reading_head [] by) tape k old new (outside input output) (outside input_new output_new) t u status) (sym same) run))
+      ended_complete same shared holds = by_answer (run_answers ring_kind ring_keeps ring_lives ring_audits disk words text old new (λ (f : Flow). f) was is (outside input output) (outside input_new output_new) script can (reading_head [] by) shared tape status t u whole holds
+          (subst (λ (k : Keys). RunDone ring_kind ring_lives ring_audits disk (reading_head [] by) tape k old new (outside input output) (outside input_new output_new) t u status) (sym same) run))

@@ -32,6 +32,7 @@ use Rattle.ob_top.specs.Promised.{Promised}
 use Rattle.ob_top.specs.Runs.{RunDone}
 use Rattle.ob_vault.specs.RingKind.{ring_kind}
 use Rattle.ob_vault.specs.RingLives.{ring_lives}
+use Rattle.ob_top.specs.Audited.{ring_audits}
 use Rattle.ob_mirrored.specs.Halves.{HalfKeeps}
 
 -- What is read of the first half behind its head, and shown: the register of the epoch, by which nothing is decided so far, and then each cell.
@@ -95,7 +96,7 @@ module _ {X A B : Type 0} (disk : X → Disk) (first_of : X → A) (second_of : 
     pub first_left : first_of left ≡ c
     pub second_left : second_of left ≡ d
     pub goes : GoesOn (disk lent) (disk left)
-    pub run : RunDone ring_kind ring_lives disk (reading_head [] by) tape keys lent left before after t u status
+    pub run : RunDone ring_kind ring_lives ring_audits disk (reading_head [] by) tape keys lent left before after t u status
     -- the headline, from the join on
     pub headline : (p : Params) (at : Standing) (past : PastLife) → Stood disk keys p at past tape lent → Promised disk keys p at past (record {
       old = lent;

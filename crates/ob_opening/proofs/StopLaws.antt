@@ -108,13 +108,10 @@ module _ (keys : Keys) (most : ℕ) (p : Params) (found : Found) where
       → (old.tells → IsSyncedLeft keys (suc found.generation) old.cells 0 mid.cells) → StopsAt (next_notes found) keys most p found old new before after f
   repeat_stops old mid new before after f told settled passes sure = inr (record {
     told = told;
-    left = λ c left. inr (
-      omega arith,
-      λ tells.
-          let (d, was, same) = passes.now c left in
-          let is : c ≡ mid.cells = same ∙ fun_ext (λ k. settled tells d was k) in
-          subst (λ (image : Image). IsSyncedLeft keys (suc found.generation) old.cells 0 image) (sym is) (sure tells),
-    );
+    left = λ c left tells.
+        let (d, was, same) = passes.now c left in
+        let is : c ≡ mid.cells = same ∙ fun_ext (λ k. settled tells d was k) in
+        subst (λ (image : Image). IsSyncedLeft keys (suc found.generation) old.cells 0 image) (sym is) (sure tells);
   })
 
   -- ---- the whole
@@ -141,7 +138,7 @@ module _ (keys : Keys) (most : ℕ) (p : Params) (found : Found) where
     repeats_then : (f : Fault) → StopsInRepeats (next_notes found) keys most p found mid new between after f → StopsInRepeats (begun_notes p found) keys most p found old new before after f
     repeats_then f stops = record {
       told = repeats_behind most p found rows (next_notes found) old.seen mid.seen new.seen before between after reads {T = Unit {0}} (Err f) stops.told;
-      left = λ c left. left_behind keys found old mid 0 c keeps (shrinks_same old mid passes) (stops.left c left);
+      left = λ c left told. subst (λ (image : Image). IsSyncedLeft keys (suc found.generation) image 0 c) (fun_ext (λ k. keeps.cells told k)) (stops.left c left (keeps.tells told));
     }
 
     pub all_stops : {L : Type 0} (r : Result (Opening L) Fault) → (old.tells → IsFoundInRing keys p old.cells found) → HaveOpen found.gates → IfErr r (StopsAt (next_notes found) keys most p found mid new between after) → IfErr r (OpeningStops keys most p old new before after)

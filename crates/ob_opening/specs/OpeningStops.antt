@@ -24,12 +24,12 @@ next_set found = set_notes (is_closed_first (found.gates).generation (place_of (
 -- So many notes lack up to where the next generation has begun. Where the first sync is one of them the image might have been left before. Else it
 -- has the cells that were told, so also the gates of the epoch's register, but for the generations' one, which is left by how many lack.
 abbrev pub IsLeftByOpening : Keys → Found → (old : Disk) → (lacking : ℕ) → Image → Type 0
-IsLeftByOpening keys found old lacking image = ((length (next_set found) < lacking) × old.may_leave image) ⊎ ((lacking ≤ length (next_set found)) × (old.tells → IsSyncedLeft keys (suc found.generation) old.cells lacking image))
+IsLeftByOpening keys found old lacking image = ((length (next_set found) < lacking) × old.may_leave image) ⊎ (((1 ≤ lacking) × (lacking ≤ length (next_set found))) × (old.tells → IsSyncedLeft keys (suc found.generation) old.cells lacking image))
 
 -- All of the row was shown, and then batches were repeated: none of its notes lacks.
 pub record StopsInRepeats (row : List Note) (keys : Keys) (most : ℕ) (p : Params) (found : Found) (old new : Disk) (before after : Trace) (fault : Fault) : Type 0 where
   pub told : RepeatsBehind {T = Unit {0}} row most p found old.seen new.seen before after (Err fault)
-  pub left : (image : Image) → new.may_leave image → IsLeftByOpening keys found old 0 image
+  pub left : (image : Image) → new.may_leave image → old.tells → IsSyncedLeft keys (suc found.generation) old.cells 0 image
 
 -- of a row up to where the next generation has begun the first notes were shown, or all
 abbrev pub StopsAt : (row : List Note) → Keys → (most : ℕ) → Params → Found → (old new : Disk) → (before after : Trace) → Fault → Type 0

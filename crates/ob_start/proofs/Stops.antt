@@ -1,5 +1,6 @@
 -- What a begin that was refused leaves of the generations' register, by how many of its notes weren't shown.
-use Rattle.std.proofs.Common.{◌≡◌, ◌≤◌, ℕ, ◌+◌, ◌-◌, Bool, true, false, inl, inr, List, [], ◌∷◌, ◌++◌, length, length-append, Err, append_assoc, arith, refl, subst, sym, ◌∙◌}
+use Rattle.std.proofs.Common.{◌≡◌, ◌≤◌, ℕ, ◌+◌, ◌-◌, Bool, true, false, inl, inr, List, [], ◌∷◌, ◌++◌, length, length-append, Err, append_assoc, ⊎_elim, ap, arith, refl, subst, sym, ◌∙◌}
+use Rattle.std.proofs.lemmas.List.{length-take-le}
 use mathlib.Core.Path.{fun_ext}
 use Rattle.ob_seal.specs.declared.keys.Keys.{Keys}
 use Rattle.ob_store.proofs.Doing.{cut_behind, cut_more, cut_none, cut_sync, tells_then}
@@ -20,6 +21,16 @@ use Rattle.ob_twin.specs.declared.set_err.SetErr.{SetErr}
 use Rattle.ob_twin.specs.declared.set_err.SetErr.TheVariants.{Before, Unsure}
 use Rattle.ob_start.specs.Beginning.{IsBeginLeft, IsSyncedLeft}
 use Rattle.ob_start.specs.Orders.{begin_notes}
+
+-- what is cut short is no longer than the whole
+cut_few : (row made shown : List Note) → IsCut row made shown → length shown ≤ length row
+cut_few row made shown cut =
+    let many : length made ≡ cut.count = ap (λ (l : List Note). length l) cut.made_are ∙ length-take-le cut.count row cut.few in
+    let low : cut.count ≤ length row = cut.few in
+    ⊎_elim
+    (λ (all : shown ≡ made). let same : length shown ≡ length made = ap (λ (l : List Note). length l) all in omega (arith, many, low, same))
+    (λ (failed : made ≡ shown ++ Sync ∷ []). let same : length made ≡ length (shown ++ Sync ∷ []) = ap (λ (l : List Note). length l) failed in omega (arith, many, low, same, length-append shown (Sync ∷ [])))
+    cut.shown_are
 
 module _ (keys : Keys) (known : Open) (n : ℕ) (old new : Disk) where
   abbrev closes : Bool
@@ -49,7 +60,7 @@ module _ (keys : Keys) (known : Open) (n : ℕ) (old new : Disk) where
     abbrev all : List Note
     all = set_notes closes 1 n
 
-    onto : (lacking : ℕ) (c : Image) → new.may_leave c → lacking ≤ length all → IsSettingLeft (tagging keys) closes 1 n mid lacking c → IsBeginLeft keys closes n old lacking c
+    onto : (lacking : ℕ) (c : Image) → new.may_leave c → (1 ≤ lacking) × (lacking ≤ length all) → IsSettingLeft (tagging keys) closes 1 n mid lacking c → IsBeginLeft keys closes n old lacking c
     onto lacking c left few setting = inr (
       few,
       λ told opened.
@@ -79,8 +90,15 @@ module _ (keys : Keys) (known : Open) (n : ℕ) (old new : Disk) where
     as_many : (shown : List Note) → length all - length shown ≡ length (begin_notes known n) - length (Sync ∷ shown)
     as_many shown = (let rows = length-append (Sync ∷ []) all in let shows = length-append (Sync ∷ []) shown in omega (arith, rows, shows))
 
+    -- and some lack of one that was cut short before its gate
+    some_left : (made shown : List Note) → IsCut (prepare_notes closes 1 n) made shown → (1 ≤ length all - length shown) × (length all - length shown ≤ length all)
+    some_left made shown cut =
+        let few = cut_few (prepare_notes closes 1 n) made shown cut in
+        let parts = length-append (prepare_notes closes 1 n) (through_notes (gate_at 1 (place_of n))) in
+        (omega (arith, few, parts), omega arith)
+
     unsure_left : ((c : Image) → new.may_leave c → IsSettingLeft (tagging keys) closes 1 n mid 1 c) → (c : Image) → new.may_leave c → IsBeginLeft keys closes n old (length (begin_notes known n) - length (Sync ∷ gate)) c
-    unsure_left stops c left = subst (λ (lacking : ℕ). IsBeginLeft keys closes n old lacking c) (sym (one_lacks closes) ∙ as_many gate) (onto 1 c left (some_lack closes) (stops c left))
+    unsure_left stops c left = subst (λ (lacking : ℕ). IsBeginLeft keys closes n old lacking c) (sym (one_lacks closes) ∙ as_many gate) (onto 1 c left (omega arith, some_lack closes) (stops c left))
 
     pub set_stops : (x : SetErr) → SetDoes closes 1 n mid.seen new.seen l m (Err x) → SetStops (tagging keys) closes 1 n mid new l m (Err x) → Stops k m
     set_stops (Before fault) does stops = record {
@@ -90,7 +108,7 @@ module _ (keys : Keys) (known : Open) (n : ℕ) (old new : Disk) where
         cut = cut_behind (Sync ∷ []) all (stops.first).made (stops.first).shown (cut_more (prepare_notes closes 1 n) (through_notes (gate_at 1 (place_of n))) (stops.first).made (stops.first).shown (stops.first).cut);
         tells = tells_then (Sync ∷ []) (Sync ∷ []) (stops.first).made (stops.first).shown old.seen mid.seen new.seen k l m synced (stops.first).tells;
       };
-      left = λ c left. subst (λ (lacking : ℕ). IsBeginLeft keys closes n old lacking c) (as_many (stops.first).shown) (onto (length all - length (stops.first).shown) c left (omega arith) (stops.left c left));
+      left = λ c left. subst (λ (lacking : ℕ). IsBeginLeft keys closes n old lacking c) (as_many (stops.first).shown) (onto (length all - length (stops.first).shown) c left (some_left (stops.first).made (stops.first).shown (stops.first).cut) (stops.left c left));
     }
     set_stops (Unsure fault) (inl one) stops = record {
       first = record {

@@ -63,7 +63,7 @@ pub record IsSyncedLeft (keys : Keys) (generation : ℕ) (cells : Image) (lackin
 abbrev pub IsBeginLeft : Keys → (closed_first : Bool) → (generation : ℕ) → (old : Disk) → (lacking : ℕ) → Image → Type 0
 IsBeginLeft keys closed_first generation old lacking image =
     ((length (set_notes closed_first 1 generation) < lacking) × old.may_leave image)
-    ⊎ ((lacking ≤ length (set_notes closed_first 1 generation)) × (old.tells → (IsTrue closed_first → IsOpen 1 old.cells (place_of generation)) → IsSyncedLeft keys generation old.cells lacking image))
+    ⊎ (((1 ≤ lacking) × (lacking ≤ length (set_notes closed_first 1 generation))) × (old.tells → (IsTrue closed_first → IsOpen 1 old.cells (place_of generation)) → IsSyncedLeft keys generation old.cells lacking image))
 
 -- Done, or refused by its store.
 abbrev pub BeginStops : Keys → Open → (generation : ℕ) → (old new : Disk) → (before after : Trace) → Result ℕ Fault → Type 0

@@ -1,6 +1,7 @@
 -- How the head's read and the opening join.
 use Rattle.std.specs.Prelude.{true, false}
 use Rattle.std.proofs.Common.{◌≡◌, ◌⊎◌, ◌∙◌, ◌≤◌, ℕ, List, [], ◌∷◌, length, Option, Some, Result, Ok, Err, refl, sym, ap, subst, inl, inr, arith}
+use mathlib.Core.Path.{fun_ext}
 use Rattle.ob_base.specs.Causes.{Rose}
 use Rattle.ob_base.specs.declared.fault.Fault.{Fault}
 use Rattle.ob_base.specs.declared.fault.Fault.TheVariants as fault
@@ -16,6 +17,7 @@ use Rattle.ob_recover.specs.Life.{LifeAct, LifeState, WordId}
 use Rattle.ob_vault.proofs.Stopping.{stops_in_life}
 use Rattle.ob_vault.specs.Lives.{RingFormatted}
 use Rattle.ob_vault.specs.RingLives.{ring_lives}
+use Rattle.ob_top.specs.Audited.{ring_audits}
 use Rattle.ob_script.specs.Script.{Scripts}
 use Rattle.ob_seal.specs.declared.keys.Keys.{Keys}
 use Rattle.ob_stand.specs.Stands as stand
@@ -38,7 +40,8 @@ use Rattle.ob_conduct.specs.declared.run_err.RunErr.{RunErr}
 use Rattle.ob_conduct.specs.declared.run_err.RunErr.TheVariants as failed
 use Rattle.ob_top.specs.Outside.{Given, IsWatched, words_given}
 use Rattle.ob_opening.proofs.PlanLaws.{opened_plans}
-use Rattle.ob_opening.specs.OpeningActs.{IsLeftAt, OpensInLife}
+use Rattle.ob_opening.specs.OpeningActs.{AreGatesIn, IsLeftAt, OpensInLife}
+use Rattle.ob_recover.specs.Known.{format_gates}
 use Rattle.ob_opening.specs.Formats.{FormatsInClear, HasClosedLogs, IsFormatFault, format_words, formatted_standing}
 use Rattle.ob_opening.specs.OpeningRuns.{BeginsFirst, IsAtStart, IsRingOpened, OpeningLeaves, OpensPart, ReadsFirst, RefusedDoes, RefusedWrites, begun_notes}
 use Rattle.ob_recover.specs.Finds.{finding_notes}
@@ -173,27 +176,28 @@ may_serve disk keys most p mid new shown later present drawn o is before tape = 
 -- an empty store was made, and a life of it begins
 pub formatted : {S : Type 0} (disk : S → Disk) (keys : Keys) (p : Params) (present : ℕ) (drawn : List ℕ) (old new : S) → Notes (events_of (format_notes p)) (disk old).seen (disk new).seen → ((disk old).tells → stand.Stands keys p (formatted_standing p drawn) (disk new).cells)
     → ((disk old).tells → (c : Image) → (disk new).may_leave c → stand.Stands keys p (formatted_standing p drawn) c) → ((disk old).tells → IsSynced (disk new)) → ((disk old).tells → HasClosedLogs p (disk new).cells) → ((disk old).tells → (disk old).leaves → IsFormattedStore disk keys new)
-    → (present ≡ 1) × (length drawn ≡ format_words p) → ((disk old).tells → RingFormatted keys p drawn (disk new)) → ((disk old).tells → (disk new).tells)
-    → ((disk new).tells → FormatsInClear {T = Unit {0}} {E = Fault} keys p (disk new).seen (disk old).cells (disk new).cells (Ok tt)) → IsFormatted ring_kind ring_lives disk (words_given present drawn) keys p old new
-formatted disk keys p present drawn old new seen stands images durable closed begins draws life tells clear = record {
+    → (present ≡ 1) × (length drawn ≡ format_words p) → ((disk old).tells → RingFormatted keys p drawn (disk new)) → ((disk old).tells → AreGatesIn format_gates (disk new).cells) → ((disk old).tells → (disk new).tells)
+    → ((disk new).tells → FormatsInClear {T = Unit {0}} {E = Fault} keys p (disk new).seen (disk old).cells (disk new).cells (Ok tt)) → IsFormatted ring_kind ring_lives ring_audits disk (words_given present drawn) keys p old new
+formatted disk keys p present drawn old new seen stands images durable closed begins draws life gates tells clear = record {
   made = (ring_formats disk).made keys p drawn old new seen stands images durable closed;
   tells = tells;
   draws = record { first = draws.0; many = draws.1 };
   begins = begins;
   clear = clear;
   begins_life = life;
+  gates = λ told c left. subst (λ (image : Image). AreGatesIn format_gates image) (sym (fun_ext (λ k. durable told c left k))) (gates told);
 }
 
 -- the watch was found broken behind one
-pub format_broke : {S : Type 0} (disk : S → Disk) (tape : Given) (keys : Keys) (p : Params) (old new : S) (t u : Trace) (before : Flow) (err : RunErr) → IsWatched u (Some err) → IsFormatted ring_kind ring_lives disk tape keys p old new → Shows (format_notes p) t u
-    → FormatEnds ring_kind ring_lives disk tape keys p old new before before t u (Some err)
+pub format_broke : {S : Type 0} (disk : S → Disk) (tape : Given) (keys : Keys) (p : Params) (old new : S) (t u : Trace) (before : Flow) (err : RunErr) → IsWatched u (Some err) → IsFormatted ring_kind ring_lives ring_audits disk tape keys p old new → Shows (format_notes p) t u
+    → FormatEnds ring_kind ring_lives ring_audits disk tape keys p old new before before t u (Some err)
 format_broke disk tape keys p old new t u before (failed.Fault refused) is made shown = absurd is
 format_broke disk tape keys p old new t u before failed.Unwatched is made shown = (made, refl, (shown, is))
 
 -- one that was refused
 pub format_refused : {S : Type 0} (disk : S → Disk) (tape : Given) (keys : Keys) (p : Params) (old new : S) (t u : Trace) (before : Flow) (refused : Fault) → IsFormatFault refused → (IsStoreFault refused → Rose (disk old).faults (disk new).faults) → (refused ≡ fault.Memory → (new ≡ old) × (u ≡ t))
     → NotesFirst (events_of (format_notes p)) (disk old).seen (disk new).seen → TellsFirst (format_notes p) (disk old).seen (disk new).seen t u
-    → ((disk new).tells → FormatsInClear {T = Unit {0}} keys p (disk new).seen (disk old).cells (disk new).cells (Err refused)) → FormatEnds ring_kind ring_lives disk tape keys p old new before before t u (Some (failed.Fault refused))
+    → ((disk new).tells → FormatsInClear {T = Unit {0}} keys p (disk new).seen (disk old).cells (disk new).cells (Err refused)) → FormatEnds ring_kind ring_lives ring_audits disk tape keys p old new before before t u (Some (failed.Fault refused))
 format_refused disk tape keys p old new t u before (fault.StoreFault unsure) is cause same seen first clear = (is, cause tt, seen, refl, first, clear)
 format_refused disk tape keys p old new t u before fault.Memory is cause same seen first clear = (refl, (same refl).0, refl, (same refl).1)
 format_refused disk tape keys p old new t u before fault.Usage is cause same seen first clear = absurd is

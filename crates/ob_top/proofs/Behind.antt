@@ -21,9 +21,7 @@ use Rattle.ob_shares.specs.declared.shares.Shares.{Shares}
 use Rattle.ob_stand.specs.Stands as stand
 use Rattle.ob_stand.specs.Stands.{OneOf, RingStanding, StandsRing, ring_standing, with_generation}
 use Rattle.ob_start.specs.Heads.{IsHead}
-use Rattle.ob_store.proofs.Keeping.{same_none}
 use Rattle.ob_store.proofs.Moments.{weakened}
-use Rattle.ob_store.proofs.Serving.{goes_same}
 use Rattle.ob_store.proofs.Showing.{shows_none}
 use Rattle.ob_store.specs.Calls.{IsStoreFault, Keeps}
 use Rattle.ob_store.specs.Disk.{Disk, Image}
@@ -45,7 +43,7 @@ use Rattle.ob_vault.specs.RingKind.{ring_kind}
 use Rattle.ob_vault.specs.RingLaws.{found_ring}
 use Rattle.ob_vault.specs.RingLives.{ring_lives}
 use Rattle.ob_vault.specs.Seen.{RingMayBegin, opening_phases}
-use Rattle.ob_top.proofs.Beginnings.{SomeShown, refused_shown}
+use Rattle.ob_top.proofs.Beginnings.{refused_shown}
 use Rattle.ob_top.specs.Begun.{HasReadHead, IsBegun}
 use Rattle.ob_top.specs.Parts.{CameIn, SharesFit}
 use Rattle.ob_top.specs.Runs.{EndsEarly}

@@ -24,6 +24,7 @@ use Rattle.ob_top.specs.Outside.{Given, blind, Outside, IsCommandFinished, IsFin
 use Rattle.ob_top.specs.Formats.{FormatDone}
 use Rattle.ob_vault.specs.RingKind.{ring_kind}
 use Rattle.ob_vault.specs.RingLives.{ring_lives}
+use Rattle.ob_top.specs.Audited.{ring_audits}
 use Rattle.ob_top.specs.Runs.{RunDone}
 use Rattle.ob_top.specs.Parts.{manner}
 use Rattle.ob_store.specs.Lines.{Trace, first_line, open_line, start_line}
@@ -224,10 +225,10 @@ module _ (before mid after : Outside) (status : ℕ) (input : after.input ≡ mi
     KeysTell = (f : Fault) × IsKeysRefused text f × Tell f
 
     abbrev FormatsBy : Keys → Params → Option (List ℕ) → Type 0
-    FormatsBy keys p trace = ByTrace flow was is before after status trace (start_line p) (λ t u. FormatDone ring_kind ring_lives disk tape keys p old new before after t u status) old new
+    FormatsBy keys p trace = ByTrace flow was is before after status trace (start_line p) (λ t u. FormatDone ring_kind ring_lives ring_audits disk tape keys p old new before after t u status) old new
 
     abbrev RunsBy : Keys → ℕ → Bool → Option (List ℕ) → Shares → Type 0
-    RunsBy keys k turns trace shares = ByTrace flow was is before after status trace (open_line false) (λ t u. RunDone ring_kind ring_lives disk (manner beat (not turns) k shares) tape keys old new before after t u status) old new
+    RunsBy keys k turns trace shares = ByTrace flow was is before after status trace (open_line false) (λ t u. RunDone ring_kind ring_lives ring_audits disk (manner beat (not turns) k shares) tape keys old new before after t u status) old new
 
     abbrev FormatTells : List (List ℕ) → Option (List ℕ) → Type 0
     FormatTells numbers trace = Tell Memory ⊎ (((field : Field) × IsBadNumber numbers field × Tell (BadParams field))
@@ -283,8 +284,8 @@ module _ (before mid after : Outside) (status : ℕ) (input : after.input ≡ mi
       formats_by store keys numbers trace found (Format p traced) fits does = (
         p,
         fits.0,
-        by_trace (Format p traced) found traced trace fits.1 does (λ t u. FormatDone ring_kind ring_lives disk tape found p old new before after t u status)
-            (λ t u watched. format_done ring_kind ring_quiet ring_lives disk tape found p old new before mid after t u status err watched.0 watched.1 watched.2 input done),
+        by_trace (Format p traced) found traced trace fits.1 does (λ t u. FormatDone ring_kind ring_lives ring_audits disk tape found p old new before after t u status)
+            (λ t u watched. format_done ring_kind ring_quiet ring_lives ring_audits disk tape found p old new before mid after t u status err watched.0 watched.1 watched.2 input done),
       )
       formats_by store keys numbers trace found (Run k by_hand traced mirrored shares) fits does = absurd fits
 
@@ -296,8 +297,8 @@ module _ (before mid after : Outside) (status : ℕ) (input : after.input ≡ mi
         shares,
         limited,
         subst (λ (b : Bool). RunsBy found k b trace shares) same
-            (by_trace (Run k by_hand traced mirrored shares) found traced trace given does (λ t u. RunDone ring_kind ring_lives disk (manner beat (not by_hand) k shares) tape found old new before after t u status)
-            (λ t u on. run_done ring_kind ring_quiet ring_lives disk (manner beat (not by_hand) k shares) tape found old new before mid after t u input status err on done)),
+            (by_trace (Run k by_hand traced mirrored shares) found traced trace given does (λ t u. RunDone ring_kind ring_lives ring_audits disk (manner beat (not by_hand) k shares) tape found old new before after t u status)
+            (λ t u on. run_done ring_kind ring_quiet ring_lives ring_audits disk (manner beat (not by_hand) k shares) tape found old new before mid after t u input status err on done)),
       )
       runs_by store keys lanes turns trace mirror limits found (Format p traced) fits does = absurd fits
 

@@ -32,9 +32,11 @@ use Rattle.ob_top.specs.Outside.{ErrTold, Given, blind, HasTrace, Outside, IsOnl
 use Rattle.ob_top.specs.Formats.{FormatEnds, FormatDone}
 use Rattle.ob_vault.specs.RingKind.{RingMayStop, ring_kind}
 use Rattle.ob_vault.specs.RingLives.{ring_lives}
+use Rattle.ob_top.specs.Audited.{ring_audits}
 use Rattle.ob_vault.specs.Keeping.{AreStandingLaws}
 use Rattle.ob_vault.specs.Kinds.{StoreKind}
 use Rattle.ob_vault.specs.KindLives.{LifeWords}
+use Rattle.ob_top.specs.Audited.{AuditWords}
 use Rattle.ob_vault.specs.Shapes.{Shape, refused, shapes}
 use Rattle.ob_conduct.specs.Acts.{calls}
 use Rattle.ob_shares.specs.declared.shares.Shares.{Shares}
@@ -53,7 +55,7 @@ use Rattle.ob_words.proofs.Named.{no_bad_number, no_bad_lanes, one_shares, one_k
 pub rose_added : (text : List ℕ) (t u : Trace) → AddsOnly text t u → t.broken ≡ false → u.broken ≡ true → Rose t.faults u.faults
 rose_added text t u adds whole broken = subst (λ (b : Bool). BreaksOnly false b t.faults u.faults) broken (subst (λ (b : Bool). BreaksOnly b u.broken t.faults u.faults) whole adds.breaks)
 
-format_fault : {S : Type 0} (disk : S → Disk) (tape : Given) (keys : Keys) (p : Params) (old new : S) (before written after : Flow) (t u : Trace) (f : Option RunErr) → FormatEnds ring_kind ring_lives disk tape keys p old new before written t u f → ErrTold written after f
+format_fault : {S : Type 0} (disk : S → Disk) (tape : Given) (keys : Keys) (p : Params) (old new : S) (before written after : Flow) (t u : Trace) (f : Option RunErr) → FormatEnds ring_kind ring_lives ring_audits disk tape keys p old new before written t u f → ErrTold written after f
     → (Rose (disk old).faults (disk new).faults → ⊥) → (Rose before.faults after.faults → ⊥) → (t.broken ≡ false) → (Rose t.faults u.faults → ⊥) → (status_of (told_fault f) ≡ 0) ⊎ (status_of (told_fault f) ≡ 9)
 format_fault disk tape keys p old new before written after t u None told line store output whole watch = inl refl
 format_fault disk tape keys p old new before written after t u (Some failed.Unwatched) told line store output whole watch = absurd (watch (rose_added (lines_of (ring_kind.format_notes p)) t u told.2.0 whole told.2.1))
@@ -74,7 +76,7 @@ format_fault disk tape keys p old new before written after t u (Some (failed.Fau
 keys_few : (p : Params) → p.keys ≤ 2 ^ 32
 keys_few p = omega (arith, p.in_range.few_keys)
 
-module _ (store : StoreKind) (laws : AreStandingLaws store) (life : LifeWords store) {S : Type 0} (disk : S → Disk) (words : List (List ℕ)) (text : Option (Bor (List ℕ))) (old new : S) {W : Type 0} (flow : W → Flow) (was is : Option W) (before after : Outside) (script : Scripts)
+module _ (store : StoreKind) (laws : AreStandingLaws store) (life : LifeWords store) (audit : AuditWords store) {S : Type 0} (disk : S → Disk) (words : List (List ℕ)) (text : Option (Bor (List ℕ))) (old new : S) {W : Type 0} (flow : W → Flow) (was is : Option W) (before after : Outside) (script : Scripts)
     (can : CanRun flow words text (disk old) (disk new) was is before after store script) where
   input_is : (input : List ℕ) → IsInput before.input.bytes limit input → input ≡ take (limit + 1) can.bytes
   input_is input is = subst (λ (b : Option (List ℕ)). IsInput b limit input) can.told is
@@ -137,19 +139,19 @@ module _ (store : StoreKind) (laws : AreStandingLaws store) (life : LifeWords st
     pub first : Trace
     pub last : Trace
     pub written : Flow
-    pub ran : Ran store life disk by tape can.keys old new before (outside after.input written) first last records (Some (failed.Fault told))
+    pub ran : Ran store life audit disk by tape can.keys old new before (outside after.input written) first last records (Some (failed.Fault told))
 
   module _ (by : Manner) (shared : by.shares ≡ can.shares) (tape : Given) (records : List (EpochRecord ℕ)) (t u : Trace) (written : Flow) (whole : t.broken ≡ false) (watch : Rose t.faults u.faults → ⊥) where
-    ran_keys : (f : Option RunErr) (r : Ran store life disk by tape can.keys old new before (outside after.input written) t u records f) → r.p.keys ≡ can.p.keys
+    ran_keys : (f : Option RunErr) (r : Ran store life audit disk by tape can.keys old new before (outside after.input written) t u records f) → r.p.keys ≡ can.p.keys
     ran_keys f r = many_keys r.p r.opened.head
 
-    ran_epoch : (f : Option RunErr) (r : Ran store life disk by tape can.keys old new before (outside after.input written) t u records f) → store.epoch r.found ≡ can.at.epoch
+    ran_epoch : (f : Option RunErr) (r : Ran store life audit disk by tape can.keys old new before (outside after.input written) t u records f) → store.epoch r.found ≡ can.at.epoch
     ran_epoch f r = laws.finds can.keys can.p can.generation (disk old).cells can.at r.found can.stands (subst (λ (q : Params). store.finds can.keys q (disk old).cells r.found) (one_p r.p r.opened.head) (r.opened.finds can.tells))
 
-    ran_script : (f : Option RunErr) (r : Ran store life disk by tape can.keys old new before (outside after.input written) t u records f) → r.script ≡ script
+    ran_script : (f : Option RunErr) (r : Ran store life audit disk by tape can.keys old new before (outside after.input written) t u records f) → r.script ≡ script
     ran_script f r = came_one r.p.keys r.script (ran_keys f r) r.opened.came
 
-    ran_few : (f : Option RunErr) (r : Ran store life disk by tape can.keys old new before (outside after.input written) t u records f) → length r.serving.records ≤ length script.txns
+    ran_few : (f : Option RunErr) (r : Ran store life audit disk by tape can.keys old new before (outside after.input written) t u records f) → length r.serving.records ≤ length script.txns
     ran_few f r =
         let served = r.serving.is_served.served in
         let epochs = few_epochs r.serving.records served.some in
@@ -157,21 +159,21 @@ module _ (store : StoreKind) (laws : AreStandingLaws store) (life : LifeWords st
         subst (λ (s : Scripts). length r.serving.records ≤ length s.txns) (ran_script f r) (omega (arith, epochs, txns))
 
     -- what stands was opened, so its map was found
-    ran_map : (f : Option RunErr) (r : Ran store life disk by tape can.keys old new before (outside after.input written) t u records f) → store.is_map can.keys can.p (disk r.between) r.found can.at.content
+    ran_map : (f : Option RunErr) (r : Ran store life audit disk by tape can.keys old new before (outside after.input written) t u records f) → store.is_map can.keys can.p (disk r.between) r.found can.at.content
     ran_map f r =
         let same = one_p r.p r.opened.head in
         subst (λ (q : Params). store.is_map can.keys q (disk r.between) r.found can.at.content) same
         (r.stood can.at can.tells (can.generation, subst (λ (q : Params). store.stands can.keys q can.generation (disk old).cells can.at) (sym same) can.stands)).content
 
     -- a fault of the kind is one that may stop it even so
-    may_stop : (f : Fault) (r : Ran store life disk by tape can.keys old new before (outside after.input written) t u records (Some (failed.Fault f))) (h : store.Hidden) (so_far : List Shape) (call : Option VaultCall)
+    may_stop : (f : Fault) (r : Ran store life audit disk by tape can.keys old new before (outside after.input written) t u records (Some (failed.Fault f))) (h : store.Hidden) (so_far : List Shape) (call : Option VaultCall)
         → store.causes can.keys r.p r.found (disk r.between) (disk new) h so_far (length r.serving.records) call tape.words f → store.may_stop can.p f
     may_stop f r h so_far call cause =
         laws.serves can.keys can.p can.generation (length script.txns) (length r.serving.records) r.found (disk r.between) (disk new) h so_far call tape.words f can.at.content
         (subst (λ e. store.lasts can.p can.generation e (length script.txns)) (sym (ran_epoch (Some (failed.Fault f)) r)) can.lasts) (ran_few (Some (failed.Fault f)) r) (ran_map (Some (failed.Fault f)) r)
         (subst (λ (q : Params). store.causes can.keys q r.found (disk r.between) (disk new) h so_far (length r.serving.records) call tape.words f) (one_p r.p r.opened.head) cause)
 
-    ran_fault : (f : Fault) (r : Ran store life disk by tape can.keys old new before (outside after.input written) t u records (Some (failed.Fault f))) (h : store.Hidden) (so_far : List Shape) (call : Option VaultCall)
+    ran_fault : (f : Fault) (r : Ran store life audit disk by tape can.keys old new before (outside after.input written) t u records (Some (failed.Fault f))) (h : store.Hidden) (so_far : List Shape) (call : Option VaultCall)
         → EndsFor store can.keys r.p r.found (disk r.between) h so_far (length r.serving.records) call tape.words (disk r.between) (disk new) before.output written r.midway u (Some (failed.Fault f))
         → ErrTold written after.output (Some (failed.Fault f))
         → (status_of (Some f) ≡ 9) ⊎ store.may_stop can.p f
@@ -191,17 +193,17 @@ module _ (store : StoreKind) (laws : AreStandingLaws store) (life : LifeWords st
     abbrev pub Answers : ℕ → Type 0
     Answers status = (status ≡ 0) ⊎ ((status ≡ 9) ⊎ StopsFor by tape status)
 
-    by_fault : (status : ℕ) (f : Fault) → status ≡ status_of (Some f) → Ran store life disk by tape can.keys old new before (outside after.input written) t u records (Some (failed.Fault f)) → (status_of (Some f) ≡ 9) ⊎ store.may_stop can.p f → Answers status
+    by_fault : (status : ℕ) (f : Fault) → status ≡ status_of (Some f) → Ran store life audit disk by tape can.keys old new before (outside after.input written) t u records (Some (failed.Fault f)) → (status_of (Some f) ≡ 9) ⊎ store.may_stop can.p f → Answers status
     by_fault status f is ran (inl nine) = inr (inl (is ∙ nine))
     by_fault status f is ran (inr may) = inr (inr (record { told = f; may = may; status_is = is; records = records; first = t; last = u; written = written; ran = ran }))
 
-    answers : (status : ℕ) (f : Option RunErr) → status ≡ status_of (told_fault f) → ErrTold written after.output f → Went store life disk by tape can.keys old new before (outside after.input written) t u records f → Answers status
+    answers : (status : ℕ) (f : Option RunErr) → status ≡ status_of (told_fault f) → ErrTold written after.output f → Went store life audit disk by tape can.keys old new before (outside after.input written) t u records f → Answers status
     answers status None is line ran = inl is
     answers status (Some f) is line (inl (none, ended, lives)) = inr (inl (is ∙ early by.head by.lanes t u f whole watch (subst (λ (x : Shares). EndsEarly store life by.head can.keys by.lanes x (disk old) (disk new) t u disk before.input after.input f) shared ended)))
     answers status (Some (failed.Fault f)) is line (inr ran) = by_fault status f is ran (ran_fault f ran ran.serving.traced.behind (shapes (calls ran.serving.is_served.served.evidence.acts)) (refused (calls ran.serving.is_served.served.evidence.acts)) ran.serving.cause line)
     answers status (Some failed.Unwatched) is line (inr ran) = absurd (watch (rose_later t.faults ran.midway.faults u.faults ran.opening_shown.faults ran.serving.cause.1))
 
-  pub run_answers : (by : Manner) → by.shares ≡ can.shares → (tape : Given) (status : ℕ) (t u : Trace) → t.broken ≡ false → (Rose t.faults u.faults → ⊥) → RunDone store life disk by tape can.keys old new before after t u status → (status ≡ 0) ⊎ ((status ≡ 9) ⊎ StopsFor by tape status)
+  pub run_answers : (by : Manner) → by.shares ≡ can.shares → (tape : Given) (status : ℕ) (t u : Trace) → t.broken ≡ false → (Rose t.faults u.faults → ⊥) → RunDone store life audit disk by tape can.keys old new before after t u status → (status ≡ 0) ⊎ ((status ≡ 9) ⊎ StopsFor by tape status)
   run_answers by shared tape status t u whole watch d = answers by shared tape d.records t u d.written whole watch status d.err d.status_is d.line d.went
 
 -- ---- the trace
@@ -243,17 +245,17 @@ module _ {S W : Type 0} (disk : S → Disk) (flow : W → Flow) (beat : BeatKind
 
   abbrev pub FormatTells : List (List ℕ) → Option (List ℕ) → Type 0
   FormatTells numbers trace = Tell fault.Memory ⊎ (((field : Field) × IsBadNumber numbers field × Tell (fault.BadParams field))
-      ⊎ ((p : Params) × AreParams numbers p × (KeysTell ⊎ ((keys : Keys) × HasKeys text keys × ByTrace flow was is before after status trace (start_line p) (λ t u. FormatDone ring_kind ring_lives disk tape keys p old new before after t u status) old new))))
+      ⊎ ((p : Params) × AreParams numbers p × (KeysTell ⊎ ((keys : Keys) × HasKeys text keys × ByTrace flow was is before after status trace (start_line p) (λ t u. FormatDone ring_kind ring_lives ring_audits disk tape keys p old new before after t u status) old new))))
 
   abbrev pub RunTells : Option (List ℕ) → Bool → Option (List ℕ) → AskedShares → Type 0
   RunTells lanes turns trace limits = Tell fault.Memory ⊎ ((AreBadLanes lanes × Tell (fault.BadParams LANES))
-      ⊎ ((k : ℕ) × AreLanes lanes k × (shares : Shares) × AreShares limits shares × (KeysTell ⊎ ((keys : Keys) × HasKeys text keys × ByTrace flow was is before after status trace (open_line false) (λ t u. RunDone ring_kind ring_lives disk (manner beat (not turns) k shares) tape keys old new before after t u status) old new))))
+      ⊎ ((k : ℕ) × AreLanes lanes k × (shares : Shares) × AreShares limits shares × (KeysTell ⊎ ((keys : Keys) × HasKeys text keys × ByTrace flow was is before after status trace (open_line false) (λ t u. RunDone ring_kind ring_lives ring_audits disk (manner beat (not turns) k shares) tape keys old new before after t u status) old new))))
 
   format_whole : (can : CanFormat flow words text (disk old) (disk new) was is before after) → FormatTells can.numbers can.trace → (status ≡ 0) ⊎ (status ≡ 9)
   format_whole can (inl (kept, told)) = inr told.status_is
   format_whole can (inr (inl (field, bad, (kept, told)))) = absurd (no_bad_number can.numbers can.p field can.params bad)
   format_whole can (inr (inr (p, are, inl (f, refused, (kept, told))))) = absurd (keys_stand text can.keys f can.has refused)
-  format_whole can (inr (inr (p, are, inr (keys, has, by)))) = of_trace flow was is before after status (start_line p) can.trace (λ t u. FormatDone ring_kind ring_lives disk tape keys p old new before after t u status) old new can.trace_holds by ((status ≡ 0) ⊎ (status ≡ 9))
+  format_whole can (inr (inr (p, are, inr (keys, has, by)))) = of_trace flow was is before after status (start_line p) can.trace (λ t u. FormatDone ring_kind ring_lives ring_audits disk tape keys p old new before after t u status) old new can.trace_holds by ((status ≡ 0) ⊎ (status ≡ 9))
       (λ t u whole watch d. ⊎_elim (λ none. inl (d.status_is ∙ none)) (λ nine. inr (d.status_is ∙ nine)) (format_fault disk tape keys p old new before.output d.written after.output t u d.err d.told d.line can.store_holds can.output_holds whole watch))
 
   module _ (script : Scripts) (can : CanRun flow words text (disk old) (disk new) was is before after ring_kind script) where
@@ -263,7 +265,7 @@ module _ {S W : Type 0} (disk : S → Disk) (flow : W → Flow) (beat : BeatKind
     abbrev Full : Type 0
     Full = StopsFull disk flow beat tape words text was is before after status by can.keys can.p old new
 
-    by_stop : (f : Fault) → RingMayStop can.p f → status ≡ status_of (Some f) → (records : List (EpochRecord ℕ)) (t u : Trace) (written : Flow) → Ran ring_kind ring_lives disk by tape can.keys old new before (outside after.input written) t u records (Some (failed.Fault f)) → Full
+    by_stop : (f : Fault) → RingMayStop can.p f → status ≡ status_of (Some f) → (records : List (EpochRecord ℕ)) (t u : Trace) (written : Flow) → Ran ring_kind ring_lives ring_audits disk by tape can.keys old new before (outside after.input written) t u records (Some (failed.Fault f)) → Full
     by_stop (fault.StashFull rows) (past, few) is records t u written ran = record { status_is = is; fewer = omega (arith, past, few); records = records; rows = rows; first = t; last = u; written = written; ran = ran }
     by_stop fault.Memory may is records t u written ran = absurd may
     by_stop fault.Usage may is records t u written ran = absurd may
@@ -277,7 +279,7 @@ module _ {S W : Type 0} (disk : S → Disk) (flow : W → Flow) (beat : BeatKind
     by_stop fault.SinkFault may is records t u written ran = absurd may
 
     abbrev Stopped : Type 0
-    Stopped = StopsFor ring_kind ring_keeps ring_lives disk words text old new flow was is before after script can by tape status
+    Stopped = StopsFor ring_kind ring_keeps ring_lives ring_audits disk words text old new flow was is before after script can by tape status
 
     by_answer : (status ≡ 0) ⊎ ((status ≡ 9) ⊎ Stopped) → (status ≡ 0) ⊎ ((status ≡ 9) ⊎ Full)
     by_answer (inl none) = inl none
@@ -288,12 +290,12 @@ module _ {S W : Type 0} (disk : S → Disk) (flow : W → Flow) (beat : BeatKind
     run_whole (inl (kept, told)) = inr (inl told.status_is)
     run_whole (inr (inl (bad, (kept, told)))) = absurd (no_bad_lanes can.lanes can.k can.in_range bad)
     run_whole (inr (inr (k, are, shares, given, inl (f, refusal, (kept, told))))) = absurd (keys_stand text can.keys f can.has refusal)
-    run_whole (inr (inr (k, are, shares, given, inr (keys, has, done)))) = of_trace flow was is before after status (open_line false) can.trace (λ t u. RunDone ring_kind ring_lives disk (manner beat (not can.turns) k shares) tape keys old new before after t u status) old new can.trace_holds done
+    run_whole (inr (inr (k, are, shares, given, inr (keys, has, done)))) = of_trace flow was is before after status (open_line false) can.trace (λ t u. RunDone ring_kind ring_lives ring_audits disk (manner beat (not can.turns) k shares) tape keys old new before after t u status) old new can.trace_holds done
         ((status ≡ 0) ⊎ ((status ≡ 9) ⊎ Full)) (λ t u whole watch d.
-        by_answer (run_answers ring_kind ring_keeps ring_lives disk words text old new flow was is before after script can by refl tape status t u whole watch
-        (subst (λ (k : Keys). RunDone ring_kind ring_lives disk by tape k old new before after t u status) (one_keys text keys can.keys has can.has)
-        (subst (λ m. RunDone ring_kind ring_lives disk (manner beat (not can.turns) m can.shares) tape keys old new before after t u status) (one_lanes can.lanes k can.k are can.in_range)
-        (subst (λ (x : Shares). RunDone ring_kind ring_lives disk (manner beat (not can.turns) k x) tape keys old new before after t u status) (one_shares can.limits shares can.shares given can.given) d)))))
+        by_answer (run_answers ring_kind ring_keeps ring_lives ring_audits disk words text old new flow was is before after script can by refl tape status t u whole watch
+        (subst (λ (k : Keys). RunDone ring_kind ring_lives ring_audits disk by tape k old new before after t u status) (one_keys text keys can.keys has can.has)
+        (subst (λ m. RunDone ring_kind ring_lives ring_audits disk (manner beat (not can.turns) m can.shares) tape keys old new before after t u status) (one_lanes can.lanes k can.k are can.in_range)
+        (subst (λ (x : Shares). RunDone ring_kind ring_lives ring_audits disk (manner beat (not can.turns) k x) tape keys old new before after t u status) (one_shares can.limits shares can.shares given can.given) d)))))
 
   pub completes : ((store keys : List ℕ) (numbers : List (List ℕ)) (trace : Option (List ℕ)) → asked_by words ≡ Some (format_asked store keys numbers trace) → FormatTells numbers trace)
       → ((store keys : List ℕ) (lanes : Option (List ℕ)) (turns : Bool) (trace mirror : Option (List ℕ)) (limits : AskedShares) → asked_by words ≡ Some (run_asked store keys lanes turns trace mirror limits) → RunTells lanes turns trace limits)

@@ -19,6 +19,7 @@ use Rattle.ob_serial.specs.Serial.{Map}
 use Rattle.ob_serial.specs.VaultKinds.{AllCalled, Called, Kind, ended_of}
 use Rattle.ob_vault.specs.Hidden.{RingHidden}
 use Rattle.ob_vault.specs.RingLives.{ring_lives}
+use Rattle.ob_top.specs.Audited.{ring_audits}
 use Rattle.ob_vault.specs.RingKind.{GoesOnFrom, IsRingMap, RingFound, ring_hidden, ring_kind, ring_public}
 use Rattle.ob_vault.specs.RingSteps.{HasRingWords}
 use Rattle.ob_vault.specs.RingVaults.{HasPlanned, RingHolds, Running, lent_both}
@@ -123,7 +124,7 @@ module _ {V S : Type 0} (k : Kind V) (counts : V → VaultCounts) (agrees : (x :
 
     -- the script was served as `run` serves one
     served_as : (mid : V) (result : Result (Unit {0}) RunErr) → WasRun k counts beat p script runners first mid result
-        → (s : ServedOver ring_kind ring_lives disk (manner beat true 4 no_shares) keys p f (f.run).sealer script (told_by (runs mid)) (runs first).store (runs mid).store no_output no_output blind blind (err_of result))
+        → (s : ServedOver ring_kind ring_lives ring_audits disk (manner beat true 4 no_shares) keys p f (f.run).sealer script (told_by (runs mid)) (runs first).store (runs mid).store no_output no_output blind blind (err_of result))
         × CallsBehind k first (calls s.is_served.served.evidence.acts) mid (err_of result)
     served_as mid result run =
         serves_lent first k beat true p no_shares script blind runners no_output mid blind run.ran no_output result _ _ (run.desk, run.by) refl (subst AreSound (sym script_is) (drill_sound n)) (none_fit (length script.clients) p.places p.writes) are disk counts_now only_now runs words lent keys 4 found f f.run goes run_is refl epoch_is left_is
@@ -132,7 +133,7 @@ module _ {V S : Type 0} (k : Kind V) (counts : V → VaultCounts) (agrees : (x :
     -- all was served, and then read
     pub served_and_read : (last : V) (d : Drilled) → HasDrilled k counts beat p script runners first last d → IsServedAndRead disk beat keys p n f (runs first).store (runs last).store
     served_and_read last d h =
-        let (s, its) = subst (λ (x : Scripts). (s : ServedOver ring_kind ring_lives disk (manner beat true 4 no_shares) keys p f (f.run).sealer x (told_by (runs h.mid)) (runs first).store (runs h.mid).store no_output no_output blind blind None) × CallsBehind k first
+        let (s, its) = subst (λ (x : Scripts). (s : ServedOver ring_kind ring_lives ring_audits disk (manner beat true 4 no_shares) keys p f (f.run).sealer x (told_by (runs h.mid)) (runs first).store (runs h.mid).store no_output no_output blind blind None) × CallsBehind k first
         (calls s.is_served.served.evidence.acts) h.mid None) script_is (served_as h.mid (Ok tt) h.run) in
         let asked = calls s.is_served.served.evidence.acts in
         let reads = h.reads.steps in

@@ -24,6 +24,7 @@ use Rattle.ob_top.specs.Outside.{Given, Outside, ErrTold, IsCommandFinished, out
 use Rattle.ob_top.specs.Formats.{FormatEnds, FormatDone}
 use Rattle.ob_vault.specs.Kinds.{StoreKind}
 use Rattle.ob_vault.specs.KindLives.{LifeWords}
+use Rattle.ob_top.specs.Audited.{AuditWords}
 use Rattle.ob_top.specs.Endings.{LinesStand, told_fault}
 use Rattle.ob_top.specs.Runs.{Went, RunOn, RunDone}
 use Rattle.ob_top.specs.Parts.{IsInClearBehind, Manner}
@@ -53,7 +54,7 @@ front before after text more p rose = record {
   whole = inr rose;
 }
 
-module _ (store : StoreKind) (quiet : IsQuiet store) (life : LifeWords store) where
+module _ (store : StoreKind) (quiet : IsQuiet store) (life : LifeWords store) (audit : AuditWords store) where
   module _ {S : Type 0} (disk : S → Disk) (by : Manner) (tape : Given) (keys : Keys) (old new : S) (before mid after : Outside) (t u : Trace) (input : after.input ≡ mid.input) where
     -- what stood in the output before the fault's line
     abbrev As : Outside
@@ -62,11 +63,11 @@ module _ (store : StoreKind) (quiet : IsQuiet store) (life : LifeWords store) wh
     as_written : mid ≡ As
     as_written = ap (λ (f : Flow). outside f mid.output) (sym input)
 
-    went_on : (records : List (EpochRecord ℕ)) (err : Option RunErr) → Went store life disk by tape keys old new before mid t u records err → Went store life disk by tape keys old new before As t u records err
-    went_on records err went = subst (λ (o : Outside). Went store life disk by tape keys old new before o t u records err) as_written went
+    went_on : (records : List (EpochRecord ℕ)) (err : Option RunErr) → Went store life audit disk by tape keys old new before mid t u records err → Went store life audit disk by tape keys old new before As t u records err
+    went_on records err went = subst (λ (o : Outside). Went store life audit disk by tape keys old new before o t u records err) as_written went
 
     module _ (status : ℕ) where
-      done_whole : (r : RunOn store life disk by tape keys old new before mid t u None) → IsCommandFinished mid.output after.output None status → RunDone store life disk by tape keys old new before after t u status
+      done_whole : (r : RunOn store life audit disk by tape keys old new before mid t u None) → IsCommandFinished mid.output after.output None status → RunDone store life audit disk by tape keys old new before after t u status
       done_whole r f =
           let bytes : after.output.bytes ≡ appended before.output.bytes (report decimal r.records) = ap (λ (o : Flow). o.bytes) f.line ∙ r.lines.0.bytes in
           record {
@@ -84,13 +85,13 @@ module _ (store : StoreKind) (quiet : IsQuiet store) (life : LifeWords store) wh
             clear = r.clear;
           }
 
-      sink_rose : (records : List (EpochRecord ℕ)) → Went store life disk by tape keys old new before mid t u records (Some (failed.Fault SinkFault)) → Rose before.output.faults mid.output.faults
+      sink_rose : (records : List (EpochRecord ℕ)) → Went store life audit disk by tape keys old new before mid t u records (Some (failed.Fault SinkFault)) → Rose before.output.faults mid.output.faults
       sink_rose records (inl (none, inl head, lives)) = absurd (quiet.head head.kind)
       sink_rose records (inl (none, inr (inl input), lives)) = absurd (not_sink input.p by.shares before.input mid.input input.refused)
       sink_rose records (inl (none, inr (inr opening), lives)) = absurd (quiet.opening opening.kind)
       sink_rose records (inr ran) = ran.serving.cause
 
-      done_sink : (r : RunOn store life disk by tape keys old new before mid t u (Some (failed.Fault SinkFault))) → IsCommandFinished mid.output after.output (Some (failed.Fault SinkFault)) status → RunDone store life disk by tape keys old new before after t u status
+      done_sink : (r : RunOn store life audit disk by tape keys old new before mid t u (Some (failed.Fault SinkFault))) → IsCommandFinished mid.output after.output (Some (failed.Fault SinkFault)) status → RunDone store life audit disk by tape keys old new before after t u status
       done_sink r f = record {
         err = Some (failed.Fault SinkFault);
         status_is = f.status_is;
@@ -113,8 +114,8 @@ module _ (store : StoreKind) (quiet : IsQuiet store) (life : LifeWords store) wh
       -- anything else, behind the whole report
       done_other : (err : RunErr) (records : List (EpochRecord ℕ)) (whole : ℕ) → LinesStand (Some err) records whole before.output mid.output → ErrTold mid.output after.output (Some err)
           → mid.output.bytes ≡ appended before.output.bytes (report decimal records) → before.output.faults ≤ mid.output.faults → IsPrinted mid.output after.output (fault_line (told_fault (Some err))) → status ≡ status_of (told_fault (Some err))
-          → Went store life disk by tape keys old new before As t u records (Some err) → StandsOn store disk keys old new
-          → ((disk new).tells → IsInClearBehind keys (disk old) (disk new) (Some err)) → RunDone store life disk by tape keys old new before after t u status
+          → Went store life audit disk by tape keys old new before As t u records (Some err) → StandsOn store disk keys old new
+          → ((disk new).tells → IsInClearBehind keys (disk old) (disk new) (Some err)) → RunDone store life audit disk by tape keys old new before after t u status
       done_other err records whole lines told bytes later line status_is went sound clear = record {
         err = Some err;
         status_is = status_is;
@@ -133,7 +134,7 @@ module _ (store : StoreKind) (quiet : IsQuiet store) (life : LifeWords store) wh
           no_err : ◌≡◌ {A = Option RunErr} (Some err) None → ⊥
           no_err is = cc is
 
-      pub run_done : (err : Option RunErr) → RunOn store life disk by tape keys old new before mid t u err → IsCommandFinished mid.output after.output err status → RunDone store life disk by tape keys old new before after t u status
+      pub run_done : (err : Option RunErr) → RunOn store life audit disk by tape keys old new before mid t u err → IsCommandFinished mid.output after.output err status → RunDone store life audit disk by tape keys old new before after t u status
       run_done None r f = done_whole r f
       run_done (Some (failed.Fault SinkFault)) r f = done_sink r f
       run_done (Some failed.Unwatched) r f = done_other failed.Unwatched r.records r.whole r.lines f.line r.lines.0.bytes r.lines.0.later f.line f.status_is (went_on r.records (Some failed.Unwatched) r.went) r.sound r.clear
@@ -153,9 +154,9 @@ module _ (store : StoreKind) (quiet : IsQuiet store) (life : LifeWords store) wh
       run_done (Some (failed.Fault (Worn number))) r f = done_other (failed.Fault (Worn number)) r.records r.whole r.lines f.line r.lines.0.bytes r.lines.0.later f.line f.status_is (went_on r.records (Some (failed.Fault (Worn number))) r.went) r.sound r.clear
       run_done (Some (failed.Fault SourceFault)) r f = done_other (failed.Fault SourceFault) r.records r.whole r.lines f.line r.lines.0.bytes r.lines.0.later f.line f.status_is (went_on r.records (Some (failed.Fault SourceFault)) r.went) r.sound r.clear
 
-  pub format_done : {S : Type 0} (disk : S → Disk) (tape : Given) (keys : Keys) (p : Params) (old new : S) (before mid after : Outside) (t u : Trace) (status : ℕ) (err : Option RunErr) → FormatEnds store life disk tape keys p old new before.output mid.output t u err
+  pub format_done : {S : Type 0} (disk : S → Disk) (tape : Given) (keys : Keys) (p : Params) (old new : S) (before mid after : Outside) (t u : Trace) (status : ℕ) (err : Option RunErr) → FormatEnds store life audit disk tape keys p old new before.output mid.output t u err
       → ((disk old).tells → LeavesOnly (disk old) (disk new) (store.format_leaves keys p tape.words (disk old))) → mid.input ≡ before.input → after.input ≡ mid.input
-      → IsCommandFinished mid.output after.output err status → FormatDone store life disk tape keys p old new before after t u status
+      → IsCommandFinished mid.output after.output err status → FormatDone store life audit disk tape keys p old new before after t u status
   format_done disk tape keys p old new before mid after t u status err ends leaves first second f = record {
     err = err;
     status_is = f.status_is;
@@ -165,5 +166,5 @@ module _ (store : StoreKind) (quiet : IsQuiet store) (life : LifeWords store) wh
     line = f.line;
     left = leaves;
     sound = λ zero tells.
-        formatted_sound store life disk tape keys p old new (subst (λ (x : Option RunErr). FormatEnds store life disk tape keys p old new before.output mid.output t u x) (none_told_at_0 err (sym f.status_is ∙ zero)) ends).0 tells;
+        formatted_sound store life audit disk tape keys p old new (subst (λ (x : Option RunErr). FormatEnds store life audit disk tape keys p old new before.output mid.output t u x) (none_told_at_0 err (sym f.status_is ∙ zero)) ends).0 tells;
   }

@@ -44,6 +44,7 @@ use Rattle.ob_vault.specs.Acts.{AreBatchesSmall, AreTapeWords}
 use Rattle.ob_vault.specs.Kinds.{AllStand, IsOpenedAt, Stands, StandsAsBefore}
 use Rattle.ob_vault.specs.Lives.{IsLeftInLife, IsNextInLife, IsOpenedInLife, IsRunInLife, opening_acts}
 use Rattle.ob_vault.specs.RingLives.{ring_lives}
+use Rattle.ob_top.specs.Audited.{ring_audits}
 use Rattle.ob_vault.specs.RingKind.{RingFound, ring_hidden, ring_kind}
 use Rattle.ob_vault.specs.Shapes.{Shape, answered, refused, shapes}
 use Rattle.ob_words.proofs.Named.{keys_stand, no_bad_lanes, one_keys, one_shares}
@@ -103,7 +104,7 @@ module _ {S : Type 0} (disk : S → Disk) (keys : Keys) (call : RunCall S) (t u 
     abbrev Output : List (EpochRecord ℕ) → Type 0
     Output records = (call.status ≡ status_of (told_fault err)) × IsPrinted call.before.output call.after.output (report decimal records ++ fault_line (told_fault err)) × (err ≡ None → call.after.output.bytes ≡ appended call.before.output.bytes (report decimal records))
 
-    module _ (records : List (EpochRecord ℕ)) (r : Ran ring_kind ring_lives disk call.by call.tape keys call.old call.new call.before (outside call.after.input written) t u records err) (stood : Stood disk keys r.p at past call.tape call.old) where
+    module _ (records : List (EpochRecord ℕ)) (r : Ran ring_kind ring_lives ring_audits disk call.by call.tape keys call.old call.new call.before (outside call.after.input written) t u records err) (stood : Stood disk keys r.p at past call.tape call.old) where
       abbrev p : Params
       p = r.p
 
@@ -304,7 +305,7 @@ module _ {S : Type 0} (disk : S → Disk) (keys : Keys) (call : RunCall S) (t u 
 
     module _ (only_now : (x : S) (c : Image) → (disk x).left_since (disk x).moment c → (disk x).may_leave c)
         (records : List (EpochRecord ℕ)) (output : Output records) (sound : StandsOn ring_kind disk keys call.old call.new) (p : Params) (stood : Stood disk keys p at past call.tape call.old) where
-      by_run : Ran ring_kind ring_lives disk call.by call.tape keys call.old call.new call.before (outside call.after.input written) t u records err → Promised disk keys p at past call
+      by_run : Ran ring_kind ring_lives ring_audits disk call.by call.tape keys call.old call.new call.before (outside call.after.input written) t u records err → Promised disk keys p at past call
       by_run r =
           let same : r.p ≡ p = sym (one_p only_now p stood sound r.p r.opened.head) in
           subst (λ (q : Params). Stood disk keys q at past call.tape call.old → Promised disk keys q at past call) same (λ so. inl (by_ran records r so output)) stood
@@ -312,14 +313,14 @@ module _ {S : Type 0} (disk : S → Disk) (keys : Keys) (call : RunCall S) (t u 
   module _ (only_now : (x : S) (c : Image) → (disk x).left_since (disk x).moment c → (disk x).may_leave c) (includes_reads : (x : S) → (disk x).tells → (disk x).leaves → (disk x).may_leave (disk x).cells) (goes : GoesOn (disk call.old) (disk call.new))
       (p : Params) (at : Standing) (past : PastLife) (stood : Stood disk keys p at past call.tape call.old) (whole : t.broken ≡ false) where
     by_went : (records : List (EpochRecord ℕ)) (err : Option RunErr) (written : Flow) (line : ErrTold written call.after.output err) → Output includes_reads goes at past err written line records → StandsOn ring_kind disk keys call.old call.new
-        → ((disk call.new).tells → IsInClearBehind keys (disk call.old) (disk call.new) err) → Went ring_kind ring_lives disk call.by call.tape keys call.old call.new call.before (outside call.after.input written) t u records err → Promised disk keys p at past call
+        → ((disk call.new).tells → IsInClearBehind keys (disk call.old) (disk call.new) err) → Went ring_kind ring_lives ring_audits disk call.by call.tape keys call.old call.new call.before (outside call.after.input written) t u records err → Promised disk keys p at past call
     by_went records None written line output sound clear ran = by_run includes_reads goes at past None written line only_now records output sound p stood ran
     by_went records (Some err) written line output sound clear (inr ran) = by_run includes_reads goes at past (Some err) written line only_now records output sound p stood ran
     by_went records (Some err) written line output sound clear (inl (none, ended, lives)) =
         let said = subst (λ (rs : List (EpochRecord ℕ)). IsPrinted call.before.output call.after.output (report decimal rs ++ fault_line (Some (fault_of err)))) none output.1 in
         inr (early includes_reads goes at past (Some err) written line only_now p stood sound err (output.0, said, early_cause disk keys p at past call stood t u whole traced err ended, clear) ended)
 
-    pub done_promised : RunDone ring_kind ring_lives disk call.by call.tape keys call.old call.new call.before call.after t u call.status → Promised disk keys p at past call
+    pub done_promised : RunDone ring_kind ring_lives ring_audits disk call.by call.tape keys call.old call.new call.before call.after t u call.status → Promised disk keys p at past call
     done_promised d = by_went d.records d.err d.written d.line (d.status_is, d.output_is, d.all_written) d.sound d.clear d.went
 
     -- nothing was done, and this told
@@ -352,7 +353,7 @@ module _ {S W : Type 0} (disk : S → Disk) (flow : W → Flow) (beat : BeatKind
         (subst (λ n. Rose (flow has.before).faults n) (sym has.told.1) (subst (λ n. Rose n u.faults) (sym has.tells.1) (subst (λ (x : Trace). Rose has.start.faults x.faults) (sym still) (rose_added (open_line false) has.start t has.line has.whole broken)))))
 
     abbrev Done : Trace → Trace → Type 0
-    Done t u = RunDone ring_kind ring_lives disk (manner beat (not turns) k shares) tape keys old new before after t u status
+    Done t u = RunDone ring_kind ring_lives ring_audits disk (manner beat (not turns) k shares) tape keys old new before after t u status
 
     by_trace : (trace : Option (List ℕ)) → ByTrace flow was is before after status trace (open_line false) Done old new → Keeps trace
     by_trace None (kept, done) = done_promised disk keys (called turns None k shares) blind blind (λ rose. absurd (no_rise rose)) only_now includes_reads goes p at past stood refl done
@@ -366,6 +367,6 @@ module _ {S W : Type 0} (disk : S → Disk) (flow : W → Flow) (beat : BeatKind
     told_promised lanes trace limits are given has (inr (inl (bad, line))) = absurd (no_bad_lanes lanes k are bad)
     told_promised lanes trace limits are given has (inr (inr (m, these, those, limited, inl (f, refusal, line)))) = absurd (keys_stand text keys f has refusal)
     told_promised lanes trace limits are given has (inr (inr (m, these, those, limited, inr (own, holds, by)))) =
-        by_trace trace (subst (λ (x : Keys). ByTrace flow was is before after status trace (open_line false) (λ t u. RunDone ring_kind ring_lives disk (manner beat (not turns) k shares) tape x old new before after t u status) old new) (one_keys text own keys holds has)
-        (subst (λ n. ByTrace flow was is before after status trace (open_line false) (λ t u. RunDone ring_kind ring_lives disk (manner beat (not turns) n shares) tape own old new before after t u status) old new) (one_lanes lanes m k these are)
-        (subst (λ (x : Shares). ByTrace flow was is before after status trace (open_line false) (λ t u. RunDone ring_kind ring_lives disk (manner beat (not turns) m x) tape own old new before after t u status) old new) (one_shares limits those shares limited given) by)))
+        by_trace trace (subst (λ (x : Keys). ByTrace flow was is before after status trace (open_line false) (λ t u. RunDone ring_kind ring_lives ring_audits disk (manner beat (not turns) k shares) tape x old new before after t u status) old new) (one_keys text own keys holds has)
+        (subst (λ n. ByTrace flow was is before after status trace (open_line false) (λ t u. RunDone ring_kind ring_lives ring_audits disk (manner beat (not turns) n shares) tape own old new before after t u status) old new) (one_lanes lanes m k these are)
+        (subst (λ (x : Shares). ByTrace flow was is before after status trace (open_line false) (λ t u. RunDone ring_kind ring_lives ring_audits disk (manner beat (not turns) m x) tape own old new before after t u status) old new) (one_shares limits those shares limited given) by)))

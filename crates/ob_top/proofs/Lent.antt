@@ -30,6 +30,7 @@ use Rattle.ob_vault.specs.Seen.{RingPublic}
 use Rattle.ob_vault.specs.Shapes.{Shape}
 use Rattle.ob_store.specs.declared.watch.Note.{Note}
 use Rattle.ob_vault.specs.RingLives.{ring_lives}
+use Rattle.ob_top.specs.Audited.{ring_audits}
 use Rattle.ob_script.specs.Script.{ScriptTxn, Scripts, AreSound, asks_by}
 use Rattle.ob_runner.proofs.Scripted.{is_its_script}
 use Rattle.ob_runner.specs.RunnerViews.{runner_state, client_of, bound_of, plan_of, MayHaveMade}
@@ -158,7 +159,7 @@ pub serves_lent : {V S : Type 0} (first : V) (k : Kind V) (beat : BeatKind) (thr
     (only_now : (x : S) (c : Image) → (disk x).left_since (disk x).moment c → (disk x).may_leave c) (runs : V → Running S) → HasRingWords k disk runs → IsLent k disk runs
     → (keys : Keys) (most : ℕ) (found : Found) (f : RingFound) (start : Run) → GoesOnFrom keys p found f → (runs first).run ≡ start → f.run ≡ start → epoch ≡ (runs first).run.epoch → left ≡ (runs first).run.left
     → start.epoch < 2 ^ 62 → start.left ≤ p.batches → (runs first).lanes ≡ most → (1 ≤ most) × (most ≤ 16) → HasPlanned f.run f.content f.records → (runs first).drawn ≡ [] → (runs first).present ≡ start.sealer.generation
-    → (s : ServedOver ring_kind ring_lives disk (manner beat threads most shares) keys p f f.run.sealer script (told_by (runs last)) (runs first).store (runs last).store before after trace seen (err_of result))
+    → (s : ServedOver ring_kind ring_lives ring_audits disk (manner beat threads most shares) keys p f f.run.sealer script (told_by (runs last)) (runs first).store (runs last).store before after trace seen (err_of result))
     × CallsBehind k first (calls s.is_served.served.evidence.acts) last (err_of result)
 serves_lent first k beat threads p shares script trace runners before last seen ran after result epoch left done unbroken sound fit are disk counts_now only_now runs words lent keys most found f start goes is same epoch_is left_is small few lanes many has none present_is =
     let (new, run) = done in
@@ -166,5 +167,5 @@ serves_lent first k beat threads p shares script trace runners before last seen 
     let may = may_open p shares f.run.epoch f.run.left script (subst (λ (r : Run). r.epoch < 2 ^ 62) (sym same) small) (subst (λ (r : Run). r.left ≤ p.batches) (sym same) few) sound fit in
     let planned = All-weaker (IsNewOf script) (λ r. plan_of r ≡ asks_by (client_of r) script.txns) (λ r n. n.plan) runners are.new in
     ring_serves k disk counts_now only_now runs words keys most p f first beat threads shares script_kind runs_scripts script sound may trace runners before (run_state (scene new last seen) ran after) result epoch left
-    unbroken are.clients_are planned (epoch_is ∙ ap (λ (r : Run). r.epoch) run_is) (left_is ∙ ap (λ (r : Run). r.left) run_is) run (lender k disk counts_now only_now runs words lent keys most p found f first goes run_is (present_is ∙ ap (λ (r : Run). r.sealer.generation) (sym same)))
+    unbroken are.clients_are planned (epoch_is ∙ ap (λ (r : Run). r.epoch) run_is) (left_is ∙ ap (λ (r : Run). r.left) run_is) run (lender k disk counts_now only_now runs words lent keys most p found f first goes run_is (present_is ∙ ap (λ (r : Run). r.sealer.generation) (sym same))) run_is
     (ring_begun k disk runs keys most p found f first goes run_is lanes many has none (λ u holds. lent.holds first u (subst (λ (r : Run). RingHolds r (disk (runs first).store) u) (sym run_is) holds)))

@@ -1,29 +1,42 @@
 -- What serving a script does to the store that a ring vault was lent.
 use Rattle.std.specs.List.{All}
-use Rattle.std.proofs.Common.{◌≡◌, false, ℕ, suc, Bool, List, map, Option, None, Some, Result}
+use Rattle.std.proofs.Common.{◌≡◌, ◌∙◌, ◌⊎◌, ⊎_elim, ap, arith, inl, inr, refl, subst, sym, true, false, ℕ, suc, ◌%◌, Bool, List, [], ◌∷◌, map, Option, None, Some, Result}
+use Rattle.std.proofs.lemmas.Bool.{cases_eq}
+use Rattle.ob_base.specs.Layout.{GenerationTwin}
 use Rattle.ob_base.specs.declared.params.Params.{Params}
 use Rattle.ob_base.specs.declared.fault.Fault.{Fault}
 use Rattle.ob_io.specs.Streams.{Flow}
 use Rattle.ob_seal.specs.declared.keys.Keys.{Keys}
 use Rattle.ob_store.specs.Disk.{Clock, Disk, Image, NotAfter}
-use Rattle.ob_schedule.specs.Schedule.{Fills}
+use Rattle.ob_schedule.specs.Schedule.{Fills, gate_cell}
 use Rattle.ob_store.specs.Lines.{Trace}
 use Rattle.ob_store.specs.declared.event.Event.{Event}
-use Rattle.ob_serial.specs.VaultKinds.{Called, Kind}
-use Rattle.ob_serial.specs.Vaults.{VaultAnswer, VaultCall}
+use Rattle.ob_serial.specs.VaultKinds.{AllCalled, Called, Kind}
+use Rattle.ob_serial.specs.Vaults.{DoubtBy, End, Ended, Fetch, RefusedBy, Values, VaultAnswer, VaultCall}
 use Rattle.ob_vault.specs.RingVaults.{Running}
 use Rattle.ob_vault.specs.RingKind.{RingFound, ring_hidden, ring_kind, ring_public}
 use Rattle.ob_vault.specs.RingSteps.{HasRingWords, RingAt}
-use Rattle.ob_vault.specs.Shapes.{Shape}
+use Rattle.ob_vault.specs.Shapes.{Shape, answered}
 use Rattle.ob_vault.specs.KindShown.{AreDrawn, IsSeenCut}
 use Rattle.ob_vault.specs.Hidden.{IsTapeBehind, RingCutShown, RingHidden}
 use Rattle.ob_vault.specs.Seen.{RingPublic}
 use Rattle.ob_vault.proofs.Leaving.{goes_on_none, goes_on_refused}
 use Rattle.ob_vault.proofs.CallStages.{calls_come_in_stages}
-use Rattle.ob_vault.specs.Acts.{is_answered}
+use Rattle.ob_vault.specs.Acts.{AreAllAnswered, is_answered}
+use Rattle.ob_vault.specs.Gated.{AreGatesKnown}
+use Rattle.ob_vault.proofs.Registers.{chains_known}
+use Rattle.ob_admitted.proofs.Gating.{calls_gated, marked_generation}
+use Rattle.ob_admitted.proofs.Noting.{calls_noted}
+use Rattle.ob_conduct.specs.Records.{AreAnswered}
+use Rattle.ob_fetch.specs.declared.run.Run.{Run}
+use Rattle.ob_recover.specs.Known.{gates_open}
+use Rattle.ob_twin.specs.Opening.{is_marked}
+use Rattle.ob_twin.specs.declared.gates.Gates.{Gates}
+use Rattle.ob_twin.specs.declared.gates.Open.{Open}
 use Rattle.ob_vault.specs.Staged.{RingCallStaged}
 use Rattle.ob_vault.specs.Lives.{RingGoesOn}
 use Rattle.ob_vault.specs.RingLives.{ring_lives}
+use Rattle.ob_top.specs.Audited.{ring_audits}
 use Rattle.ob_vault.proofs.Calling.{RingBehind, ring_does, words_are_of_tape}
 use Rattle.ob_script.specs.Script.{ScriptTxn, Scripts, AreSound, asks_by}
 use Rattle.ob_shares.specs.declared.shares.Shares.{Shares}
@@ -38,11 +51,28 @@ use Rattle.ob_top.specs.Outside.{Given, words_given}
 use Rattle.ob_top.specs.Runs.{ServedOver}
 use Rattle.ob_top.specs.Parts.{manner}
 use Rattle.ob_conduct.specs.Acts.{calls}
-use Rattle.ob_top.proofs.Serving.{CallsBehind, IsLender, serves_on}
+use Rattle.ob_top.proofs.Serving.{CallsBehind, IsLender, RestShown, StopShown, serves_on}
 
 -- what the tape of a vault has given
 abbrev pub told_by : {S : Type 0} → Running S → Given
 told_by run = words_given run.present run.drawn
+
+all_are : (asked : List (VaultCall × VaultAnswer)) → AreAnswered asked → AreAllAnswered asked
+all_are [] all = tt
+all_are ((Fetch asks, Values values) ∷ asked) all = (refl, all_are asked all)
+all_are ((End writes, Ended) ∷ asked) all = (refl, all_are asked all)
+all_are ((Fetch asks, Ended) ∷ asked) all = absurd all
+all_are ((Fetch asks, RefusedBy fault) ∷ asked) all = absurd all
+all_are ((Fetch asks, DoubtBy fault) ∷ asked) all = absurd all
+all_are ((End writes, Values values) ∷ asked) all = absurd all
+all_are ((End writes, RefusedBy fault) ∷ asked) all = absurd all
+all_are ((End writes, DoubtBy fault) ∷ asked) all = absurd all
+
+-- the gates of the generations' register that are known to be open
+same_generation : (p : Params) (a b : Gates) (n : ℕ) → a.generation ≡ b.generation → gates_open a (gate_cell p GenerationTwin n) ≡ gates_open b (gate_cell p GenerationTwin n)
+same_generation p a b n same =
+    let place : (n % 2 ≡ 0) ⊎ (n % 2 ≡ 1) = ⊎_elim (λ even. inl even) (λ odd. inr (omega arith)) (cases_eq (n % 2) 0) in
+    marked_generation a (n % 2) place ∙ ap (λ (x : Open). is_marked x (n % 2)) same ∙ sym (marked_generation b (n % 2) place)
 
 module _ {V S : Type 0} (k : Kind V) (disk : S → Disk) (counts_now : (x : S) (t : Clock) (c : Image) → NotAfter t (disk x).moment → (disk x).may_leave c → (disk x).left_since t c)
     (only_now : (x : S) (c : Image) → (disk x).left_since (disk x).moment c → (disk x).may_leave c) (runs : V → Running S) (words : HasRingWords k disk runs) (keys : Keys) (most : ℕ) (p : Params) (f : RingFound) (first : V) where
@@ -62,6 +92,39 @@ module _ {V S : Type 0} (k : Kind V) (disk : S → Disk) (counts_now : (x : S) (
       → (call : VaultCall) (answer : VaultAnswer) (w : V) → Called k v call answer w → RingCallStaged disk keys most p f (disk (runs first).store) calls steps q h call (runs w).drawn (is_answered answer) (runs v).store (runs w).store
   at_stage calls steps q h so_far n v drawn at call answer w one = calls_come_in_stages k disk counts_now only_now runs words keys most p f first calls steps q h n v drawn at call answer w one
 
+  -- where the vault is behind calls, and one more was refused: as it showed
+  abbrev AtRest : Type 0
+  AtRest = RestShown k ring_kind disk (λ v. (runs v).store) keys most p f first (RingBehind k disk runs words keys most p f (disk (runs first).store)) (λ v. told_by (runs v)) (ring_does k disk runs words keys most p f (disk (runs first).store)) tells ring_lives at_rest at_stop at_stage ring_audits first
+
+  abbrev AtStop : Type 0
+  AtStop = StopShown k ring_kind disk (λ v. (runs v).store) keys most p f first (RingBehind k disk runs words keys most p f (disk (runs first).store)) (λ v. told_by (runs v)) (ring_does k disk runs words keys most p f (disk (runs first).store)) tells ring_lives at_rest at_stop at_stage ring_audits first
+
+  -- the gates that were known go on being known
+  module _ (run_is : (runs first).run ≡ f.run) (asked : List (VaultCall × VaultAnswer)) (v : V) (chain : AllCalled k first asked v) (all : AreAnswered asked) (known : AreGatesKnown f.run (disk (runs first).store)) where
+    chained : AreGatesKnown (runs v).run (disk (runs v).store) × ((((runs v).run).gates).generation ≡ (((runs first).run).gates).generation)
+    chained = chains_known k disk runs words first v asked (subst (λ (r : Run). AreGatesKnown r (disk (runs first).store)) (sym run_is) known) chain (all_are asked all)
+
+    still_open : (n : ℕ) → gates_open (f.run).gates (gate_cell p GenerationTwin n) ≡ true → gates_open ((runs v).run).gates (gate_cell p GenerationTwin n) ≡ true
+    still_open n opened = same_generation p ((runs v).run).gates (f.run).gates n (chained.1 ∙ ap (λ (r : Run). (r.gates).generation) run_is) ∙ opened
+
+  rest_is : (runs first).run ≡ f.run → AtRest
+  rest_is run_is asked taken h so_far n v chain all drawn at = record {
+    shown = refl;
+    goes = at_rest (answered asked) taken _ h so_far n v drawn at [];
+    noted = λ word_of s here tape m is. tt;
+    gated = λ known m is opened. (calls_gated k disk runs words keys most p f first _ h n v at (chained run_is asked v chain all known).0 (still_open run_is asked v chain all known (suc h.generation) opened) m is).0;
+  }
+
+  stop_is : (runs first).run ≡ f.run → AtStop
+  stop_is run_is asked taken h so_far n v chain all drawn at call answer w one fault seen cut shown unanswered =
+      let left = calls_noted k disk counts_now only_now runs words keys most p f first (answered asked) taken _ h n v drawn at call answer w one unanswered cut.0 fault seen cut.1 shown in
+      record {
+        shown = (cut.0, fault, cut.1, shown);
+        goes = left.0;
+        noted = left.1;
+        gated = λ known m is opened. (calls_gated k disk runs words keys most p f first _ h n v at (chained run_is asked v chain all known).0 (still_open run_is asked v chain all known (suc h.generation) opened) m is).1 call answer w one unanswered cut.0 fault seen cut.1 shown;
+      }
+
   abbrev pub IsRingLender : Type 1
   IsRingLender = IsLender k ring_kind disk (λ v. (runs v).store) keys most p f first (RingBehind k disk runs words keys most p f (disk (runs first).store)) (λ v. told_by (runs v)) (ring_does k disk runs words keys most p f (disk (runs first).store)) tells ring_lives at_rest at_stop at_stage (f.run).sealer
 
@@ -69,9 +132,9 @@ module _ {V S : Type 0} (k : Kind V) (disk : S → Disk) (counts_now : (x : S) (
       (may : MayOpen (setup_with p shares) (suc (f.run).epoch) (f.run).left script.clients) (trace : Trace) (runners : List U) (before : Flow) (end : RunState V U) (result : Result (Unit {0}) RunErr) (epoch left : ℕ)
       → trace.broken ≡ false → map kind.client runners ≡ script.clients → All (λ u. kind.plan u ≡ asks_by (kind.client u) script.txns) runners → epoch ≡ (f.run).epoch → left ≡ (f.run).left
       → RunsBy threads k kind beat (run_state (scene (new_desk (setup_with p shares) (suc epoch) left script.clients) first trace) runners before) end result
-      → IsRingLender → RingAt k disk runs keys most p f (disk (runs first).store) (ring_public p f) (ring_hidden f) 0 first
-      → (s : ServedOver ring_kind ring_lives disk (manner beat threads most shares) keys p f (f.run).sealer script (told_by (runs end.scene.vault)) (runs first).store (runs end.scene.vault).store before end.output trace end.scene.trace (err_of result))
+      → IsRingLender → (runs first).run ≡ f.run → RingAt k disk runs keys most p f (disk (runs first).store) (ring_public p f) (ring_hidden f) 0 first
+      → (s : ServedOver ring_kind ring_lives ring_audits disk (manner beat threads most shares) keys p f (f.run).sealer script (told_by (runs end.scene.vault)) (runs first).store (runs end.scene.vault).store before end.output trace end.scene.trace (err_of result))
       × CallsBehind k first (calls s.is_served.served.evidence.acts) end.scene.vault (err_of result)
-  ring_serves beat threads shares kind means script sound may trace runners before end result epoch left unbroken named planned epoch_is left_is run l begun =
+  ring_serves beat threads shares kind means script sound may trace runners before end result epoch left unbroken named planned epoch_is left_is run l run_is begun =
       serves_on k ring_kind disk (λ v. (runs v).store) keys most p f first (RingBehind k disk runs words keys most p f (disk (runs first).store)) (λ v. told_by (runs v)) (ring_does k disk runs words keys most p f (disk (runs first).store)) tells ring_lives at_rest at_stop at_stage
-      beat threads shares kind means (f.run).sealer script sound may trace runners before end result epoch left unbroken named planned epoch_is left_is run l begun
+      beat threads shares kind means (f.run).sealer script sound may trace runners before end result epoch left unbroken named planned epoch_is left_is run l ring_audits (rest_is run_is) (stop_is run_is) begun

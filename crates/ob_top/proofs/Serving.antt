@@ -32,6 +32,7 @@ use Rattle.ob_vault.specs.Acts.{is_answered}
 use Rattle.ob_vault.specs.Shapes.{Shape, Fetches, Ends, answered, shape_of, shapes, refused}
 use Rattle.ob_vault.specs.Kinds.{StoreKind, IsOpenedAt, opened_with}
 use Rattle.ob_vault.specs.KindLives.{LifeWords}
+use Rattle.ob_top.specs.Audited.{AuditWords}
 use Rattle.ob_vault.specs.KindShown.{AreDrawn, IsCutShown, IsSeenCut, public_behind, steps_notes, steps_phases}
 use Rattle.ob_vault.specs.Steps.{IsAnsweredCall, Stops, IsCallOfKind}
 use Rattle.ob_vault.specs.KindLaws.{AllAnswered}
@@ -237,7 +238,20 @@ module _ {V S : Type 0} (k : Kind V) (store : StoreKind) (disk : S → Disk) (st
   abbrev pub Hides : store.Hidden → V → Type 0
   Hides h v = (q : store.Public) × (so_far : List Shape) × (n : ℕ) × At q h so_far n v
 
-  module _ (first last : V) (t u : Trace) (unbroken : t.broken ≡ false) (before after : Flow) (records : List (EpochRecord ℕ)) (begun : At (store.public p found) (store.hidden p found) [] 0 first) where
+  -- behind calls that were answered the store is left as they showed
+  abbrev pub RestShown : AuditWords store → V → Type 0
+  RestShown audit first = (asked : List (VaultCall × VaultAnswer)) (taken : List (Shape × store.Drawn)) (h : store.Hidden) (so_far : List Shape) (n : ℕ) (v : V) → AllCalled k first asked v → AreAnswered asked → AreDrawn store p (store.hidden p found) (answered asked) taken h
+      → At (public_behind store p (store.public p found) taken) h so_far n v → audit.leaves_as_shown under most p found (disk (store_of start)) (answered asked) taken h None (tape_of v).words [] [] (disk (store_of v))
+
+  -- and so behind one that was refused
+  abbrev pub StopShown : AuditWords store → V → Type 0
+  StopShown audit first = (asked : List (VaultCall × VaultAnswer)) (taken : List (Shape × store.Drawn)) (h : store.Hidden) (so_far : List Shape) (n : ℕ) (v : V) → AllCalled k first asked v → AreAnswered asked → AreDrawn store p (store.hidden p found) (answered asked) taken h
+      → At (public_behind store p (store.public p found) taken) h so_far n v → (call : VaultCall) (answer : VaultAnswer) (w : V) (one : Called k v call answer w) (fault : Fault) (seen : List Event)
+      (cut : IsSeenCut store most p (public_behind store p (store.public p found) taken) h (Some call) (tape_of w).words (Some fault) seen) → store.cut_shown most p (public_behind store p (store.public p found) taken) call cut.0 fault seen one.notes → is_answered answer ≡ false
+      → audit.leaves_as_shown under most p found (disk (store_of start)) (answered asked) taken h (Some call) (tape_of w).words seen one.notes (disk (store_of w))
+
+  module _ (first last : V) (t u : Trace) (unbroken : t.broken ≡ false) (before after : Flow) (records : List (EpochRecord ℕ)) (begun : At (store.public p found) (store.hidden p found) [] 0 first)
+      (audit : AuditWords store) (rest_shown : RestShown audit first) (stop_shown : StopShown audit first) where
     abbrev old_disk : Disk
     old_disk = disk (store_of first)
 
@@ -254,6 +268,7 @@ module _ {V S : Type 0} (k : Kind V) (store : StoreKind) (disk : S → Disk) (st
       pub goes_on : life.goes_on under most p found (disk (store_of start)) (answered asked) traced.steps traced.behind (refused asked) (tape_of last).words traced.more (disk (store_of last))
       pub parted : Parted k first last asked err (Hides traced.behind)
       pub staged : Staged (refused asked) (tape_of last).words traced.behind (store_of last) [] [] (store.public p found) (store.hidden p found) (answered asked) traced.steps (store_of first)
+      pub audited : audit.leaves_as_shown under most p found (disk (store_of start)) (answered asked) traced.steps traced.behind (refused asked) (tape_of last).words traced.more shown.last (disk (store_of last))
 
     -- what was seen of a last call, and what was shown
     abbrev Cut : (q : store.Public) (h : store.Hidden) (one : Option VaultCall) (fault : Option Fault) → List Event → List Note → Type 0
@@ -307,6 +322,8 @@ module _ {V S : Type 0} (k : Kind V) (store : StoreKind) (disk : S → Disk) (st
             cut = tt;
           };
           staged = subst (λ (o : Option VaultCall). Staged o (tape_of last).words b.kept (store_of last) [] [] (store.public p found) (store.hidden p found) (answered asked) b.taken (store_of first)) (sym none) (b.staged [] [] refl);
+          audited = subst (λ (o : Option VaultCall). audit.leaves_as_shown under most p found (disk (store_of start)) (answered asked) b.taken b.kept o (tape_of last).words [] [] (disk (store_of last))) (sym none)
+              (rest_shown asked b.taken b.kept (shapes asked) (0 + length (ended_of asked)) last (called k first t asked notes last u chain) all b.drawn b.at);
         }
 
     module _ (faults : (v : V) → (k.disk v).faults ≡ (disk (store_of v)).faults) where
@@ -390,6 +407,9 @@ module _ {V S : Type 0} (k : Kind V) (store : StoreKind) (disk : S → Disk) (st
                 (staged_then store life disk under most p found (disk (store_of start)) call (tape_of mid).words (tape_of last).words b.kept (store_of mid) (store_of last) [] [] (store.public p found) (store.hidden p found) (answered front) b.taken (store_of first) (b.staged [] [] refl)
                 (subst (λ (whole : Bool). life.call_staged disk under most p found (disk (store_of start)) (answered front) b.taken q b.kept call (tape_of last).words whole (store_of mid) (store_of last)) unanswered
                 (at_stage (answered front) b.taken q b.kept (shapes front) (0 + length (ended_of front)) mid b.drawn b.at call answer last one))));
+            audited = subst (λ (l : List VaultCall). audit.leaves_as_shown under most p found (disk (store_of start)) l b.taken b.kept (refused (front ++ (call, answer) ∷ [])) (tape_of last).words s.more one.notes (disk (store_of last))) (sym calls_front)
+                (subst (λ (o : Option VaultCall). audit.leaves_as_shown under most p found (disk (store_of start)) (answered front) b.taken b.kept o (tape_of last).words s.more one.notes (disk (store_of last))) (sym was_cut)
+                (stop_shown front b.taken b.kept (shapes front) (0 + length (ended_of front)) mid (called k first t front front_notes mid between before_last) all b.drawn b.at call answer last one fault s.more s.cut s.shown unanswered));
           }
         where
           none_before : (m : ℕ) → 0 + m ≡ m
@@ -484,7 +504,7 @@ module _ {V S : Type 0} (k : Kind V) (store : StoreKind) (disk : S → Disk) (st
     abbrev begin : RunState V U
     begin = run_state (scene base start trace) runners before
 
-    module _ (acts : List Act) (d : Conducted k kind beat begin end acts result) (rounds : AreShaped threads script.clients acts) (l : IsLender sealing) where
+    module _ (acts : List Act) (d : Conducted k kind beat begin end acts result) (rounds : AreShaped threads script.clients acts) (l : IsLender sealing) (audit : AuditWords store) (rest_shown : RestShown audit start) (stop_shown : StopShown audit start) where
       abbrev last : V
       last = end.scene.vault
 
@@ -594,11 +614,12 @@ module _ {V S : Type 0} (k : Kind V) (store : StoreKind) (disk : S → Disk) (st
       -- the trace, what goes on in the life with its steps, and why it ended there
       abbrev TracesLife : List Act → List Event → Type 0
       TracesLife xs events = (t : IsTraced store most p found (tape_of last).words (calls xs) (told_fault (err_of result)) events)
-          × IsShownToWatch store most p found (tape_of last).words (calls xs) (told_fault (err_of result)) events t trace end.scene.trace
+          × (shown : IsShownToWatch store most p found (tape_of last).words (calls xs) (told_fault (err_of result)) events t trace end.scene.trace)
           × life.goes_on under most p found (disk (store_of start)) (answered (calls xs)) t.steps t.behind (refused (calls xs)) (tape_of last).words t.more (disk (store_of last))
           × EndsFor store under p found (disk (store_of start)) t.behind (shapes (calls xs)) (length records) (refused (calls xs)) (tape_of last).words (disk (store_of start)) (disk (store_of last)) before after trace end.scene.trace (err_of result)
           × LivesBehind disk under sealing (store_of start) (store_of last) (map (λ s. s.1) (calls xs)) (store.seals t.behind)
           × Staged (refused (calls xs)) (tape_of last).words t.behind (store_of last) [] [] (store.public p found) (store.hidden p found) (answered (calls xs)) t.steps (store_of start)
+          × audit.leaves_as_shown under most p found (disk (store_of start)) (answered (calls xs)) t.steps t.behind (refused (calls xs)) (tape_of last).words t.more shown.last (disk (store_of last))
 
       -- the acts, as a list of the world's events
       listed : ListsActs store under p shares (disk (store_of start)) found script acts
@@ -609,12 +630,12 @@ module _ {V S : Type 0} (k : Kind V) (store : StoreKind) (disk : S → Disk) (st
       calls_behind = subst (λ (xs : List Act). CallsBehind k start (calls xs) last (err_of result)) acts_are (record { called = chain; answered = all_given result d.ends })
 
       -- what serving does
-      pub serves : At (store.public p found) (store.hidden p found) [] 0 start → (s : ServedOver store life disk (manner beat threads most shares) under p found sealing script (tape_of last) (store_of start) (store_of last) before after trace end.scene.trace (err_of result))
+      pub serves : At (store.public p found) (store.hidden p found) [] 0 start → (s : ServedOver store life audit disk (manner beat threads most shares) under p found sealing script (tape_of last) (store_of start) (store_of last) before after trace end.scene.trace (err_of result))
           × CallsBehind k start (calls s.is_served.served.evidence.acts) last (err_of result)
       serves begun =
-          let e = ending start last trace end.scene.trace unbroken before after records begun l.faults acts d.notes refl d.chain d.wrote base end.scene.desk runners end.runners result d.ends in
+          let e = ending start last trace end.scene.trace unbroken before after records begun audit rest_shown stop_shown l.faults acts d.notes refl d.chain d.wrote base end.scene.desk runners end.runners result d.ends in
           let (lives, clear) = l.seals last (calls acts) e.traced.behind (err_of result) e.parted in
-          let told = subst (λ (xs : List Act). TracesLife xs e.events) acts_are (e.traced, e.shown, e.goes_on, e.cause, lives, e.staged) in
+          let told = subst (λ (xs : List Act). TracesLife xs e.events) acts_are (e.traced, e.shown, e.goes_on, e.cause, lives, e.staged, e.audited) in
           let stand = lines_stand k begin end acts result d.ends in (
             record {
               records = records;
@@ -642,6 +663,7 @@ module _ {V S : Type 0} (k : Kind V) (store : StoreKind) (disk : S → Disk) (st
               clear = clear;
               goes_on = told.2;
               staged = told.5;
+              audited = told.6;
             },
             calls_behind,
           )
@@ -653,16 +675,16 @@ module _ {V S : Type 0} (k : Kind V) (store : StoreKind) (disk : S → Disk) (st
       (trace : Trace) (runners : List U) (before : Flow) (end : RunState V U) (result : Result (Unit {0}) RunErr) (epoch left : ℕ)
       → trace.broken ≡ false → map kind.client runners ≡ script.clients → All (λ u. kind.plan u ≡ asks_by (kind.client u) script.txns) runners → epoch ≡ store.epoch found → left ≡ store.left p found
       → RunsBy threads k kind beat (run_state (scene (new_desk (setup_with p shares) (suc epoch) left script.clients) start trace) runners before) end result
-      → IsLender sealing → At (store.public p found) (store.hidden p found) [] 0 start
-      → (s : ServedOver store life disk (manner beat threads most shares) under p found sealing script (tape_of end.scene.vault) (store_of start) (store_of end.scene.vault) before end.output trace end.scene.trace (err_of result))
+      → IsLender sealing → (audit : AuditWords store) → RestShown audit start → StopShown audit start → At (store.public p found) (store.hidden p found) [] 0 start
+      → (s : ServedOver store life audit disk (manner beat threads most shares) under p found sealing script (tape_of end.scene.vault) (store_of start) (store_of end.scene.vault) before end.output trace end.scene.trace (err_of result))
       × CallsBehind k start (calls s.is_served.served.evidence.acts) end.scene.vault (err_of result)
-  serves_on beat threads shares kind means sealing script sound may trace runners before end result epoch left unbroken named planned epoch_is left_is run l begun =
+  serves_on beat threads shares kind means sealing script sound may trace runners before end result epoch left unbroken named planned epoch_is left_is run l audit rest_shown stop_shown begun =
       let run_is = subst (λ n. RunsBy threads k kind beat (run_state (scene (new_desk (setup_with p shares) (suc (store.epoch found)) n script.clients) start trace) runners before) end result) left_is
       (subst (λ e. RunsBy threads k kind beat (run_state (scene (new_desk (setup_with p shares) (suc e) left script.clients) start trace) runners before) end result) epoch_is run) in
       let (acts, d, shaped) = runs_shaped threads k kind beat _ end result run_is in
-      serves beat threads shares kind means sealing script sound may trace runners before end result unbroken named planned acts d (subst (λ numbers. AreShaped threads numbers acts) named shaped) l begun
+      serves beat threads shares kind means sealing script sound may trace runners before end result unbroken named planned acts d (subst (λ numbers. AreShaped threads numbers acts) named shaped) l audit rest_shown stop_shown begun
 
 -- the same by other names
-pub renamed : (store : StoreKind) (life : LifeWords store) {S : Type 0} (disk : S → Disk) (by : Manner) (keys : Keys) (p : Params) (found : store.Found) (was sealing : Sealing) (script : Scripts) (first_told tape : Given) (a old b new : S) (before after : Flow) (t u : Trace) (err : Option RunErr)
-    → was ≡ sealing → first_told ≡ tape → a ≡ old → new ≡ b → ServedOver store life disk by keys p found was script first_told a b before after t u err → ServedOver store life disk by keys p found sealing script tape old new before after t u err
-renamed store life disk by keys p found was sealing script first_told tape a old b new before after t u err sealing_is tape_is old_is new_is s = rw (← sealing_is, ← tape_is, ← old_is, new_is) s
+pub renamed : (store : StoreKind) (life : LifeWords store) (audit : AuditWords store) {S : Type 0} (disk : S → Disk) (by : Manner) (keys : Keys) (p : Params) (found : store.Found) (was sealing : Sealing) (script : Scripts) (first_told tape : Given) (a old b new : S) (before after : Flow) (t u : Trace) (err : Option RunErr)
+    → was ≡ sealing → first_told ≡ tape → a ≡ old → new ≡ b → ServedOver store life audit disk by keys p found was script first_told a b before after t u err → ServedOver store life audit disk by keys p found sealing script tape old new before after t u err
+renamed store life audit disk by keys p found was sealing script first_told tape a old b new before after t u err sealing_is tape_is old_is new_is s = rw (← sealing_is, ← tape_is, ← old_is, new_is) s

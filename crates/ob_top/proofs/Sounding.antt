@@ -18,6 +18,7 @@ use Rattle.ob_store.specs.Images.{LeavesOnly, Passes, Same}
 use Rattle.ob_vault.specs.Formats.{beginning}
 use Rattle.ob_vault.specs.Keeping.{AreStandingLaws}
 use Rattle.ob_vault.specs.KindLives.{LifeWords}
+use Rattle.ob_top.specs.Audited.{AuditWords}
 use Rattle.ob_vault.specs.Kinds.{AllStand, StoreKind, Stands, StandsAsBefore}
 use Rattle.ob_top.specs.Formats.{IsFormatted}
 use Rattle.ob_top.specs.Outside.{Given, Outside}
@@ -50,8 +51,8 @@ none_told_at_0 (Some failed.Unwatched) is = absurd (omega (arith, is))
 
 module _ (store : StoreKind) where
   -- a new store stands
-  pub formatted_sound : (life : LifeWords store) {S : Type 0} (disk : S → Disk) (tape : Given) (keys : Keys) (p : Params) (old new : S) → IsFormatted store life disk tape keys p old new → (disk old).tells → IsSound store keys p (disk new)
-  formatted_sound life disk tape keys p old new is tells = record {
+  pub formatted_sound : (life : LifeWords store) (audit : AuditWords store) {S : Type 0} (disk : S → Disk) (tape : Given) (keys : Keys) (p : Params) (old new : S) → IsFormatted store life audit disk tape keys p old new → (disk old).tells → IsSound store keys p (disk new)
+  formatted_sound life audit disk tape keys p old new is tells = record {
     cells = λ told. (beginning, (1, is.made.stands tells));
     images = λ c left. (beginning, (1, is.made.images tells c left));
   }
@@ -88,7 +89,7 @@ module _ (store : StoreKind) where
         let (at, (g, stands)) = sound.cells tells in
         laws.one_head keys p q (old.cells 0) (laws.has_head keys p g old.cells at stands) (head tells)
 
-  module _ (laws : AreStandingLaws store) (life : LifeWords store) {S : Type 0} (disk : S → Disk) (counts_now : (x : S) (t : Clock) (c : Image) → NotAfter t (disk x).moment → (disk x).may_leave c → (disk x).left_since t c) (keys : Keys) (old new : S) where
+  module _ (laws : AreStandingLaws store) (life : LifeWords store) (audit : AuditWords store) {S : Type 0} (disk : S → Disk) (counts_now : (x : S) (t : Clock) (c : Image) → NotAfter t (disk x).moment → (disk x).may_leave c → (disk x).left_since t c) (keys : Keys) (old new : S) where
     -- one that was opened, as far as it came
     opened_sound : (q : Params) → ((disk old).tells → store.is_head keys q ((disk old).cells 0)) →
         ((at : Standing) → (disk old).tells → Stands store keys q (disk old).cells at → AllStand store keys q (disk old) → LeavesOnly (disk old) (disk new) (StandsAsBefore store keys q (disk old))) → StandsOn store disk keys old new
@@ -106,7 +107,7 @@ module _ (store : StoreKind) where
     early_sound head_is most shares t u before after failed.Unwatched (inl head) p tells sound = read_sound keys p (disk old) (disk new) head.passes sound
     early_sound head_is most shares t u before after failed.Unwatched (inr opening) p tells sound = opened_sound opening.p opening.opened.head opening.left p tells sound
 
-    pub ran_sound : (by : Manner) (tape : Given) (before after : Outside) (t u : Trace) (records : List (EpochRecord ℕ)) (err : Option RunErr) → Ran store life disk by tape keys old new before after t u records err → StandsOn store disk keys old new
+    pub ran_sound : (by : Manner) (tape : Given) (before after : Outside) (t u : Trace) (records : List (EpochRecord ℕ)) (err : Option RunErr) → Ran store life audit disk by tape keys old new before after t u records err → StandsOn store disk keys old new
     ran_sound by tape before after t u records err r p tells sound =
         let same : p ≡ r.p = one_p laws keys p r.p (disk old) tells sound r.opened.head in
         let is = subst (λ (q : Params). IsSound store keys q (disk old)) same sound in

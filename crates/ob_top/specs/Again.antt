@@ -9,6 +9,7 @@ use Rattle.ob_store.specs.Images.{IsImageOf, IsSynced}
 use Rattle.ob_vault.specs.Acts.{AreTapeWords}
 use Rattle.ob_vault.specs.Formats.{beginning}
 use Rattle.ob_vault.specs.RingLives.{ring_lives}
+use Rattle.ob_top.specs.Audited.{ring_audits}
 use Rattle.ob_vault.specs.RingKind.{ring_kind}
 use Rattle.ob_top.specs.Calls.{RunCall}
 use Rattle.ob_top.specs.Formats.{IsFormatted}
@@ -23,7 +24,7 @@ new_past word_of slot = record { word_of = word_of; slot = slot; acts = [] }
 module _ {S : Type 0} (disk : S → Disk) where
   -- A store that a format made stood, at the empty map, if its tape and the next run's gave the words of their generations.
   abbrev pub FormatsStand : Type 0
-  FormatsStand = (keys : Keys) (p : Params) (made_by tape : Given) (old made : S) (word_of : WordId → ℕ) → IsFormatted ring_kind ring_lives disk made_by keys p old made → (disk old).tells → (disk made).leaves
+  FormatsStand = (keys : Keys) (p : Params) (made_by tape : Given) (old made : S) (word_of : WordId → ℕ) → IsFormatted ring_kind ring_lives ring_audits disk made_by keys p old made → (disk old).tells → (disk made).leaves
       → AreTapeWords word_of made_by.generation made_by.words → AreTapeWords word_of tape.generation tape.words → (slot : ℕ → ℕ → ℕ) × Stood disk keys p beginning (new_past word_of slot) tape made
 
   -- it stood again, behind more acts

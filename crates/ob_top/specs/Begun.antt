@@ -2,6 +2,7 @@
 use Rattle.std.specs.Prelude.{ℕ, ◌≡◌, ◌≤◌, false, List, [], ◌∷◌, length}
 use Rattle.ob_base.specs.declared.params.Params.{Params}
 use Rattle.ob_io.specs.Streams.{Flow}
+use Rattle.ob_vault.specs.Gated.{AreGatesKnown}
 use Rattle.ob_vault.specs.Kinds.{AllStand, IsOpenedAt, Stands, StandsAsBefore}
 use Rattle.ob_recover.specs.Fits.{IsPlannerFit}
 use Rattle.ob_recover.specs.Telling.{ArePhasesMade}
@@ -74,6 +75,8 @@ FromHeadAndBehind {S} disk keys p old t Told = ((first : S) (before : Trace) →
 pub record BegunBehindHead {S : Type 0} (disk : S → Disk) (head_is : List ℕ) (keys : Keys) (most : ℕ) (p : Params) (script : Scripts) (sealing : Sealing) (old new : S) (t u : Trace) (before : Flow) (f : RingFound) : Type 0 where
   pub is_begun : IsBegun head_is keys most p script (disk old) (disk new) t u before f
   pub durable : (disk old).tells → (disk new).tells × IsSynced (disk new)
+  -- what was found knows the gates
+  pub knows : AreGatesKnown f.run (disk new)
   pub left : (at : Standing) → (disk old).tells → Stands ring_kind keys p (disk old).cells at → AllStand ring_kind keys p (disk old) → LeavesOnly (disk old) (disk new) (StandsAsBefore ring_kind keys p (disk old))
   pub since : OpensInStages head_is ring_kind ring_lives disk keys p old new
   pub opens : IsReadAndOpened disk keys old new sealing

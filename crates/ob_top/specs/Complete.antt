@@ -21,6 +21,7 @@ use Rattle.ob_store.specs.Lines.{Trace}
 use Rattle.ob_io.specs.Streams.{Flow}
 use Rattle.ob_conduct.specs.declared.run_err.RunErr.TheVariants as failed
 use Rattle.ob_vault.specs.RingLives.{ring_lives}
+use Rattle.ob_top.specs.Audited.{ring_audits}
 use Rattle.ob_vault.specs.RingKind.{ring_kind}
 
 module _ {W : Type 0} (flow : W → Flow) (was is : Option W) where
@@ -94,7 +95,7 @@ module _ {S W : Type 0} (disk : S → Disk) (flow : W → Flow) (beat : BeatKind
     pub last : Trace
     -- and what stood in the output before its line
     pub written : Flow
-    pub ran : Ran ring_kind ring_lives disk by tape keys old new before (outside after.input written) first last records (Some (failed.Fault (StashFull rows)))
+    pub ran : Ran ring_kind ring_lives ring_audits disk by tape keys old new before (outside after.input written) first last records (Some (failed.Fault (StashFull rows)))
 
   -- What can be done is done, but for want of memory, or of room in the stash: `FormatDoes` and `RunDoes` say what that comes to.
   abbrev pub DoesWhatItCan : S → S → Type 0

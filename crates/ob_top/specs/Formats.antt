@@ -22,6 +22,7 @@ use Rattle.ob_pads.specs.Lives.{IsFormattedStore}
 use Rattle.ob_vault.specs.Kinds.{StoreKind}
 use Rattle.ob_vault.specs.Formats.{MakesEmpty}
 use Rattle.ob_vault.specs.KindLives.{LifeWords}
+use Rattle.ob_top.specs.Audited.{AuditWords}
 use Rattle.ob_top.specs.Outside.{ErrTold, Given, Outside}
 use Rattle.ob_top.specs.Sound.{IsSound}
 
@@ -31,7 +32,7 @@ pub record DrawsSlots (p : Params) (tape : Given) : Type 0 where
   pub many : length tape.words ≡ buckets p * width p
 
 -- An empty store was made, and a life of it begins. Its cells are told where they were.
-pub record IsFormatted (store : StoreKind) (life : LifeWords store) {S : Type 0} (disk : S → Disk) (tape : Given) (keys : Keys) (p : Params) (old new : S) : Type 0 where
+pub record IsFormatted (store : StoreKind) (life : LifeWords store) (audit : AuditWords store) {S : Type 0} (disk : S → Disk) (tape : Given) (keys : Keys) (p : Params) (old new : S) : Type 0 where
   pub made : MakesEmpty store keys p (disk old) (disk new)
   pub tells : (disk old).tells → (disk new).tells
   pub draws : DrawsSlots p tape
@@ -40,19 +41,21 @@ pub record IsFormatted (store : StoreKind) (life : LifeWords store) {S : Type 0}
   pub clear : (disk new).tells → store.format_clears keys p (disk new).seen (disk old).cells (disk new).cells (Ok tt)
   -- each image that a crash leaves stands for a life that begins with these words
   pub begins_life : (disk old).tells → life.formatted keys p tape.words (disk new)
+  -- and has the gates of a format
+  pub gates : (disk old).tells → audit.made_gated (disk new)
 
 -- Its notes were all shown to the watch, which is whole behind them, or broke with them.
 abbrev pub ShowsFormat : StoreKind → Params → Trace → Trace → Bool → Type 0
 ShowsFormat store p t u is_broken = Shows (store.format_notes p) t u × (u.broken ≡ is_broken)
 
 -- behind the format the tape has given this
-module _ (store : StoreKind) (life : LifeWords store) {S : Type 0} (disk : S → Disk) (tape : Given) where
+module _ (store : StoreKind) (life : LifeWords store) (audit : AuditWords store) {S : Type 0} (disk : S → Disk) (tape : Given) where
   -- How it ends. Its line tells how many cells the store has; none is written where the watch broke. Where the store failed the head and the
   -- registers show in the clear what the kind of store says of that.
   abbrev pub FormatEnds : Keys → Params → S → S → Flow → Flow → Trace → Trace → Option RunErr → Type 0
-  FormatEnds keys p old new before after t u None = IsFormatted store life disk tape keys p old new × (after.bytes ≡ appended before.bytes (size_line (store.cells p))) × ShowsFormat store p t u false
-  FormatEnds keys p old new before after t u (Some failed.Unwatched) = IsFormatted store life disk tape keys p old new × (after ≡ before) × ShowsFormat store p t u true
-  FormatEnds keys p old new before after t u (Some (failed.Fault SinkFault)) = IsFormatted store life disk tape keys p old new × Rose before.faults after.faults × IsPrinted before after (size_line (store.cells p)) × ShowsFormat store p t u false
+  FormatEnds keys p old new before after t u None = IsFormatted store life audit disk tape keys p old new × (after.bytes ≡ appended before.bytes (size_line (store.cells p))) × ShowsFormat store p t u false
+  FormatEnds keys p old new before after t u (Some failed.Unwatched) = IsFormatted store life audit disk tape keys p old new × (after ≡ before) × ShowsFormat store p t u true
+  FormatEnds keys p old new before after t u (Some (failed.Fault SinkFault)) = IsFormatted store life audit disk tape keys p old new × Rose before.faults after.faults × IsPrinted before after (size_line (store.cells p)) × ShowsFormat store p t u false
   FormatEnds keys p old new before after t u (Some (failed.Fault (StoreFault unsure))) =
       (unsure ≡ None) × Rose (disk old).faults (disk new).faults × NotesFirst (store.format_order p) (disk old).seen (disk new).seen × (after ≡ before) × TellsFirst (store.format_notes p) (disk old).seen (disk new).seen t u
       × ((disk new).tells → store.format_clears keys p (disk new).seen (disk old).cells (disk new).cells (Err (StoreFault unsure)))

@@ -21,6 +21,7 @@ use Rattle.ob_top.specs.Drills.{ApartDoes}
 use Rattle.ob_top.specs.Formats.{FormatEnds}
 use Rattle.ob_vault.specs.RingKind.{ring_kind}
 use Rattle.ob_vault.specs.RingLives.{ring_lives}
+use Rattle.ob_top.specs.Audited.{ring_audits}
 use Rattle.ob_top.specs.Runs.{RunOn}
 use Rattle.ob_top.specs.Parts.{manner}
 
@@ -47,9 +48,9 @@ start_for (Run k turns traced mirrored shares) = start.Run false
 
 -- What a command did under a watch that told this before it and tells that behind it; the tape has then given this.
 abbrev pub WatchedDoes : {S : Type 0} → (S → Disk) → BeatKind → (tape : Given) → Command → Keys → S → S → Outside → Outside → Trace → Trace → Option RunErr → Type 0
-WatchedDoes disk beat tape (Format p traced) keys old new before after t u err = FormatEnds ring_kind ring_lives disk tape keys p old new before.output after.output t u err
+WatchedDoes disk beat tape (Format p traced) keys old new before after t u err = FormatEnds ring_kind ring_lives ring_audits disk tape keys p old new before.output after.output t u err
     × ((disk old).tells → LeavesOnly (disk old) (disk new) (ring_kind.format_leaves keys p tape.words (disk old))) × (after.input ≡ before.input)
-WatchedDoes disk beat tape (Run k turns traced mirrored shares) keys old new before after t u err = RunOn ring_kind ring_lives disk (manner beat (not turns) k shares) tape keys old new before after t u err
+WatchedDoes disk beat tape (Run k turns traced mirrored shares) keys old new before after t u err = RunOn ring_kind ring_lives ring_audits disk (manner beat (not turns) k shares) tape keys old new before after t u err
 
 module _ {S W : Type 0} (disk : S → Disk) (flow : W → Flow) (beat : BeatKind) (tape : Given) (command : Command) (keys : Keys) (old new : S) (before after : Outside) (was is : Option W) (err : Option RunErr) where
   -- nothing was done, for want of a trace

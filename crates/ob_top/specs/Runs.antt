@@ -43,6 +43,7 @@ use Rattle.ob_conduct.specs.Records.{contents}
 use Rattle.ob_conduct.specs.Left.{IsLeftStanding, IsLeftNow}
 use Rattle.ob_run.specs.Threaded.{AreShaped}
 use Rattle.ob_outcomes.specs.Served.{IsServed, ClientsServedAll}
+use Rattle.ob_top.specs.Audited.{AuditWords}
 use Rattle.ob_top.specs.Endings.{IsNextBy, LinesStand, told_fault}
 use Rattle.ob_top.specs.Listed.{AreListed}
 use Rattle.ob_top.specs.Outside.{Outside, ErrTold, Given, outside}
@@ -269,7 +270,7 @@ abbrev pub ListsActs : (store : StoreKind) → Keys → Params → Shares → (o
 ListsActs store keys p shares opened found script acts = (m : Map nat_cmp) → store.is_map keys p opened found m → AreListed store keys (setup_with p shares) (record { epoch = store.epoch found; content = m }) (store.left p found) script.clients acts
 
 -- What serving does to the store and the output, and what the watch is shown of it; behind it the tape has given these words.
-pub record ServedOver (store : StoreKind) (life : LifeWords store) {S : Type 0} (disk : S → Disk) (by : Manner) (keys : Keys) (p : Params) (found : store.Found) (sealing : Sealing) (script : Scripts) (tape : Given) (old new : S) (before after : Flow)
+pub record ServedOver (store : StoreKind) (life : LifeWords store) (audit : AuditWords store) {S : Type 0} (disk : S → Disk) (by : Manner) (keys : Keys) (p : Params) (found : store.Found) (sealing : Sealing) (script : Scripts) (tape : Given) (old new : S) (before after : Flow)
     (t u : Trace) (err : Option RunErr) : Type 0 where
   pub records : List (EpochRecord ℕ)
   pub is_served : ScriptServed store by keys p (disk old) found script records err
@@ -296,9 +297,11 @@ pub record ServedOver (store : StoreKind) (life : LifeWords store) {S : Type 0} 
   pub goes_on : life.goes_on keys by.lanes p found (disk old) (answered (calls is_served.served.evidence.acts)) traced.steps traced.behind (refused (calls is_served.served.evidence.acts)) tape.words traced.more (disk new)
   -- call by call in stages, from the store that was opened to the one that is left
   pub staged : CallsStaged store life disk keys by.lanes p found (disk old) (refused (calls is_served.served.evidence.acts)) tape.words traced.behind new [] [] (store.public p found) (store.hidden p found) (answered (calls is_served.served.evidence.acts)) traced.steps old
+  -- what is left of a call that was refused, and of the registers' gates, is as its notes tell
+  pub audited : audit.leaves_as_shown keys by.lanes p found (disk old) (answered (calls is_served.served.evidence.acts)) traced.steps traced.behind (refused (calls is_served.served.evidence.acts)) tape.words traced.more shown.last (disk new)
 
 -- behind the run the tape has given this
-module _ (store : StoreKind) (life : LifeWords store) {S : Type 0} (disk : S → Disk) (by : Manner) (tape : Given) where
+module _ (store : StoreKind) (life : LifeWords store) (audit : AuditWords store) {S : Type 0} (disk : S → Disk) (by : Manner) (tape : Given) where
   -- The script was run, whole or up to a fault.
   pub record Ran (keys : Keys) (old new : S) (before after : Outside) (t u : Trace) (records : List (EpochRecord ℕ)) (err : Option RunErr) : Type 0 where
     pub p : Params
@@ -314,6 +317,8 @@ module _ (store : StoreKind) (life : LifeWords store) {S : Type 0} (disk : S →
     pub begun : IsReadAndOpened disk keys old between sealing
     pub durable : (disk old).tells → (disk between).tells × IsSynced (disk between)
     pub faults : (disk old).faults ≤ (disk between).faults
+    -- what was found knows the store's gates
+    pub knows : audit.knows_gates found (disk between)
     -- what the store saw of the opening, and what the watch is shown of it, behind which that is whole
     pub opening_seen : ArePhasesMade by.lanes (begin_phases store by.head p found start) (disk old).seen (disk between).seen
     pub midway : Trace
@@ -329,7 +334,7 @@ module _ (store : StoreKind) (life : LifeWords store) {S : Type 0} (disk : S →
     pub opens_life : (disk old).tells → life.begins keys p (disk old).cells found
     -- it came in stages, as the calls behind it did
     pub opens_staged : OpensStaged by.head store life disk keys p old between
-    pub serving : ServedOver store life disk by keys p found sealing script tape between new before.output after.output midway u err
+    pub serving : ServedOver store life audit disk by keys p found sealing script tape between new before.output after.output midway u err
     pub told : serving.records ≡ records
 
   -- The run ended early, and nothing was run: no vault's call is in the store's life. Or the script was run.

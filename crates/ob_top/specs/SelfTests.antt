@@ -14,6 +14,7 @@ use Rattle.ob_vault.specs.Hidden.{RingHidden}
 use Rattle.ob_vault.specs.KindShown.{AreDrawn, steps_phases}
 use Rattle.ob_vault.specs.Shapes.{Shape, answered, shapes}
 use Rattle.ob_vault.specs.RingLives.{ring_lives}
+use Rattle.ob_top.specs.Audited.{ring_audits}
 use Rattle.ob_vault.specs.RingKind.{IsRingMap, RingFound, ring_hidden, ring_kind, ring_public}
 use Rattle.ob_script.specs.Drill.{drill_script}
 use Rattle.ob_shares.specs.Shares.{no_shares}
@@ -53,7 +54,7 @@ module _ {S : Type 0} (disk : S → Disk) (beat : BeatKind) (keys : Keys) (p : P
     pub between : S
     -- what the tape has given until then
     pub tape : Given
-    pub served : ServedOver ring_kind ring_lives disk (manner beat true 4 no_shares) keys p found (found.run).sealer (drill_script n) tape old between no_output no_output blind blind None
+    pub served : ServedOver ring_kind ring_lives ring_audits disk (manner beat true 4 no_shares) keys p found (found.run).sealer (drill_script n) tape old between no_output no_output blind blind None
     pub committed : IsPatient beat → AllCommitted n served.records
     pub read : IsReadBehind found (calls served.is_served.served.evidence.acts) old new
 
@@ -64,7 +65,7 @@ pub record IsDrilled {S : Type 0} (disk : S → Disk) (beat : BeatKind) (n : ℕ
   pub p : Params
   pub numbers : numbers_of p ≡ drill_numbers
   pub made : S
-  pub formatted : IsFormatted ring_kind ring_lives disk tape keys p old made
+  pub formatted : IsFormatted ring_kind ring_lives ring_audits disk tape keys p old made
   pub opened : S
   pub found : RingFound
   pub start : Gates

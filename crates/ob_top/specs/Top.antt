@@ -21,6 +21,7 @@ use Rattle.ob_top.specs.Drills.{DrillDone}
 use Rattle.ob_top.specs.Formats.{FormatDone}
 use Rattle.ob_vault.specs.RingKind.{ring_kind}
 use Rattle.ob_vault.specs.RingLives.{ring_lives}
+use Rattle.ob_top.specs.Audited.{ring_audits}
 use Rattle.ob_top.specs.Runs.{RunDone}
 use Rattle.ob_top.specs.Parts.{manner}
 
@@ -75,7 +76,7 @@ module _ {S W : Type 0} (disk : S → Disk) (flow : W → Flow) (beat : BeatKind
       Refuses Memory
       ⊎ (((field : Field) × IsBadNumber numbers field × Refuses (BadParams field))
       ⊎ ((p : Params) × AreParams numbers p × (KeysDo
-      ⊎ ((keys : Keys) × HasKeys text keys × OfStore entry exit HasNoStore (λ old new. ByTrace flow was is before after status trace (start_line p) (λ t u. FormatDone ring_kind ring_lives disk tape keys p old new before after t u status) old new)))))
+      ⊎ ((keys : Keys) × HasKeys text keys × OfStore entry exit HasNoStore (λ old new. ByTrace flow was is before after status trace (start_line p) (λ t u. FormatDone ring_kind ring_lives ring_audits disk tape keys p old new before after t u status) old new)))))
 
   -- `run`: want of memory for the words is told, then lanes out of their range, then what is wrong with the keys, then that there is no
   -- store, before anything is touched. With `--turns` all clients are made by hand; so many lanes share a phase's reads; and each
@@ -85,4 +86,4 @@ module _ {S W : Type 0} (disk : S → Disk) (flow : W → Flow) (beat : BeatKind
       Refuses Memory
       ⊎ ((AreBadLanes lanes × Refuses (BadParams LANES))
       ⊎ ((k : ℕ) × AreLanes lanes k × (shares : Shares) × AreShares limits shares × (KeysDo
-      ⊎ ((keys : Keys) × HasKeys text keys × OfStore entry exit HasNoStore (λ old new. ByTrace flow was is before after status trace (open_line false) (λ t u. RunDone ring_kind ring_lives disk (manner beat (not turns) k shares) tape keys old new before after t u status) old new)))))
+      ⊎ ((keys : Keys) × HasKeys text keys × OfStore entry exit HasNoStore (λ old new. ByTrace flow was is before after status trace (open_line false) (λ t u. RunDone ring_kind ring_lives ring_audits disk (manner beat (not turns) k shares) tape keys old new before after t u status) old new)))))

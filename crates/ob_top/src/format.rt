@@ -6,6 +6,7 @@ ghost use Rattle.ob_store.specs.Images.{LeavesOnly};
 ghost use Rattle.ob_store.specs.Calls.{GoesOn};
 ghost use Rattle.ob_vault.specs.RingKind.{ring_kind};
 ghost use Rattle.ob_vault.specs.RingLives.{ring_lives};
+ghost use Rattle.ob_top.specs.Audited.{ring_audits};
 ghost use Rattle.ob_top.specs.Formats.{FormatEnds};
 ghost use Rattle.ob_top.specs.Endings.{err_of};
 ghost use Rattle.ob_top.specs.Outside.{words_given};
@@ -44,7 +45,7 @@ pub fn format_on<R: Threads + Sync, S: Store, T: Tape, O: Sink, W: Watch>(
     requires whole { (W.trace watch.old).broken ≡ false }
     ensures goes { GoesOn (S.disk store.old) (S.disk store.new) }
     ensures none_out { (S.disk store.new).out ≡ 0 }
-    ensures ends { FormatEnds ring_kind ring_lives S.disk
+    ensures ends { FormatEnds ring_kind ring_lives ring_audits S.disk
         (words_given (T.present tape.new) (T.drawn tape.new)) keys.now params.now store.old
         store.new (outflow O.Sink output.old) (outflow O.Sink output.new) (W.trace watch.old)
         (W.trace watch.new) (err_of result) }

@@ -10,6 +10,7 @@ ghost use Rattle.ob_vault.specs.Kinds.{Stands, AllStand, StandsAsBefore};
 ghost use Rattle.ob_recover.specs.declared.found.Found.{Found};
 ghost use Rattle.ob_vault.specs.RingKind.{GoesOnFrom, RingFound, ring_kind};
 ghost use Rattle.ob_vault.specs.RingLives.{ring_lives};
+ghost use Rattle.ob_top.specs.Audited.{ring_audits};
 ghost use Rattle.ob_vault.specs.RingVaults.{HasPlanned, run_over};
 ghost use Rattle.ob_top.specs.Begun.{AreFewLanes, BegunBehindHead, EndsAtHead, FromHeadAndBehind, HasReadHead, RunsOnBegun, MayServe, NotBegun};
 ghost use Rattle.ob_desk.specs.Desk.{DeskState, MayOpen, new_desk, setup_with};
@@ -299,7 +300,7 @@ fn serve_on<R: Threads + Wait + Sync, S: Lanes, T: Tape, O: Sink, B: Beat, W: Wa
     ensures none_out { (S.disk store.new).out ≡ 0 }
     ensures serves { (f : RingFound) (found : Found) → f.run ≡ run_over begun.opening
         → GoesOnFrom keys.now begun.params found f → HasPlanned f.run f.content f.records
-        → ServedOver ring_kind ring_lives S.disk
+        → ServedOver ring_kind ring_lives ring_audits S.disk
         (manner (beat_kind B.passes B.exact) means.threads means.lanes means.shares)
         keys.now begun.params f begun.opening.sealer begun.scripts
         (words_given (T.present tape.new) (T.drawn tape.new)) store.old store.new
@@ -368,7 +369,7 @@ pub fn run_behind_head<
     ensures goes { GoesOn (S.disk store.old) (S.disk store.new) }
     ensures none_out { (S.disk store.new).out ≡ 0 }
     ensures done { FromHeadAndBehind S.disk keys.now params store.old (W.trace watch.old)
-        (λ head first before. RunOn ring_kind ring_lives S.disk (reading_head head
+        (λ head first before. RunOn ring_kind ring_lives ring_audits S.disk (reading_head head
         (manner (beat_kind B.passes B.exact) means.threads means.lanes means.shares))
         (words_given (T.present tape.new) (T.drawn tape.new)) keys.now first store.new
         (outside (inflow I.Source input.old) (outflow O.Sink output.old))
@@ -414,7 +415,7 @@ pub fn run_on<R: Threads + Wait + Sync, S: Lanes, T: Tape, I: Source, O: Sink, B
     requires lanes { AreFewLanes means.lanes }
     ensures goes { GoesOn (S.disk store.old) (S.disk store.new) }
     ensures none_out { (S.disk store.new).out ≡ 0 }
-    ensures done { RunOn ring_kind ring_lives S.disk
+    ensures done { RunOn ring_kind ring_lives ring_audits S.disk
         (manner (beat_kind B.passes B.exact) means.threads means.lanes means.shares)
         (words_given (T.present tape.new) (T.drawn tape.new)) keys.now store.old store.new
         (outside (inflow I.Source input.old) (outflow O.Sink output.old))

@@ -90,7 +90,7 @@ returns-clause-drilled g c =
       numbers = c.drill_params-params.ensures;
       made = c.format.new.store;
       formatted = formatted (λ s. g.S.Store.disk s) keys p (g.T.Tape.present c.format.new.tape) (g.T.Tape.drawn c.format.new.tape) c.args.store.now c.format.new.store e.does.all.seen e.stands e.images e.durable e.closed e.act e.drawn
-          (λ tells. formats p (g.T.Tape.drawn c.format.new.tape) e.drawn.1 keys (g.S.Store.disk c.format.new.store) (e.life tells)) e.serves.tells e.clear;
+          (λ tells. formats p (g.T.Tape.drawn c.format.new.tape) e.drawn.1 keys (g.S.Store.disk c.format.new.store) (e.life tells)) e.gates e.serves.tells e.clear;
       opened = c.ready.new.store;
       found = f;
       start = r.start;

@@ -24,7 +24,7 @@ returns-in-Ok-size_text-clause-ends g c =
     let before = outflow g.O.Sink c.args.output.now in
     let after = outflow g.O.Sink c.size_text.new.sink in (
       formatted (λ s. g.S.Store.disk s) c.args.keys.now c.args.params.now (g.T.Tape.present c.format.new.tape) (g.T.Tape.drawn c.format.new.tape) c.args.store.now c.format.new.store e.does.all.seen e.stands e.images e.durable e.closed e.act e.drawn
-          (λ tells. formats c.args.params.now (g.T.Tape.drawn c.format.new.tape) e.drawn.1 c.args.keys.now (g.S.Store.disk c.format.new.store) (e.life tells)) e.serves.tells e.clear,
+          (λ tells. formats c.args.params.now (g.T.Tape.drawn c.format.new.tape) e.drawn.1 c.args.keys.now (g.S.Store.disk c.format.new.store) (e.life tells)) e.gates e.serves.tells e.clear,
       subst (λ n. after.bytes ≡ appended before.bytes (size_line n)) c.ring_cells.ensures.cells c.in-Ok-size_text.ensures.all,
       (e.does.all.shows, c.in-Ok-still_watched.ensures),
     )
@@ -35,7 +35,7 @@ returns-in-Err-size_text-clause-ends g c =
     let before = outflow g.O.Sink c.args.output.now in
     let after = outflow g.O.Sink c.size_text.new.sink in (
       formatted (λ s. g.S.Store.disk s) c.args.keys.now c.args.params.now (g.T.Tape.present c.format.new.tape) (g.T.Tape.drawn c.format.new.tape) c.args.store.now c.format.new.store e.does.all.seen e.stands e.images e.durable e.closed e.act e.drawn
-          (λ tells. formats c.args.params.now (g.T.Tape.drawn c.format.new.tape) e.drawn.1 c.args.keys.now (g.S.Store.disk c.format.new.store) (e.life tells)) e.serves.tells e.clear,
+          (λ tells. formats c.args.params.now (g.T.Tape.drawn c.format.new.tape) e.drawn.1 c.args.keys.now (g.S.Store.disk c.format.new.store) (e.life tells)) e.gates e.serves.tells e.clear,
       c.in-Err-size_text.ensures.cause.failed,
       subst (λ n. IsPrinted before after (size_line n)) c.ring_cells.ensures.cells c.size_text.ensures.printed,
       (e.does.all.shows, c.in-Ok-still_watched.ensures),
@@ -46,7 +46,7 @@ returns-in-Err-still_watched-clause-ends g c =
     let e = c.in-Ok.ensures in
     format_broke (λ s. g.S.Store.disk s) (words_given (g.T.Tape.present c.format.new.tape) (g.T.Tape.drawn c.format.new.tape)) c.args.keys.now c.args.params.now c.args.store.now c.format.new.store _ _ _ c.in-Err-still_watched.err c.in-Err-still_watched.ensures
     (formatted (λ s. g.S.Store.disk s) c.args.keys.now c.args.params.now (g.T.Tape.present c.format.new.tape) (g.T.Tape.drawn c.format.new.tape) c.args.store.now c.format.new.store e.does.all.seen e.stands e.images e.durable e.closed e.act e.drawn
-    (λ tells. formats c.args.params.now (g.T.Tape.drawn c.format.new.tape) e.drawn.1 c.args.keys.now (g.S.Store.disk c.format.new.store) (e.life tells)) e.serves.tells e.clear)
+    (λ tells. formats c.args.params.now (g.T.Tape.drawn c.format.new.tape) e.drawn.1 c.args.keys.now (g.S.Store.disk c.format.new.store) (e.life tells)) e.gates e.serves.tells e.clear)
     e.does.all.shows
 
 pub returns-in-Err-still_watched-clause-goes : goal.returns-in-Err-still_watched-clause-goes

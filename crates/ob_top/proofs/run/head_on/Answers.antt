@@ -1,4 +1,4 @@
-use Rattle.std.proofs.Common.{◌≡◌, Err, [], ◌∷◌, true, refl}
+use Rattle.std.proofs.Common.{Err, [], ◌∷◌, refl}
 use Rattle.ob_base.specs.declared.params.Params.{Params}
 use Rattle.ob_store.specs.declared.watch.Note.TheVariants.{Read}
 use Rattle.ob_top.proofs.Noted.{reads_noted}

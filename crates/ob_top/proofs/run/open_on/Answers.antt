@@ -109,6 +109,7 @@ returns-in-Ok-prepare-clause-begun g c =
           is_begun = begun (λ s. g.S.Store.disk s) c.args.keys.now c.args.means.now.lanes c.requires.lanes.0 c.args.params c.in-Ok.scripts _ first c.args.store.now c.prepare.new.store h.head (record { keeps = h.keeps; passes = h.passes; seen = h.seen })
               c.in-Ok.ensures.came before _ _ c.in-Ok-prepare.opening e.opened e.serves.tells e.stands h.shown h.whole;
           durable = λ tells. let here = h.keeps.tells tells in (e.serves.tells here, (e.opened.told here).settled);
+          knows = λ tells. let told = e.opened.told (e.serves.goes.told tells) in record { generation = told.generation_gates; epoch = told.epoch_gates };
           left = λ at tells stands all. ring_leaves_standing (λ s. g.S.Store.disk s) c.args.keys.now c.args.params first c.prepare.new.store (g.met.S.Store.only_now first) tells all
               (inr (ring_opens_standing (λ s. g.S.Store.disk s) c.args.keys.now c.args.params first c.args.store.now c.prepare.new.store (record { keeps = h.keeps; passes = h.passes; seen = h.seen }) e.leaves)) at stands;
           since = opens_in_stages (λ s. g.S.Store.disk s) (λ x t image at left. g.met.S.Store.counts_now x t image at left) (λ x image left. g.met.S.Store.only_now x image left) c.args.keys.now c.args.means.now.lanes c.args.params first c.args.store.now c.prepare.new.store
@@ -118,6 +119,7 @@ returns-in-Ok-prepare-clause-begun g c =
         record {
           is_begun = begun_here (λ s. g.S.Store.disk s) c.args.keys.now c.args.means.now.lanes c.args.params c.in-Ok.scripts _ c.args.store.now c.prepare.new.store c.requires.head c.in-Ok.ensures.came _ _ c.requires.whole c.in-Ok-prepare.opening e.opened e.serves.tells e.stands;
           durable = λ tells. (e.serves.tells tells, (e.opened.told tells).settled);
+          knows = λ tells. let told = e.opened.told (e.serves.goes.told tells) in record { generation = told.generation_gates; epoch = told.epoch_gates };
           left = λ at tells stands all. ring_leaves_standing (λ s. g.S.Store.disk s) c.args.keys.now c.args.params c.args.store.now c.prepare.new.store (g.met.S.Store.only_now c.args.store.now) tells all
               (inr (opens_here (λ s. g.S.Store.disk s) c.args.keys.now c.args.params c.args.store.now c.prepare.new.store e.leaves)) at stands;
           since = staged_here (λ s. g.S.Store.disk s) (λ x image left. g.met.S.Store.only_now x image left) c.args.keys.now c.args.means.now.lanes c.args.params c.args.store.now c.prepare.new.store _ _ c.in-Ok-prepare.opening e.opened e.leaves;

@@ -3,6 +3,7 @@ use Rattle.ob_vault.specs.RingKind.{ring_kind}
 use Rattle.ob_vault.proofs.OpenedLife.{opened_lives}
 use Rattle.ob_vault.proofs.Standing.{ring_keeps}
 use Rattle.ob_vault.specs.RingLives.{ring_lives}
+use Rattle.ob_top.specs.Audited.{ring_audits}
 use Rattle.std.proofs.Common.{[], arith, inr}
 use Rattle.ob_top.proofs.Beginnings.{broke_early, ring_quiet}
 use Rattle.ob_top.proofs.Living.{open_lives}
@@ -17,8 +18,8 @@ returns-in-Err-clause-done g c =
     let (from, behind) = c.in-Err.ensures.refused in (
       λ first before h.
           let not = from first before h in
-          ended_early ring_kind ring_quiet ring_lives ring_keeps (λ s. g.S.Store.disk s) (λ x t image at left. g.met.S.Store.counts_now x t image at left) _ _ c.args.keys.now first _ before _ _ _ _ c.in-Err.err not.early not.lives,
-      ended_early ring_kind ring_quiet ring_lives ring_keeps (λ s. g.S.Store.disk s) (λ x t image at left. g.met.S.Store.counts_now x t image at left) _ _ c.args.keys.now c.args.store.now _ _ _ _ _ _ c.in-Err.err behind.early behind.lives,
+          ended_early ring_kind ring_quiet ring_lives ring_audits ring_keeps (λ s. g.S.Store.disk s) (λ x t image at left. g.met.S.Store.counts_now x t image at left) _ _ c.args.keys.now first _ before _ _ _ _ c.in-Err.err not.early not.lives,
+      ended_early ring_kind ring_quiet ring_lives ring_audits ring_keeps (λ s. g.S.Store.disk s) (λ x t image at left. g.met.S.Store.counts_now x t image at left) _ _ c.args.keys.now c.args.store.now _ _ _ _ _ _ c.in-Err.err behind.early behind.lives,
     )
 
 pub returns-in-Err-clause-goes : goal.returns-in-Err-clause-goes
@@ -35,7 +36,7 @@ returns-in-Err-still_watched-clause-done g c =
       λ first before h.
           let all = from first before h in
           let b = all.is_begun in
-          ended_early ring_kind ring_quiet ring_lives ring_keeps (λ s. g.S.Store.disk s) (λ x t image at left. g.met.S.Store.counts_now x t image at left) _ _ c.args.keys.now first _ before _ _ _ _ c.in-Err-still_watched.err
+          ended_early ring_kind ring_quiet ring_lives ring_audits ring_keeps (λ s. g.S.Store.disk s) (λ x t image at left. g.met.S.Store.counts_now x t image at left) _ _ c.args.keys.now first _ before _ _ _ _ c.in-Err-still_watched.err
           (broke_early head_cells (λ s. g.S.Store.disk s) _ _ _ _ _ _ _ _ _ c.in-Err-still_watched.err c.in-Err-still_watched.ensures (λ broken. inr (record {
             p = c.in-Ok.begun.params;
             script = c.in-Ok.begun.scripts;
@@ -53,7 +54,7 @@ returns-in-Err-still_watched-clause-done g c =
           })))
           (open_lives (λ s. g.S.Store.disk s) c.args.keys.now first _ c.in-Ok.begun.opening.sealer all.opens),
       let b = behind.is_begun in
-          ended_early ring_kind ring_quiet ring_lives ring_keeps (λ s. g.S.Store.disk s) (λ x t image at left. g.met.S.Store.counts_now x t image at left) _ _ c.args.keys.now c.args.store.now _ _ _ _ _ _ c.in-Err-still_watched.err
+          ended_early ring_kind ring_quiet ring_lives ring_audits ring_keeps (λ s. g.S.Store.disk s) (λ x t image at left. g.met.S.Store.counts_now x t image at left) _ _ c.args.keys.now c.args.store.now _ _ _ _ _ _ c.in-Err-still_watched.err
           (broke_early [] (λ s. g.S.Store.disk s) _ _ _ _ _ _ _ _ _ c.in-Err-still_watched.err c.in-Err-still_watched.ensures (λ broken. inr (record {
             p = c.in-Ok.begun.params;
             script = c.in-Ok.begun.scripts;
@@ -89,16 +90,16 @@ returns-clause-done g c =
           let all = from first before h in
           let b = all.is_begun in
           let read = h.goes.faults in
-          ran ring_kind ring_quiet ring_lives ring_keeps (λ s. g.S.Store.disk s) (λ x t image at left. g.met.S.Store.counts_now x t image at left) _ _ c.args.keys.now first c.open_on.new.store _ _ _ _ _
+          ran ring_kind ring_quiet ring_lives ring_audits ring_keeps (λ s. g.S.Store.disk s) (λ x t image at left. g.met.S.Store.counts_now x t image at left) _ _ c.args.keys.now first c.open_on.new.store _ _ _ _ _
           c.in-Ok.begun.params c.in-Ok.begun.scripts f b.start c.in-Ok.begun.opening.sealer before _ _ _ b.shown c.in-Ok-still_watched.ensures
-          (omega (arith, read, later)) b.opened c.in-Ok.ensures.fits b.seen all.durable b.stood all.left all.since all.opens
+          (omega (arith, read, later)) all.knows b.opened c.in-Ok.ensures.fits b.seen all.durable b.stood all.left all.since all.opens
           (λ tells word_of s here small. opened_lives c.args.keys.now c.in-Ok.begun.params word_of s (g.S.Store.disk first).cells f (b.opened.finds tells) here small) serving,
       let b = behind.is_begun in
-          ran ring_kind ring_quiet ring_lives ring_keeps (λ s. g.S.Store.disk s) (λ x t image at left. g.met.S.Store.counts_now x t image at left) _ _ c.args.keys.now c.args.store.now c.open_on.new.store _ _ _ _ _
+          ran ring_kind ring_quiet ring_lives ring_audits ring_keeps (λ s. g.S.Store.disk s) (λ x t image at left. g.met.S.Store.counts_now x t image at left) _ _ c.args.keys.now c.args.store.now c.open_on.new.store _ _ _ _ _
           c.in-Ok.begun.params c.in-Ok.begun.scripts f b.start c.in-Ok.begun.opening.sealer _ _ _ _ b.shown c.in-Ok-still_watched.ensures
-          later b.opened c.in-Ok.ensures.fits b.seen behind.durable b.stood behind.left behind.since behind.opens
+          later behind.knows b.opened c.in-Ok.ensures.fits b.seen behind.durable b.stood behind.left behind.since behind.opens
           (λ tells word_of s here small. opened_lives c.args.keys.now c.in-Ok.begun.params word_of s (g.S.Store.disk c.args.store.now).cells f (b.opened.finds tells) here small)
-          (served_reading [] ring_kind ring_lives g.S.Store.disk _ c.args.keys.now c.in-Ok.begun.params f c.in-Ok.begun.opening.sealer c.in-Ok.begun.scripts _ c.open_on.new.store _ _ _ _ _ _ serving),
+          (served_reading [] ring_kind ring_lives ring_audits g.S.Store.disk _ c.args.keys.now c.in-Ok.begun.params f c.in-Ok.begun.opening.sealer c.in-Ok.begun.scripts _ c.open_on.new.store _ _ _ _ _ _ serving),
     )
 
 pub returns-clause-goes : goal.returns-clause-goes

@@ -5,6 +5,7 @@ use Rattle.ob_cells.specs.Jobs.{Manned}
 use Rattle.ob_fetch.specs.declared.run.Run.{Run}
 use Rattle.ob_vault.specs.RingKind.{ring_kind}
 use Rattle.ob_vault.specs.RingLives.{ring_lives}
+use Rattle.ob_top.specs.Audited.{ring_audits}
 use Rattle.ob_vault.specs.RingVaults.{run_over, running}
 use Rattle.ob_top.specs.Outside.{words_given}
 use Rattle.ob_top.proofs.Lent.{serves_lent}
@@ -35,7 +36,7 @@ returns-clause-serves g c = λ f found same goes planned.
     (ap (λ x. g.T.Tape.present x) c.over-vault.ensures.tape ∙ c.requires.serves.present_is) in
     let names : c.over-arg-1.given ≡ c.into_lent-store.result.0.ghost_name = sym (c.into_lent-store.ensures.name ∙ first_same _ _ _ _ c.conduct-ended.ensures.anchors ∙ c.over-vault.ensures.name) in
     let tape_names : c.over-arg-2-1.given ≡ c.into_lent-store.result.1.ghost_name = sym (c.into_lent-store.ensures.tape_name ∙ first_same _ _ _ _ (rest_same _ _ _ _ c.conduct-ended.ensures.anchors) ∙ c.over-vault.ensures.tape_name) in
-    renamed ring_kind ring_lives g.S.Store.disk _ c.args.keys.now c.args.begun.params f f.run.sealer c.args.begun.opening.sealer c.args.begun.scripts _ _ _ c.args.store.now _ c.store-1.given.0 _ _ _ _ _
+    renamed ring_kind ring_lives ring_audits g.S.Store.disk _ c.args.keys.now c.args.begun.params f f.run.sealer c.args.begun.opening.sealer c.args.begun.scripts _ _ _ c.args.store.now _ c.store-1.given.0 _ _ _ _ _
     (ap (λ (r : Run). r.sealer) same) (ap (λ x. words_given (g.T.Tape.present x) (g.T.Tape.drawn x)) (sym (c.tape-1.given.1 tape_names ∙ c.hand_back.ensures.tape ∙ c.into_lent-store.ensures.tape)))
     c.over-vault.ensures.store (c.store-1.given.1 names ∙ c.hand_back.ensures.store ∙ c.into_lent-store.ensures.store) s
 
