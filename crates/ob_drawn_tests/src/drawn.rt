@@ -8,64 +8,39 @@ use crate::pair::{
 use crate::playing::{Run, play};
 use ob_base::{Key, Value};
 use ob_desk::Txn;
-use ob_shares::{NO_SHARES, Shares};
+use ob_shares::Shares;
 use std::alloc::Global;
 use std::process::Abort;
 
-/// Shares of both kinds, of either and of none, each with just so many places as they need. Where
-/// there is none, places are few.
-pub const SETUPS: &[Setup] = &[
-    Setup {
-        keys: 24,
-        batches: 2,
-        places: 8,
-        writes: 8,
-        shares: Shares {
-            reads: Some(1),
-            writes: Some(1),
-        },
-    },
-    Setup {
-        keys: 24,
-        batches: 3,
-        places: 16,
-        writes: 16,
-        shares: Shares {
-            reads: Some(2),
-            writes: Some(2),
-        },
-    },
-    Setup {
-        keys: 24,
-        batches: 2,
-        places: 16,
-        writes: 2,
-        shares: Shares {
-            reads: Some(2),
-            writes: None,
-        },
-    },
-    Setup {
-        keys: 24,
-        batches: 3,
-        places: 2,
-        writes: 8,
-        shares: Shares {
-            reads: None,
-            writes: Some(1),
-        },
-    },
-    Setup {
-        keys: 12,
-        batches: 2,
-        places: 2,
-        writes: 2,
-        shares: NO_SHARES,
-    },
+// How many keys, batches, places of a batch and places for writes there are, and the shares of gets,
+// and of puts and deletes: of both kinds, of either and of none, each with just so many places as they
+// need. Where there is none, places are few.
+type Row = (u32, u32, u32, u32, Option<u32>, Option<u32>);
+
+static ROWS: [Row; 5] = [
+    (24, 2, 8, 8, Some(1), Some(1)),
+    (24, 3, 16, 16, Some(2), Some(2)),
+    (24, 2, 16, 2, Some(2), None),
+    (24, 3, 2, 8, None, Some(1)),
+    (12, 2, 2, 2, None, None),
 ];
 
-fn client_of(random: &mut Random) -> u32 {
-    (random.below(u64::from(CLIENTS)) as u32).saturating_add(1)
+/// How many rows there are.
+pub const SETUPS: usize = 5;
+
+/// The setup of a row.
+pub fn setup_of(row: usize) -> Setup {
+    let (keys, batches, places, writes, read, changed) = ROWS[row % SETUPS];
+    Setup {
+        keys,
+        batches,
+        places,
+        writes,
+        shares: Shares {
+            reads: read,
+            writes: changed,
+        },
+    }
 }
 
 /// One of the first keys, or at each fourth time one of all.
@@ -128,7 +103,7 @@ fn drive(rt: &impl Abort, pair: &mut Pair) -> bool {
 /// So many calls that are drawn: whether all are answered alike.
 pub fn are_alike(rt: &impl Abort, pair: &mut Pair, setup: &Setup, calls: u32) -> bool {
     for _ in 0..calls {
-        let client = client_of(&mut pair.drawn.random);
+        let client = (pair.drawn.random.below(u64::from(CLIENTS)) as u32).saturating_add(1);
         let alike = if pair.drawn.random.below(8) == 0 {
             drive(rt, pair)
         } else {
@@ -145,8 +120,15 @@ pub fn are_alike(rt: &impl Abort, pair: &mut Pair, setup: &Setup, calls: u32) ->
 fn histories(rt: &impl Abort, alloc: Global, drawn: &mut Drawn) -> bool {
     let mut none = Vec::new(alloc);
     for _ in 0..800 {
-        for setup in SETUPS {
-            if !play(rt, alloc, setup, drawn, &Run::Drawn(120), &mut none) {
+        for row in 0..SETUPS {
+            if !play(
+                rt,
+                alloc,
+                &setup_of(row),
+                drawn,
+                &Run::Drawn(120),
+                &mut none,
+            ) {
                 return false;
             }
         }
@@ -166,6 +148,9 @@ fn came_often(causes: &[u64; 8]) -> bool {
 
 #[test]
 fn drawn_histories_are_answered_as_by_a_plain_desk(rt: HostRuntime) {
-    let mut drawn = Drawn::new(1);
+    let mut drawn = Drawn {
+        random: Random { state: 1 },
+        causes: [0; 8],
+    };
     assert!(rt; histories(&rt, rt.alloc(), &mut drawn) && came_often(&drawn.causes));
 }

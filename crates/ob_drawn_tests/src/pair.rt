@@ -3,9 +3,9 @@
 ghost use Rattle.std.specs.Prelude.{◌≡◌, ℕ, ◌*◌, ◌<◌, ◌≤◌, true, Some};
 
 use crate::plain_desk::PlainDesk;
-use crate::told::{are_writes, is_done, is_got, is_look, is_told};
+use crate::told::{Told, are_writes, is_look, is_told, told_by_done, told_by_got};
 use ob_base::{Key, Params, Value};
-use ob_desk::{Begun, Desk, Done, Got, Txn};
+use ob_desk::{Begun, Desk, Txn};
 use ob_desk_calls as calls;
 use ob_desk_calls::{may_close, may_look, may_publish, may_take};
 use ob_serial::{Outcome, Why};
@@ -52,16 +52,6 @@ pub const CLIENTS: u32 = 8;
 pub struct Drawn {
     pub random: Random,
     pub causes: [u64; 8],
-}
-
-impl Drawn {
-    /// Numbers that begin so, before any call.
-    pub fn new(state: u64) -> Drawn {
-        Drawn {
-            random: Random { state },
-            causes: [0; 8],
-        }
-    }
 }
 
 /// Both desks.
@@ -115,8 +105,9 @@ pub fn open_both(rt: &impl Abort, alloc: Global, setup: &Setup, mut drawn: Drawn
     }
 }
 
-fn place_of(why: &Why<Key>) -> usize {
-    match *why {
+// Counts the cause of an abort.
+fn count(causes: &mut [u64; 8], why: &Why<Key>) {
+    let place = match *why {
         Why::Conflict { .. } => 0,
         Why::Depends { .. } => 1,
         Why::ReadsFull { .. } => 2,
@@ -125,85 +116,54 @@ fn place_of(why: &Why<Key>) -> usize {
         Why::ShareWrites { .. } => 5,
         Why::EpochEnd => 6,
         Why::Asked => 7,
-        Why::Stopped { .. } => 8,
-    }
+        Why::Stopped { .. } => return,
+    };
+    causes[place] = causes[place].saturating_add(1);
 }
 
-// Counts the cause of an abort.
-fn count(causes: &mut [u64; 8], why: &Why<Key>) {
-    let place = place_of(why);
-    if place < 8 {
-        causes[place] = causes[place].saturating_add(1);
+// Whether both tell the same; the cause of an abort is counted.
+fn is_same(causes: &mut [u64; 8], told: Option<Told>, wanted: Option<Told>) -> bool {
+    if let Some((_, Some(why))) = told {
+        count(causes, &why);
     }
-}
-
-// Whether two gets or polls are answered alike; the cause of an abort is counted.
-fn same_got(causes: &mut [u64; 8], one: &Option<Got>, other: &Option<Got>) -> bool {
-    match (one, other) {
-        (Some(x), Some(y)) => {
-            if let Got::Aborted { why } = x {
-                count(causes, why);
-            }
-            is_got(x, y)
-        }
-        (None, None) => true,
-        _ => false,
-    }
-}
-
-// The same of writes and requests to commit.
-fn same_done(causes: &mut [u64; 8], one: &Option<Done>, other: &Option<Done>) -> bool {
-    match (one, other) {
-        (Some(x), Some(y)) => {
-            if let Done::Aborted { why } = x {
-                count(causes, why);
-            }
-            is_done(x, y)
-        }
-        (None, None) => true,
-        _ => false,
-    }
-}
-
-fn txn_of(begun: Option<Begun>) -> Option<Txn> {
-    match begun? {
-        Begun::Txn { txn } => Some(txn),
-        Begun::Stopped { .. } => None,
-    }
+    told == wanted
 }
 
 /// The client begins a transaction.
 pub fn begin(rt: &impl Abort, pair: &mut Pair, client: u32) -> bool {
-    let begun = calls::begin(&mut pair.desk, client).expect(rt, "memory");
-    txn_of(begun) == pair.plain.begin(rt, client)
+    let txn = match calls::begin(&mut pair.desk, client).expect(rt, "memory") {
+        Some(Begun::Txn { txn }) => Some(txn),
+        _ => None,
+    };
+    txn == pair.plain.begin(rt, client)
 }
 
 /// What the desk answers a get, where the plain desk answers the same.
 pub fn get(rt: &impl Abort, pair: &mut Pair, txn: &Txn, key: Key) -> bool {
     let got = calls::get(&mut pair.desk, txn, key).expect(rt, "memory");
     let wanted = pair.plain.get(rt, txn, key);
-    same_got(&mut pair.drawn.causes, &got, &wanted)
+    is_same(&mut pair.drawn.causes, told_by_got(&got), wanted)
 }
 
 /// A poll.
 pub fn poll(rt: &impl Abort, pair: &mut Pair, txn: &Txn) -> bool {
     let got = calls::poll(&mut pair.desk, txn);
     let wanted = pair.plain.poll(rt, txn);
-    same_got(&mut pair.drawn.causes, &got, &wanted)
+    is_same(&mut pair.drawn.causes, told_by_got(&got), wanted)
 }
 
 /// A put, or a delete where there is no value.
 pub fn write(rt: &impl Abort, pair: &mut Pair, txn: &Txn, key: Key, value: &Option<Value>) -> bool {
     let done = calls::write(&mut pair.desk, txn, key, value).expect(rt, "memory");
     let wanted = pair.plain.write(rt, txn, key, value);
-    same_done(&mut pair.drawn.causes, &done, &wanted)
+    is_same(&mut pair.drawn.causes, told_by_done(&done), wanted)
 }
 
 /// A request to commit.
 pub fn commit(pair: &mut Pair, txn: &Txn) -> bool {
     let done = calls::commit(&mut pair.desk, txn);
     let wanted = pair.plain.commit(txn);
-    same_done(&mut pair.drawn.causes, &done, &wanted)
+    is_same(&mut pair.drawn.causes, told_by_done(&done), wanted)
 }
 
 /// The client aborts its transaction.

@@ -1,6 +1,7 @@
 //! One epoch of a plain desk: what its transactions did and which keys its clients named, as lists,
 //! through which each answer is looked up, whatever that takes.
 
+use crate::told::parts_of;
 use ob_base::{Key, Op, Value, Write};
 use ob_serial::Why;
 use std::alloc::Global;
@@ -79,19 +80,8 @@ pub fn note(rt: &impl Abort, names: &mut Vec<Name>, client: u32, key: Key) {
 
 // What an operation sets the key to, where it does: a value, or none for a delete.
 fn set_by(op: &Op<Key>, of: Key) -> Option<Option<Value>> {
-    match *op {
-        Op::Put { key, value } => { if key == of { Some(Some(value)) } else { None } }
-        Op::Del { key } => { if key == of { Some(None) } else { None } }
-        Op::Get { .. } => None,
-    }
-}
-
-// Whether an operation is a get of the key from this source.
-fn gets_from(op: &Op<Key>, of: Key, from: u64) -> bool {
-    match *op {
-        Op::Get { key, source, .. } => key == of && source == from,
-        Op::Put { .. } | Op::Del { .. } => false,
-    }
+    let (key, set, _) = parts_of(op);
+    if key == of { set } else { None }
 }
 
 impl PlainEpoch {
@@ -129,11 +119,6 @@ impl PlainEpoch {
             }
         }
         None
-    }
-
-    /// Why the ticket was aborted, if it was.
-    pub fn why(&self, ticket: u64) -> Option<Why<Key>> {
-        self.txn(ticket)?.why
     }
 
     /// Whether the ticket was drawn and isn't aborted.
@@ -193,7 +178,8 @@ impl PlainEpoch {
         let source = self.source(ticket, key);
         let mut mark: u64 = 0;
         for deed in &self.deeds {
-            if gets_from(&deed.op, key, source) {
+            let (of, _, got) = parts_of(&deed.op);
+            if of == key && matches!(got, Some((_, from)) if from == source) {
                 mark = mark.max(deed.ticket);
             }
         }

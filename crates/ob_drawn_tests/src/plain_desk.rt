@@ -2,8 +2,9 @@
 //! not be made is answered None.
 
 use crate::plain::{Found, PlainEpoch, PlainTxn, note, past};
+use crate::told::{Told, outcome_of};
 use ob_base::{Key, Op, Params, Value, Write};
-use ob_desk::{Done, Got, Look, Txn};
+use ob_desk::{Look, Txn};
 use ob_serial::{Outcome, Why};
 use ob_shares::Shares;
 use std::alloc::Global;
@@ -38,10 +39,6 @@ fn op_of(key: Key, found: &Found) -> Op<Key> {
         reply: found.value,
         source: found.source,
     }
-}
-
-fn got_of(found: &Found) -> Got {
-    Got::Value { value: found.value }
 }
 
 fn set_of(key: Key, value: &Option<Value>) -> Op<Key> {
@@ -84,34 +81,22 @@ impl PlainDesk {
         last
     }
 
-    // How a transaction of a published epoch ended.
-    fn told(&self, txn: &Txn) -> Option<Outcome<Key>> {
-        for end in &self.ended {
-            if end.txn == *txn {
-                return Some(end.outcome);
-            }
-        }
-        None
-    }
-
-    /// How the transaction ended, if it has.
+    /// How the transaction ended, if it has: by its epoch's lists, or once that is published.
     pub fn outcome(&self, txn: &Txn) -> Option<Outcome<Key>> {
-        let epoch = if txn.epoch == self.running.number {
-            &self.running
+        let found = if txn.epoch == self.running.number {
+            self.running.txn(txn.ticket)?
         } else if self.is_closed && txn.epoch == self.closed.number {
-            &self.closed
+            self.closed.txn(txn.ticket)?
         } else {
-            return self.told(txn);
+            for end in &self.ended {
+                if end.txn == *txn {
+                    return Some(end.outcome);
+                }
+            }
+            return None;
         };
-        let why = epoch.why(txn.ticket)?;
+        let why = found.why?;
         Some(Outcome::Aborted { why })
-    }
-
-    fn why(&self, txn: &Txn) -> Option<Why<Key>> {
-        match self.outcome(txn)? {
-            Outcome::Aborted { why } => Some(why),
-            Outcome::Committed | Outcome::Unsure { .. } => None,
-        }
     }
 
     // The transaction, where it is its client's last one, runs, and isn't aborted.
@@ -141,7 +126,10 @@ impl PlainDesk {
         if self.last(txn.client) != Some(*txn) {
             return None;
         }
-        self.why(txn)
+        match self.outcome(txn)? {
+            Outcome::Aborted { why } => Some(why),
+            Outcome::Committed | Outcome::Unsure { .. } => None,
+        }
     }
 
     pub fn begin(&mut self, rt: &impl Abort, client: u32) -> Option<Txn> {
@@ -169,48 +157,42 @@ impl PlainDesk {
         Some(txn)
     }
 
-    fn end(&mut self, txn: &Txn, why: Why<Key>) -> Why<Key> {
+    fn end(&mut self, txn: &Txn, why: Why<Key>) -> Told {
         self.running.abort(txn.ticket, why);
-        why
-    }
-
-    // How many places the batches that are left have.
-    fn places(&self) -> u64 {
-        u64::from(self.params.places).saturating_mul(self.running.left)
+        (None, Some(why))
     }
 
     // The get waits for its key, which is queued once, where there is a place for it.
-    fn queue(&mut self, rt: &impl Abort, txn: &Txn, key: Key) -> Got {
+    fn queue(&mut self, rt: &impl Abort, txn: &Txn, key: Key) -> Told {
         if !self.running.queue.contains(&key) {
             let queued = self.running.queue.len() as u64;
             let left = self.running.left;
-            if queued >= self.places() {
-                let why = self.end(txn, Why::ReadsFull { queued, left });
-                return Got::Aborted { why };
+            if queued >= u64::from(self.params.places).saturating_mul(left) {
+                return self.end(txn, Why::ReadsFull { queued, left });
             }
             self.running.queue.push(key).expect(rt, "memory");
         }
         self.running.wait_for(txn.ticket, Some(key));
-        Got::Queued
+        (None, None)
     }
 
     // The get is answered from the lists, where they have what it finds.
-    fn answer(&mut self, rt: &impl Abort, txn: &Txn, key: Key) -> Option<Got> {
+    fn answer(&mut self, rt: &impl Abort, txn: &Txn, key: Key) -> Option<Told> {
         let found = self.running.found(txn.ticket, key)?;
         self.running.add(rt, txn.ticket, op_of(key, &found));
-        Some(got_of(&found))
+        let Found { value, .. } = found;
+        Some((Some(value), None))
     }
 
-    pub fn get(&mut self, rt: &impl Abort, txn: &Txn, key: Key) -> Option<Got> {
+    pub fn get(&mut self, rt: &impl Abort, txn: &Txn, key: Key) -> Option<Told> {
         if let Some(why) = self.aborted(txn) {
-            return Some(Got::Aborted { why });
+            return Some((None, Some(why)));
         }
         if !self.is_free(txn) {
             return None;
         }
         if let Some(keys) = past(self.shares.reads, &self.running.read, txn.client, key) {
-            let why = self.end(txn, Why::ShareReads { keys });
-            return Some(Got::Aborted { why });
+            return Some(self.end(txn, Why::ShareReads { keys }));
         }
         note(rt, &mut self.running.read, txn.client, key);
         if let Some(got) = self.answer(rt, txn, key) {
@@ -219,14 +201,14 @@ impl PlainDesk {
         Some(self.queue(rt, txn, key))
     }
 
-    pub fn poll(&mut self, rt: &impl Abort, txn: &Txn) -> Option<Got> {
+    pub fn poll(&mut self, rt: &impl Abort, txn: &Txn) -> Option<Told> {
         if let Some(why) = self.aborted(txn) {
-            return Some(Got::Aborted { why });
+            return Some((None, Some(why)));
         }
         let key = self.waits_for(txn)?;
         match self.answer(rt, txn, key) {
             Some(got) => Some(got),
-            None => Some(Got::Queued),
+            None => Some((None, None)),
         }
     }
 
@@ -250,35 +232,33 @@ impl PlainDesk {
         txn: &Txn,
         key: Key,
         value: &Option<Value>,
-    ) -> Option<Done> {
+    ) -> Option<Told> {
         if let Some(why) = self.aborted(txn) {
-            return Some(Done::Aborted { why });
+            return Some((None, Some(why)));
         }
         if !self.is_free(txn) {
             return None;
         }
         if let Some(keys) = past(self.shares.writes, &self.running.changed, txn.client, key) {
-            let why = self.end(txn, Why::ShareWrites { keys });
-            return Some(Done::Aborted { why });
+            return Some(self.end(txn, Why::ShareWrites { keys }));
         }
         note(rt, &mut self.running.changed, txn.client, key);
         if let Some(why) = self.refusal(txn, key) {
-            let why = self.end(txn, why);
-            return Some(Done::Aborted { why });
+            return Some(self.end(txn, why));
         }
         self.running.add(rt, txn.ticket, set_of(key, value));
-        Some(Done::Yes)
+        Some((None, None))
     }
 
-    pub fn commit(&mut self, txn: &Txn) -> Option<Done> {
+    pub fn commit(&mut self, txn: &Txn) -> Option<Told> {
         if let Some(why) = self.aborted(txn) {
-            return Some(Done::Aborted { why });
+            return Some((None, Some(why)));
         }
         if !self.is_free(txn) {
             return None;
         }
         self.running.ask(txn.ticket);
-        Some(Done::Yes)
+        Some((None, None))
     }
 
     /// Aborts the transaction: also one that waits.
@@ -289,7 +269,7 @@ impl PlainDesk {
         if self.live(txn)?.asked {
             return None;
         }
-        Some(self.end(txn, Why::Asked))
+        self.end(txn, Why::Asked).1
     }
 
     pub fn settled(&self, txn: &Txn) -> Option<Option<Outcome<Key>>> {
@@ -390,10 +370,7 @@ impl PlainDesk {
             self.store.push(*write).expect(rt, "memory");
         }
         for txn in &self.closed.txns {
-            let outcome = match txn.why {
-                Some(why) => Outcome::Aborted { why },
-                None => Outcome::Committed,
-            };
+            let outcome = outcome_of(txn);
             let txn = Txn {
                 client: txn.client,
                 epoch: self.closed.number,

@@ -3,24 +3,28 @@
 use crate::plain::{PlainEpoch, PlainTxn};
 use ob_base::{Key, Op, Value, Write};
 use ob_desk::{Done, Got, Look};
-use ob_serial::{EpochRecord, Outcome, TxnRecord};
+use ob_serial::{EpochRecord, Outcome, TxnRecord, Why};
 
-/// Whether two gets or polls are answered alike.
-pub fn is_got(one: &Got, other: &Got) -> bool {
-    match (*one, *other) {
-        (Got::Value { value: x }, Got::Value { value: y }) => x == y,
-        (Got::Queued, Got::Queued) => true,
-        (Got::Aborted { why: x }, Got::Aborted { why: y }) => x == y,
-        _ => false,
+/// What a client is told: a value or none where its get is answered, and why its transaction is aborted
+/// where it is.
+pub type Told = (Option<Option<Value>>, Option<Why<Key>>);
+
+/// What a get or a poll tells.
+pub fn told_by_got(got: &Option<Got>) -> Option<Told> {
+    match *got {
+        Some(Got::Value { value }) => Some((Some(value), None)),
+        Some(Got::Queued) => Some((None, None)),
+        Some(Got::Aborted { why }) => Some((None, Some(why))),
+        None => None,
     }
 }
 
-/// Whether two writes or requests to commit are answered alike.
-pub fn is_done(one: &Done, other: &Done) -> bool {
-    match (*one, *other) {
-        (Done::Yes, Done::Yes) => true,
-        (Done::Aborted { why: x }, Done::Aborted { why: y }) => x == y,
-        _ => false,
+/// What a write or a request to commit tells.
+pub fn told_by_done(done: &Option<Done>) -> Option<Told> {
+    match *done {
+        Some(Done::Yes) => Some((None, None)),
+        Some(Done::Aborted { why }) => Some((None, Some(why))),
+        None => None,
     }
 }
 
@@ -44,32 +48,13 @@ pub fn are_writes(one: &[Write], other: &[Write]) -> bool {
     one.len() == other.len()
 }
 
-fn is_get(one: &Op<Key>, of: Key, value: &Option<Value>, from: u64) -> bool {
-    match *one {
-        Op::Get { key, reply, source } => key == of && reply == *value && source == from,
-        Op::Put { .. } | Op::Del { .. } => false,
-    }
-}
-
-fn is_put(one: &Op<Key>, of: Key, to: &Value) -> bool {
-    match *one {
-        Op::Put { key, value } => key == of && value == *to,
-        Op::Get { .. } | Op::Del { .. } => false,
-    }
-}
-
-fn is_del(one: &Op<Key>, of: Key) -> bool {
-    match *one {
-        Op::Del { key } => key == of,
-        Op::Get { .. } | Op::Put { .. } => false,
-    }
-}
-
-fn is_op(one: &Op<Key>, other: &Op<Key>) -> bool {
-    match *one {
-        Op::Get { key, reply, source } => is_get(other, key, &reply, source),
-        Op::Put { key, value } => is_put(other, key, &value),
-        Op::Del { key } => is_del(other, key),
+/// The key of an operation; what a put or a delete sets it to; and what a get is answered, with the
+/// ticket whose that is.
+pub fn parts_of(op: &Op<Key>) -> (Key, Option<Option<Value>>, Option<(Option<Value>, u64)>) {
+    match *op {
+        Op::Get { key, reply, source } => (key, None, Some((reply, source))),
+        Op::Put { key, value } => (key, Some(Some(value)), None),
+        Op::Del { key } => (key, Some(None), None),
     }
 }
 
@@ -80,7 +65,7 @@ fn are_done(epoch: &PlainEpoch, ticket: u64, ops: &[Op<Key>]) -> bool {
         if deed.ticket == ticket {
             match ops.get(n) {
                 Some(op) => {
-                    if !is_op(op, &deed.op) {
+                    if parts_of(op) != parts_of(&deed.op) {
                         return false;
                     }
                 }
@@ -92,8 +77,8 @@ fn are_done(epoch: &PlainEpoch, ticket: u64, ops: &[Op<Key>]) -> bool {
     n == ops.len()
 }
 
-// How the transaction of a published epoch ended.
-fn outcome_of(txn: &PlainTxn) -> Outcome<Key> {
+/// How the transaction of a published epoch ended.
+pub fn outcome_of(txn: &PlainTxn) -> Outcome<Key> {
     match txn.why {
         Some(why) => Outcome::Aborted { why },
         None => Outcome::Committed,
