@@ -1,6 +1,6 @@
 -- Slots whose jobs are read again, one behind another.
 use Rattle.std.proofs.Common.{◌≡◌, ◌<◌, ◌+◌, ℕ, List, [], ◌∷◌, ◌++◌, Option, Bool, true, cond, get_or, length, take, refl, if◌then◌else◌, sym, subst, ap, ◌∙◌, Ok}
-use Rattle.std.proofs.lemmas.List.{map-append, take_more}
+use Rattle.std.proofs.lemmas.List.{append_assoc, map-append, take_more}
 use Rattle.std.proofs.lemmas.List.Elements.{filter-append}
 use Rattle.ob_base.specs.Causes.{Rose}
 use Rattle.ob_base.specs.Planned.{job_at}
@@ -61,3 +61,17 @@ pub failed_more : (i : ℕ) (old new : List Slot) (x : Slot) (first mid last : �
     → mid ≡ with_refusals (take i old) first → last ≡ with_refusals (x ∷ []) mid → last ≡ with_refusals (take (i + 1) new) first
 failed_more i old new x first mid last front so_far one =
     one ∙ ap (with_refusals (x ∷ [])) so_far ∙ sym (refusals_join (take i old) (x ∷ []) first) ∙ ap (λ (l : List Slot). with_refusals l first) (sym front)
+
+-- ---- the log
+
+-- one slot's read more
+pub log_more : (asked : SealedJobs) (all : List Slot) (i : ℕ) (slot : Slot) (first mid last : List Event) → i < length all → slot ≡ slot_at all i
+    → mid ≡ first ++ reads_of asked (slot_places (take i all)) → last ≡ mid ++ Read (job_at asked.jobs.now slot.place).cell ∷ [] → last ≡ first ++ reads_of asked (slot_places (take (i + 1) all))
+log_more asked all i slot first mid last lt is so_far one =
+    let x = slot_at all i in
+    let before = reads_of asked (slot_places (take i all)) in
+    let cell : Read (job_at asked.jobs.now slot.place).cell ∷ [] ≡ reads_of asked (slot_places (x ∷ [])) = ap (λ (c : ℕ). Read c ∷ []) (sym (cell_at asked.jobs.now slot.place)) ∙ ap (λ (s : Slot). reads_of asked (slot_places (s ∷ []))) is in
+    one ∙ ap (λ (es : List Event). es ++ Read (job_at asked.jobs.now slot.place).cell ∷ []) so_far ∙ append_assoc first before (Read (job_at asked.jobs.now slot.place).cell ∷ [])
+    ∙ ap (λ (es : List Event). first ++ (before ++ es)) cell
+    ∙ ap (λ (es : List Event). first ++ es) (sym (reads_join asked (take i all) (x ∷ [])))
+    ∙ ap (λ (l : List Slot). first ++ reads_of asked (slot_places l)) (sym (take_more all i (record { place = 0; outcome = Ok [] }) lt))

@@ -15,7 +15,7 @@ use Rattle.ob_mirror.specs.Asked.{IsAbsorbed, IsMadeSure, IsCellWritten}
 use Rattle.ob_mirror.specs.Both.{AreAsked}
 use Rattle.ob_mirror.specs.Joins.{IsCopy}
 use Rattle.ob_mirror.specs.Lanes.{AreLanesMade}
-use Rattle.ob_mirror.specs.Standing.{EachStands, Follows, OnlyReads, changes}
+use Rattle.ob_mirror.specs.Standing.{EachStands, Follows, OnlyReads, TellsReads, changes}
 
 woven_even : (a b : Clock) (part : ℕ) → part % 2 ≡ 0 → woven_moments a b part ≡ a (part / 2)
 woven_even a b part is = rw is refl
@@ -41,8 +41,8 @@ evens_woven a b = fun_ext (λ part. at_even a b part)
 odds_woven : (a b : Clock) → odd_moments (woven_moments a b) ≡ b
 odds_woven a b = fun_ext (λ part. at_odd a b part)
 
-module _ (x y v w : GName) (was is : Type 0) (a c b d : Disk) where
-  pub each_stands : Agree is c d → EachStands a c b d (mirrored x y was a b) (mirrored v w is c d)
+module _ (x y v w : GName) (was is : Type 0) (made now : List Event) (failed still : ℕ) (a c b d : Disk) where
+  pub each_stands : Agree is c d → EachStands a c b d (mirrored x y was made failed a b) (mirrored v w is now still c d)
   each_stands agree = record {
     first = λ image left. inl left;
     second = λ image left. inr left;
@@ -56,7 +56,7 @@ module _ (x y v w : GName) (was is : Type 0) (a c b d : Disk) where
   }
 
   -- what is proved of the mirror's images is true of those of either half
-  pub half_leaves : (P : Image → Type 0) → LeavesOnly (mirrored x y was a b) (mirrored v w is c d) P → ((image : Image) → c.left_since a.moment image → P image) × ((image : Image) → d.left_since b.moment image → P image)
+  pub half_leaves : (P : Image → Type 0) → LeavesOnly (mirrored x y was made failed a b) (mirrored v w is now still c d) P → ((image : Image) → c.left_since a.moment image → P image) × ((image : Image) → d.left_since b.moment image → P image)
   half_leaves P leaves = (
     (λ image left. leaves.each image (inl (subst (λ (t : Clock). c.left_since t image) (sym (evens_woven a.moment b.moment)) left))),
     (λ image left. leaves.each image (inr (subst (λ (t : Clock). d.left_since t image) (sym (odds_woven a.moment b.moment)) left))),
@@ -74,49 +74,51 @@ changes_join (Read cell ∷ xs) ys = changes_join xs ys
 changes_join (Write cell ∷ xs) ys = ap (λ (es : List Event). Write cell ∷ es) (changes_join xs ys)
 changes_join (Sync ∷ xs) ys = ap (λ (es : List Event). Sync ∷ es) (changes_join xs ys)
 
-pub follows_none : (a b : Disk) → Follows a a b b
-follows_none a b = record { made = []; own = []; first = none_noted a.seen; second = none_noted b.seen; same = refl }
+pub follows_none : (a b : Disk) → Follows [] a a b b
+follows_none a b = record { own = []; first = none_noted a.seen; second = none_noted b.seen; same = refl }
 
-pub follows_then : (a c e b d f : Disk) → Follows a c b d → Follows c e d f → Follows a e b f
-follows_then a c e b d f p q = record {
-  made = p.made ++ q.made;
+pub follows_then : (made more : List Event) (a c e b d f : Disk) → Follows made a c b d → Follows more c e d f → Follows (made ++ more) a e b f
+follows_then made more a c e b d f p q = record {
   own = p.own ++ q.own;
-  first = joined p.made q.made a.seen c.seen e.seen p.first q.first;
+  first = joined made more a.seen c.seen e.seen p.first q.first;
   second = joined p.own q.own b.seen d.seen f.seen p.second q.second;
-  same = changes_join p.own q.own ∙ ap (λ (es : List Event). es ++ changes q.own) p.same ∙ ap (λ (es : List Event). changes p.made ++ es) q.same ∙ sym (changes_join p.made q.made);
+  same = changes_join p.own q.own ∙ ap (λ (es : List Event). es ++ changes q.own) p.same ∙ ap (λ (es : List Event). changes made ++ es) q.same ∙ sym (changes_join made more);
 }
 
-lane_row : (lane old new : Option (List Event)) → OnlyReads lane → NotesLane lane old new → (made : List Event) × Notes made old new × (changes made ≡ [])
+-- a lane's events were noted, and are none but reads
+lane_row : (lane old new : Option (List Event)) → OnlyReads lane → NotesLane lane old new → (own : List Event) × Notes own old new × (changes own ≡ [])
 lane_row (Some events) old new only back = (events, back, only)
 lane_row None old None only back = ([], tt, refl)
 lane_row None old (Some x) only back = absurd (let wrong : Some x ≡ None = back in cc)
 
-module _ {L M : Type 0} (seen_a : L → Option (List Event)) (faults_a : L → ℕ) (seen_b : M → Option (List Event)) (faults_b : M → ℕ) where
-  pub follows_absorb : (first : L) (second : M) (a c b d : Disk) → OnlyReads (seen_a first) → OnlyReads (seen_b second) → IsAbsorbed seen_a faults_a first a c → IsAbsorbed seen_b faults_b second b d → Follows a c b d
-  follows_absorb first second a c b d one two back again =
-      let f = lane_row (seen_a first) a.seen c.seen one back.seen in
-      let s = lane_row (seen_b second) b.seen d.seen two again.seen in
-      record { made = f.0; own = s.0; first = f.1; second = s.1; same = s.2 ∙ sym f.2 }
+lane_reads : (reads : List Event) (lane old new : Option (List Event)) → TellsReads reads lane → NotesLane lane old new → Notes reads old new
+lane_reads reads (Some events) old new tells back = subst (λ (es : List Event). Notes es old new) tells back
+lane_reads reads None old None tells back = tt
+lane_reads reads None old (Some x) tells back = absurd (let wrong : Some x ≡ None = back in cc)
 
-  pub follows_lane : {S T : Type 0} (one : S → Disk) (two : T → Disk) (a c : S) (b d : T) (result : _) → AreLanesMade seen_a faults_a seen_b faults_b one two a c b d result → Follows (one a) (one c) (two b) (two d)
-  follows_lane one two a c b d (Ok lane) made = record { made = []; own = []; first = made.0.seen; second = made.1.seen; same = refl }
+module _ {L M : Type 0} (seen_a : L → Option (List Event)) (faults_a : L → ℕ) (seen_b : M → Option (List Event)) (faults_b : M → ℕ) where
+  pub follows_absorb : (reads : List Event) (first : L) (second : M) (a c b d : Disk) → changes reads ≡ [] → TellsReads reads (seen_a first) → OnlyReads (seen_b second) → IsAbsorbed seen_a faults_a first a c → IsAbsorbed seen_b faults_b second b d → Follows reads a c b d
+  follows_absorb reads first second a c b d none one two back again =
+      let s = lane_row (seen_b second) b.seen d.seen two again.seen in
+      record { own = s.0; first = lane_reads reads (seen_a first) a.seen c.seen one back.seen; second = s.1; same = s.2 ∙ sym none }
+
+  pub follows_lane : {S T : Type 0} (one : S → Disk) (two : T → Disk) (a c : S) (b d : T) (result : _) → AreLanesMade seen_a faults_a seen_b faults_b one two a c b d result → Follows [] (one a) (one c) (two b) (two d)
+  follows_lane one two a c b d (Ok lane) made = record { own = []; first = made.0.seen; second = made.1.seen; same = refl }
   follows_lane one two a c b d (Err e) (inl refused) = record {
-    made = [];
     own = [];
     first = refused.0.seen;
     second = subst (λ (t : _). Notes [] (two b).seen (two t).seen) (sym refused.1) (none_noted (two b).seen);
     same = refl;
   }
   follows_lane one two a c b d (Err e) (inr had) = record {
-    made = [];
     own = [];
     first = lane_noted [] (one a).seen (one had.0).seen (seen_a had.1) (seen_a had.1) (one c).seen had.2.fresh_seen had.2.seen (none_noted (seen_a had.1)) had.3.seen;
     second = had.4.seen;
     same = refl;
   }
 
-pub follows_write : (cell : ℕ) (bytes : List ℕ) (result : Result (Unit {0}) Failed) (a c b d : Disk) → AreAsked (IsCellWritten cell bytes) a c b d result → Follows a c b d
-follows_write cell bytes result a c b d asked = record { made = Write cell ∷ []; own = Write cell ∷ []; first = asked.first.seen; second = asked.second.seen; same = refl }
+pub follows_write : (cell : ℕ) (bytes : List ℕ) (result : Result (Unit {0}) Failed) (a c b d : Disk) → AreAsked (IsCellWritten cell bytes) a c b d result → Follows (Write cell ∷ []) a c b d
+follows_write cell bytes result a c b d asked = record { own = Write cell ∷ []; first = asked.first.seen; second = asked.second.seen; same = refl }
 
-pub follows_sync : (result : Result (Unit {0}) Failed) (a c b d : Disk) → AreAsked IsMadeSure a c b d result → Follows a c b d
-follows_sync result a c b d asked = record { made = Sync ∷ []; own = Sync ∷ []; first = asked.first.seen; second = asked.second.seen; same = refl }
+pub follows_sync : (result : Result (Unit {0}) Failed) (a c b d : Disk) → AreAsked IsMadeSure a c b d result → Follows (Sync ∷ []) a c b d
+follows_sync result a c b d asked = record { own = Sync ∷ []; first = asked.first.seen; second = asked.second.seen; same = refl }

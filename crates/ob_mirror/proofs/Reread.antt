@@ -1,16 +1,18 @@
 -- Hands that both halves have read are read of the mirror.
-use Rattle.std.proofs.Common.{◌≡◌, ◌≤◌, ◌<◌, ◌+◌, ℕ, zero, suc, List, [], ◌∷◌, ◌++◌, Option, Some, None, Ok, Bool, true, false, length, refl, sym, ◌∙◌, ap, subst, arith, inl, inr, ⊎_elim}
+use Rattle.std.proofs.Common.{◌≡◌, ◌≤◌, ◌<◌, ◌^◌, ℕ, zero, suc, List, [], ◌∷◌, ◌++◌, Option, Some, None, Result, Ok, Err, IfErr, Bool, true, false, if◌then◌else◌, length, refl, sym, ◌∙◌, ap, subst, arith, inl, inr, ⊎_elim}
 use Rattle.std.specs.Borrow.{GName}
 use Rattle.std.specs.Prelude.{vec_capacity}
 use Rattle.std.specs.List.{All}
 use Rattle.std.proofs.lemmas.List.{get_or_default}
 use Rattle.ob_base.specs.Causes.{Rose}
+use Rattle.ob_base.specs.declared.fault.Fault.{Fault}
+use Rattle.ob_base.specs.declared.fault.Fault.TheVariants.{Memory, Usage, BadScript, BadParams, NotStore, Damaged, StoreFault, StashFull, Worn, SourceFault, SinkFault}
 use Rattle.ob_base.specs.declared.job.Job.{Job}
 use Rattle.ob_base.specs.Planned.{job_at}
 use Rattle.ob_seal.specs.declared.keys.Keys.{Keys}
 use Rattle.ob_store.specs.declared.event.Event.{Event}
 use Rattle.ob_store.specs.Disk.{Disk, Image}
-use Rattle.ob_store.specs.Calls.{Notes}
+use Rattle.ob_store.specs.Calls.{IsStoreFault}
 use Rattle.ob_claims.specs.declared.claims.Claims.{Claims}
 use Rattle.ob_claims.specs.declared.claims.Round.{Round}
 use Rattle.ob_claims.specs.ClaimCalls.{ClaimSeat, HasCome, IsClaimSeat}
@@ -20,20 +22,62 @@ use Rattle.ob_lanes.specs.declared.hand.Slot.{Slot}
 use Rattle.ob_lanes.specs.Hands.{HasClaimed, IsHandDone, IsHandRead, IsHandReady, IsPlaceRead, IsPlaceReady, IsReadAt, slot_places, reads_of, slot_at}
 use Rattle.ob_lanes.specs.JobReads.{IsJobRead, IsSlotRead}
 use Rattle.ob_lanes.specs.Shares.{RiseFrom}
-use Rattle.ob_lanes.proofs.SlotReads.{slot_rose}
 use Rattle.ob_mirror.specs.declared.lane.MirrorLane.{MirrorLane}
 use Rattle.ob_mirror.specs.declared.lane.SecondLane.{SecondLane}
+use Rattle.ob_mirror.specs.Both.{saturating_sum}
 use Rattle.ob_mirror.specs.Mirrored.{Agree, mirrored}
-use Rattle.ob_mirror.specs.Reading.{AreMended, IsHandReadOfEither, IsMended, IsParted, IsPlaceMended, IsPlaceReadOfEither, HasPlacesOfJobs, is_refused}
+use Rattle.ob_mirror.specs.Reading.{AreMended, IsHandReadOfEither, IsMended, IsParted, IsPlaceMended, IsPlaceReadOfEither, HasPlacesOfJobs, is_refused, with_refusals}
 
 abbrev blank : Slot
 blank = record { place = 0; outcome = Ok [] }
 
-rose_second : (a c b d : ℕ) → a ≤ c → Rose b d → Rose (a + b) (c + d)
-rose_second a c b d le rose = omega arith
+-- one refusal more, and any number
+refused_more : (n : ℕ) (refused : Bool) → n < 2 ^ 64 → n ≤ (if refused then saturating_sum n 1 else n)
+refused_more n true le = omega arith
+refused_more n false le = omega arith
 
-rose_first : (a c b d : ℕ) → b ≤ d → Rose a c → Rose (a + b) (c + d)
-rose_first a c b d le rose = omega arith
+refusals_few : (n : ℕ) (refused : Bool) → n < 2 ^ 64 → (if refused then saturating_sum n 1 else n) < 2 ^ 64
+refusals_few n true le = omega arith
+refusals_few n false le = le
+
+refusals_on : (slots : List Slot) (n : ℕ) → n < 2 ^ 64 → n ≤ with_refusals slots n
+refusals_on [] n le = omega arith
+refusals_on (x ∷ xs) n le =
+    let refused = is_refused x.outcome in
+    let one = refused_more n refused le in
+    let rest = refusals_on xs (if refused then saturating_sum n 1 else n) (refusals_few n refused le) in
+    omega (arith, one, rest)
+
+-- where a slot of these failed the count rose
+refused_rose : (slots : List Slot) (n : ℕ) (i : ℕ) → i < length slots → is_refused (slot_at slots i).outcome ≡ true → n < 2 ^ 64 → Rose n (with_refusals slots n)
+refused_rose [] n i lt is le = absurd (omega arith)
+refused_rose (x ∷ xs) n zero lt is le =
+    let one : (if is_refused x.outcome then saturating_sum n 1 else n) ≡ saturating_sum n 1 = ap (λ (r : Bool). if r then saturating_sum n 1 else n) is in
+    let on = refusals_on xs (saturating_sum n 1) (omega arith) in
+    subst (λ (m : ℕ). Rose n (with_refusals xs m)) (sym one) (omega (arith, on))
+refused_rose (x ∷ xs) n (suc i) lt is le =
+    let refused = is_refused x.outcome in
+    let one = refused_more n refused le in
+    let rest = refused_rose xs (if refused then saturating_sum n 1 else n) i (omega (arith, lt)) is (refusals_few n refused le) in
+    omega (arith, one, rest)
+
+-- an outcome is the store's fault only where the read was refused
+fault_refused : (fault : Fault) (P : Type 0) → (◌≡◌ {A = Bool} (is_refused (Err fault)) true → P) → IsStoreFault fault → P
+fault_refused (StoreFault unsure) P on is = on refl
+fault_refused (Damaged cell check kept computed) P on is = absurd is
+fault_refused Memory P on is = absurd is
+fault_refused Usage P on is = absurd is
+fault_refused (BadScript line) P on is = absurd is
+fault_refused (BadParams field) P on is = absurd is
+fault_refused NotStore P on is = absurd is
+fault_refused (StashFull rows) P on is = absurd is
+fault_refused (Worn number) P on is = absurd is
+fault_refused SourceFault P on is = absurd is
+fault_refused SinkFault P on is = absurd is
+
+cause_refused : (outcome : Result (List ℕ) Fault) (P : Type 0) → (is_refused outcome ≡ true → P) → IfErr outcome (λ f. IsStoreFault f → P)
+cause_refused (Ok plain) P on = tt
+cause_refused (Err fault) P on = fault_refused fault P on
 
 -- slots that stand at the places of others
 same_places : (old new : List Slot) → length new ≡ length old → ((i : ℕ) → i < length old → (slot_at new i).place ≡ (slot_at old i).place) → slot_places new ≡ slot_places old
@@ -43,32 +87,30 @@ same_places (x ∷ xs) [] many each = absurd (omega (arith, many))
 same_places (x ∷ xs) (y ∷ ys) many each =
     ap (λ (p : ℕ). p ∷ slot_places ys) (each zero (omega arith)) ∙ ap (λ (ps : List ℕ). x.place ∷ ps) (same_places xs ys (omega (arith, many)) (λ i lt. each (suc i) (omega (arith, lt))))
 
-module _ (x y : GName) (together : Type 0) (a b : Disk) (agree : Agree together a b) where
-  -- what the second half gave of a job is what the mirror's cells give
-  second_read : (keys : Keys) (before now : ℕ) (job : Job) (slot : Slot) → IsSlotRead keys b before now job slot → IsSlotRead keys (mirrored x y together a b) before now job slot
-  second_read keys before now job slot read = record {
-    value = λ tells. subst (λ (image : Image). IsJobRead keys image job slot.outcome) (λ i k. agree tells.0 tells.1 tells.2 k i) (read.value tells.2);
-    faults = read.faults;
-    cause = read.cause;
-  }
+module _ (x y : GName) (together : Type 0) (made : List Event) (failed : ℕ) (a b : Disk) (agree : Agree together a b) where
+  abbrev both_halves : Disk
+  both_halves = mirrored x y together made failed a b
 
-  first_read : (keys : Keys) (before now : ℕ) (job : Job) (slot : Slot) → IsSlotRead keys a before now job slot → IsSlotRead keys (mirrored x y together a b) before now job slot
-  first_read keys before now job slot read = record { value = λ tells. read.value tells.1; faults = read.faults; cause = read.cause }
+  -- what the second half gave of a job is what the mirror's cells give, and so what the first gave
+  second_value : (keys : Keys) (before now : ℕ) (job : Job) (slot : Slot) → IsSlotRead keys b before now job slot → both_halves.tells → IsJobRead keys a.cells job slot.outcome
+  second_value keys before now job slot read tells = subst (λ (image : Image). IsJobRead keys image job slot.outcome) (λ i k. agree tells.0 tells.1 tells.2 k i) (read.value tells.2)
 
-  slot_by : (asked : SealedJobs) (fa fa' fb fb' : ℕ) (one two : Slot) (refused : Bool) → is_refused one.outcome ≡ refused → fa ≤ fa' → fb ≤ fb' → IsReadAt asked a fa fa' one → IsMended asked b fb fb' one two
-      → IsReadAt asked (mirrored x y together a b) (fa + fb) (fa' + fb') two
-  slot_by asked fa fa' fb fb' one two false is later later' read mended =
-      subst (λ (s : Slot). IsReadAt asked (mirrored x y together a b) (fa + fb) (fa' + fb') s) (sym (mended.good is)) (record {
-        within = read.within;
-        read = slot_rose asked.sealer.now.keys (mirrored x y together a b) fa fa' (fa + fb) (fa' + fb') (job_at asked.jobs.now one.place) one (rose_first fa fa' fb fb' later')
-            (first_read asked.sealer.now.keys fa fa' (job_at asked.jobs.now one.place) one read.read);
-      })
-  slot_by asked fa fa' fb fb' one two true is later later' read mended = record {
-    within = (let at = mended.place in let lt = read.within in omega (arith, at, lt));
-    read = subst (λ (p : ℕ). IsSlotRead asked.sealer.now.keys (mirrored x y together a b) (fa + fb) (fa' + fb') (job_at asked.jobs.now p) two) (sym mended.place)
-        (slot_rose asked.sealer.now.keys (mirrored x y together a b) fb fb' (fa + fb) (fa' + fb') (job_at asked.jobs.now one.place) two (rose_second fa fa' fb fb' later)
-        (second_read asked.sealer.now.keys fb fb' (job_at asked.jobs.now one.place) two (mended.bad is)));
-  }
+  slot_by : (asked : SealedJobs) (fa fa' fb fb' before now : ℕ) (one two : Slot) (refused : Bool) → is_refused one.outcome ≡ refused → (is_refused two.outcome ≡ true → Rose before now) → IsReadAt asked a fa fa' one → IsMended asked b fb fb' one two → IsReadAt asked both_halves before now two
+  slot_by asked fa fa' fb fb' before now one two false is rose read mended =
+      let good = mended.good is in record {
+        within = (let at = mended.place in let lt = read.within in omega (arith, at, lt));
+        read = subst (λ (s : Slot). (is_refused s.outcome ≡ true → Rose before now) → IsSlotRead asked.sealer.now.keys both_halves before now (job_at asked.jobs.now s.place) s) (sym good)
+            (λ on. record { value = λ tells. read.read.value tells.1; faults = read.read.faults; cause = cause_refused one.outcome _ on }) rose;
+      }
+  slot_by asked fa fa' fb fb' before now one two true is rose read mended =
+      let again = mended.bad is in record {
+        within = (let at = mended.place in let lt = read.within in omega (arith, at, lt));
+        read = subst (λ (p : ℕ). IsSlotRead asked.sealer.now.keys both_halves before now (job_at asked.jobs.now p) two) (sym mended.place) (record {
+          value = second_value asked.sealer.now.keys fb fb' (job_at asked.jobs.now one.place) two again;
+          faults = again.faults;
+          cause = cause_refused two.outcome _ rose;
+        });
+      }
 
   module _ {L M : Type 0} (seen_a : L → Option (List Event)) (faults_a : L → ℕ) (seen_b : M → Option (List Event)) (faults_b : M → ℕ) (claims : Claims) (round : Round) (asked : SealedJobs) where
     -- the seat that a hand read with, and the places that it had claimed
@@ -85,20 +127,19 @@ module _ (x y : GName) (together : Type 0) (a b : Disk) (agree : Agree together 
         }
 
     hand_read : (old new : Hand (MirrorLane L M)) → IsHandReadOfEither seen_a faults_a seen_b faults_b a b claims round asked old new
-        → IsHandRead (mirrored x y together a b) (λ (l : MirrorLane L M). seen_a l.first) (λ (l : MirrorLane L M). faults_a l.first + faults_b l.second.lane) claims round asked old new
+        → IsHandRead both_halves (λ (l : MirrorLane L M). Some l.second.reads.events) (λ (l : MirrorLane L M). l.second.failed) claims round asked old new
     hand_read old new by =
-        let lane = sym by.lane in
         let many = by.second.many in
+        let before = old.lane.second.failed in
         let places : slot_places new.part.items ≡ slot_places by.tried.part.items = same_places by.tried.part.items new.part.items many (λ i lt. (by.second.each i lt).place) in record {
           seat = claimed_so by.tried new by.seat places by.first.seat;
           parts = ap (λ (s : ClaimSeat). s.me.0.parts) by.seat ∙ by.first.parts;
-          read = subst (λ (l : L). All (IsReadAt asked (mirrored x y together a b) (faults_a old.lane.first + faults_b old.lane.second.lane) (faults_a l + faults_b new.lane.second.lane)) new.part.items) lane
-              (λ k d lt. let lt' : k < length by.tried.part.items = omega (arith, lt, many) in
-              subst (λ (s : Slot). IsReadAt asked (mirrored x y together a b) (faults_a old.lane.first + faults_b old.lane.second.lane) (faults_a by.tried.lane + faults_b new.lane.second.lane) s) (get_or_default new.part.items k blank d lt)
-              (slot_by asked (faults_a old.lane.first) (faults_a by.tried.lane) (faults_b old.lane.second.lane) (faults_b new.lane.second.lane) (slot_at by.tried.part.items k) (slot_at new.part.items k) (is_refused (slot_at by.tried.part.items k).outcome) refl by.first.later by.second.later
-              (by.first.read k blank lt') (by.second.each k lt')));
-          seen = subst (λ (ps : List ℕ). Notes (reads_of asked ps) (seen_a old.lane.first) (seen_a new.lane.first)) (sym places) (subst (λ (l : L). Notes (reads_of asked (slot_places by.tried.part.items)) (seen_a old.lane.first) (seen_a l)) lane by.first.seen);
-          later = subst (λ (l : L). faults_a old.lane.first + faults_b old.lane.second.lane ≤ faults_a l + faults_b new.lane.second.lane) lane (let one = by.first.later in let two = by.second.later in omega (arith, one, two));
+          read = λ k d lt. let lt' : k < length by.tried.part.items = omega (arith, lt, many) in
+              subst (λ (s : Slot). IsReadAt asked both_halves before new.lane.second.failed s) (get_or_default new.part.items k blank d lt)
+              (slot_by asked (faults_a old.lane.first) (faults_a by.tried.lane) (faults_b old.lane.second.lane) (faults_b new.lane.second.lane) before new.lane.second.failed (slot_at by.tried.part.items k) (slot_at new.part.items k) (is_refused (slot_at by.tried.part.items k).outcome) refl
+              (λ is. subst (Rose before) (sym by.second.failed) (refused_rose new.part.items before k lt is by.second.few)) (by.first.read k blank lt') (by.second.each k lt'));
+          seen = by.second.log ∙ ap (λ (ps : List ℕ). old.lane.second.reads.events ++ reads_of asked ps) (sym places);
+          later = subst (λ (n : ℕ). before ≤ n) (sym by.second.failed) (refusals_on new.part.items before by.second.few);
           room = by.room;
         }
 
@@ -111,7 +152,7 @@ module _ (x y : GName) (together : Type 0) (a b : Disk) (agree : Agree together 
         ⊎_elim (λ le. inl (omega (arith, le, full, whole, many))) (λ le. inr (omega (arith, le, reached))) by.done
 
     pub place_read : (old new : Option (Hand (MirrorLane L M))) → IsPlaceReadOfEither seen_a faults_a seen_b faults_b a b claims round asked old new
-        → IsPlaceRead (mirrored x y together a b) (λ (l : MirrorLane L M). seen_a l.first) (λ (l : MirrorLane L M). faults_a l.first + faults_b l.second.lane) claims round asked old new
+        → IsPlaceRead both_halves (λ (l : MirrorLane L M). Some l.second.reads.events) (λ (l : MirrorLane L M). l.second.failed) claims round asked old new
     place_read (Some old) (Some new) by = (hand_read old new by, hand_done old new by)
     place_read (Some old) None by = by
     place_read None (Some new) by = by

@@ -19,5 +19,5 @@ module _ {L M : Type 0} (seen_a : L → Option (List Event)) (faults_a : L → �
   -- The first half read the cell, and the second wasn't asked; or the first half failed, and the second answered.
   abbrev pub IsReadOfEither : Disk → Disk → ℕ → MirrorLane L M → MirrorLane L M → List ℕ → Result (Unit {0}) Failed → Type 0
   IsReadOfEither a b cell old new out result =
-      (IsLaneRead seen_a faults_a a cell old.first new.first out (Ok tt) × (new.second ≡ old.second) × (result ≡ Ok tt))
+      (IsLaneRead seen_a faults_a a cell old.first new.first out (Ok tt) × (new.second ≡ record old.second { reads = new.second.reads }) × (result ≡ Ok tt))
       ⊎ ((spoilt : List ℕ) × (e : Failed) × IsLaneRead seen_a faults_a a cell old.first new.first spoilt (Err e) × IsLaneRead seen_b faults_b b cell old.second.lane new.second.lane out result)

@@ -1,6 +1,7 @@
 -- Two stores that serve as one.
-use Rattle.std.specs.Prelude.{◌≡◌, ◌⊎◌, ℕ, ◌+◌, ◌-◌, ◌*◌, ◌/◌, ◌%◌, ◌==◌, if◌then◌else◌, ◌∷◌, ◌++◌, Bool, false}
+use Rattle.std.specs.Prelude.{◌≡◌, ◌⊎◌, ℕ, ◌+◌, ◌-◌, ◌*◌, ◌/◌, ◌%◌, ◌==◌, if◌then◌else◌, List, ◌∷◌, ◌++◌, Bool, false, Some}
 use Rattle.std.specs.Borrow.{GName}
+use Rattle.ob_store.specs.declared.event.Event.{Event}
 use Rattle.ob_store.specs.Disk.{Clock, Disk}
 
 -- the second half reads as the first
@@ -26,17 +27,18 @@ abbrev pub odd_moments : Clock → Clock
 odd_moments t part = t (2 * part + 1)
 
 -- Cells are told where both halves tell them and are together; what a crash leaves is what it leaves of either; the moments are
--- those of both; the calls are the first half's.
-abbrev pub mirrored : GName → GName → Type 0 → Disk → Disk → Disk
-mirrored x y together a b = record {
+-- those of both. The calls are the mirror's own, whatever its halves tell of theirs, and its faults are those calls that it refused:
+-- a read that the first half refused and the second served is none.
+abbrev pub mirrored : GName → GName → Type 0 → (made : List Event) → (failed : ℕ) → Disk → Disk → Disk
+mirrored x y together made failed a b = record {
   tells = together × a.tells × b.tells;
   cells = a.cells;
   leaves = a.leaves × b.leaves;
   may_leave = λ c. a.may_leave c ⊎ b.may_leave c;
   moment = woven_moments a.moment b.moment;
   left_since = λ t c. a.left_since (even_moments t) c ⊎ b.left_since (odd_moments t) c;
-  seen = a.seen;
+  seen = Some made;
   out = a.out + (b.out - a.out);
-  faults = a.faults + b.faults;
+  faults = failed;
   anchors = x ∷ y ∷ (a.anchors ++ b.anchors);
 }

@@ -1,5 +1,5 @@
 -- Hands of a mirror, whose jobs are read by the first half, and where that failed by the second.
-use Rattle.std.specs.Prelude.{◌≡◌, ◌≤◌, ◌<◌, ℕ, List, [], ◌∷◌, length, if◌then◌else◌, Bool, Option, Some, None, Result, Ok, Err, true, false, slice_index_or, vec_capacity}
+use Rattle.std.specs.Prelude.{◌≡◌, ◌≤◌, ◌<◌, ℕ, List, [], ◌∷◌, ◌++◌, ◌^◌, length, if◌then◌else◌, Bool, Option, Some, None, Result, Ok, Err, true, false, slice_index_or, vec_capacity}
 use Rattle.std.specs.List.{filter}
 use Rattle.ob_base.specs.declared.fault.Fault.{Fault}
 use Rattle.ob_base.specs.declared.fault.Fault.TheVariants.{StoreFault}
@@ -39,13 +39,15 @@ pub record IsMended (asked : SealedJobs) (disk : Disk) (before now : ℕ) (old n
   pub good : is_refused old.outcome ≡ false → new ≡ old
   pub bad : is_refused old.outcome ≡ true → IsSlotRead asked.sealer.now.keys disk before now (job_at asked.jobs.now old.place) new
 
--- Of these slots just those whose read failed were read again, in their order.
+-- Of these slots just those whose read failed were read again, in their order. Each is a read of both, and fails where it failed again.
 pub record AreMended {M : Type 0} (asked : SealedJobs) (disk : Disk) (seen : M → Option (List Event)) (faults : M → ℕ) (old new : List Slot) (before after : SecondLane M) : Type 0 where
   pub many : length new ≡ length old
   pub each : (i : ℕ) → i < length old → IsMended asked disk (faults before.lane) (faults after.lane) (slot_at old i) (slot_at new i)
   pub reads : Notes (reads_of asked (slot_places (failed_in old))) (seen before.lane) (seen after.lane)
   pub later : faults before.lane ≤ faults after.lane
   pub failed : after.failed ≡ with_refusals new before.failed
+  pub few : before.failed < 2 ^ 64
+  pub log : after.reads.events ≡ before.reads.events ++ reads_of asked (slot_places old)
 
 module _ {L M : Type 0} (seen_a : L → Option (List Event)) (faults_a : L → ℕ) (seen_b : M → Option (List Event)) (faults_b : M → ℕ) (a b : Disk) (claims : Claims) (round : Round) (asked : SealedJobs) where
   -- A lane of the first half read all jobs that a hand claimed, and one of the second just those that failed.

@@ -1,5 +1,5 @@
 -- What each half of a mirror is alone.
-use Rattle.std.specs.Prelude.{◌≡◌, ◌⊎◌, ℕ, List, [], ◌∷◌, Option, Some, None, Result}
+use Rattle.std.specs.Prelude.{◌≡◌, ◌⊎◌, ℕ, List, [], ◌∷◌, ◌++◌, Option, Some, None, Result}
 use Rattle.ob_base.specs.declared.fault.Failed.{Failed}
 use Rattle.ob_store.specs.declared.event.Event.{Event}
 use Rattle.ob_store.specs.declared.event.Event.TheVariants.{Read, Write, Sync}
@@ -26,9 +26,9 @@ changes (Read cell ∷ events) = changes events
 changes (Write cell ∷ events) = Write cell ∷ changes events
 changes (Sync ∷ events) = Sync ∷ changes events
 
--- The second half was asked to write and to sync what the first was, in the same order.
-pub record Follows (a c b d : Disk) : Type 0 where
-  pub made : List Event
+-- Of calls that a mirror tells as these events the first half was asked for just these, and the second to write and to sync what the
+-- first was, in the same order.
+pub record Follows (made : List Event) (a c b d : Disk) : Type 0 where
   pub own : List Event
   pub first : Notes made a.seen c.seen
   pub second : Notes own b.seen d.seen
@@ -39,11 +39,16 @@ abbrev pub OnlyReads : Option (List Event) → Type 0
 OnlyReads (Some events) = changes events ≡ []
 OnlyReads None = Unit {0}
 
+-- a lane of the first half tells the reads of the mirror's lane, where it tells its own
+abbrev pub TellsReads : List Event → Option (List Event) → Type 0
+TellsReads reads (Some events) = events ≡ reads
+TellsReads reads None = Unit {0}
+
 -- So it is from call to call of a mirror of any two stores, and of calls one behind another.
 pub record HalvesFollow {S T L M : Type 0} (one : S → Disk) (two : T → Disk) (seen_a : L → Option (List Event)) (faults_a : L → ℕ) (seen_b : M → Option (List Event)) (faults_b : M → ℕ) : Type 0 where
-  pub none : (a : S) (b : T) → Follows (one a) (one a) (two b) (two b)
-  pub then : (a c e : S) (b d f : T) → Follows (one a) (one c) (two b) (two d) → Follows (one c) (one e) (two d) (two f) → Follows (one a) (one e) (two b) (two f)
-  pub lane : (a c : S) (b d : T) (result : _) → AreLanesMade seen_a faults_a seen_b faults_b one two a c b d result → Follows (one a) (one c) (two b) (two d)
-  pub absorb : (first : L) (second : M) (a c : S) (b d : T) → OnlyReads (seen_a first) → OnlyReads (seen_b second) → IsAbsorbed seen_a faults_a first (one a) (one c) → IsAbsorbed seen_b faults_b second (two b) (two d) → Follows (one a) (one c) (two b) (two d)
-  pub write : (cell : ℕ) (bytes : List ℕ) (result : Result (Unit {0}) Failed) (a c : S) (b d : T) → AreAsked (IsCellWritten cell bytes) (one a) (one c) (two b) (two d) result → Follows (one a) (one c) (two b) (two d)
-  pub sync : (result : Result (Unit {0}) Failed) (a c : S) (b d : T) → AreAsked IsMadeSure (one a) (one c) (two b) (two d) result → Follows (one a) (one c) (two b) (two d)
+  pub none : (a : S) (b : T) → Follows [] (one a) (one a) (two b) (two b)
+  pub then : (made more : List Event) (a c e : S) (b d f : T) → Follows made (one a) (one c) (two b) (two d) → Follows more (one c) (one e) (two d) (two f) → Follows (made ++ more) (one a) (one e) (two b) (two f)
+  pub lane : (a c : S) (b d : T) (result : _) → AreLanesMade seen_a faults_a seen_b faults_b one two a c b d result → Follows [] (one a) (one c) (two b) (two d)
+  pub absorb : (reads : List Event) (first : L) (second : M) (a c : S) (b d : T) → changes reads ≡ [] → TellsReads reads (seen_a first) → OnlyReads (seen_b second) → IsAbsorbed seen_a faults_a first (one a) (one c) → IsAbsorbed seen_b faults_b second (two b) (two d) → Follows reads (one a) (one c) (two b) (two d)
+  pub write : (cell : ℕ) (bytes : List ℕ) (result : Result (Unit {0}) Failed) (a c : S) (b d : T) → AreAsked (IsCellWritten cell bytes) (one a) (one c) (two b) (two d) result → Follows (Write cell ∷ []) (one a) (one c) (two b) (two d)
+  pub sync : (result : Result (Unit {0}) Failed) (a c : S) (b d : T) → AreAsked IsMadeSure (one a) (one c) (two b) (two d) result → Follows (Sync ∷ []) (one a) (one c) (two b) (two d)

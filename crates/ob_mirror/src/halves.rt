@@ -1,6 +1,6 @@
 //! Two stores that are lent, each asked what the mirror is asked.
 
-ghost use Rattle.std.specs.Prelude.{◌≡◌, ◌+◌, ◌-◌, false};
+ghost use Rattle.std.specs.Prelude.{◌≡◌, ◌+◌, ◌-◌, [], Some, false};
 ghost use Rattle.ob_mirror.specs.Mirrored.{Agree, Together, mirrored};
 ghost use Rattle.ob_mirror.specs.Laws.{counts_now_of_either, only_now_of_either, includes_reads_of_first};
 ghost use Rattle.ob_mirror.specs.Asked.{IsLaneMade, IsLaneRead, IsAbsorbed, IsCellWritten, IsMadeSure};
@@ -8,8 +8,9 @@ ghost use Rattle.ob_mirror.specs.Both.{AreAsked, both, saturating_sum, with_refu
 ghost use Rattle.ob_mirror.specs.Lanes.{AreLanesMade, IsReadOfEither};
 
 use crate::lane::{MirrorLane, SecondLane};
+use crate::log::Log;
 use ob_base::Failed;
-use ob_store::Store;
+use ob_store::{Event, Store};
 use std::snapshot::Snapshot;
 
 /// Two stores that are lent. What they were when they were put together is remembered for the
@@ -24,6 +25,8 @@ pub struct Halves<'a, A: Store, B: Store> {
     pub apart: bool,
     /// How many calls were refused.
     pub failed: u64,
+    /// The calls of both, as those of one store.
+    pub made: Log,
     /// The first half when they were put together.
     pub first_then: Snapshot<A>,
     /// The second half when they were put together.
@@ -53,6 +56,7 @@ impl<'a, A: Store, B: Store> Halves<'a, A, B> {
         ensures first_then { result.first_then.value ≡ first.entry.now }
         ensures second_then { result.second_then.value ≡ second.entry.now }
         ensures failed { result.failed ≡ 0 }
+        ensures made { result.made.events ≡ [] }
     {
         let first_then = Snapshot::of(&*first);
         let second_then = Snapshot::of(&*second);
@@ -61,6 +65,7 @@ impl<'a, A: Store, B: Store> Halves<'a, A, B> {
             second,
             apart: false,
             failed: 0,
+            made: Log::new(),
             first_then,
             second_then,
         }
@@ -81,11 +86,11 @@ impl<'a, A: Store, B: Store> Halves<'a, A, B> {
 impl<'a, A: Store, B: Store> Store for Halves<'a, A, B> {
     type Lane = MirrorLane<A::Lane, B::Lane>;
 
-    ghost disk = { λ m. mirrored m.first.ghost_name m.second.ghost_name (Together m.apart (A.disk m.first_then.value) (B.disk m.second_then.value)) (A.disk m.first.now) (B.disk m.second.now) };
+    ghost disk = { λ m. mirrored m.first.ghost_name m.second.ghost_name (Together m.apart (A.disk m.first_then.value) (B.disk m.second_then.value)) m.made.events m.failed (A.disk m.first.now) (B.disk m.second.now) };
 
-    ghost lane_faults = { λ lane. A.lane_faults lane.first + B.lane_faults lane.second.lane };
+    ghost lane_faults = { λ lane. lane.second.failed };
 
-    ghost lane_seen = { λ lane. A.lane_seen lane.first };
+    ghost lane_seen = { λ lane. Some lane.second.reads.events };
 
     ghost counts_now = { λ m t c le left. counts_now_of_either (A.disk m.first.now) (B.disk m.second.now) (A.counts_now m.first.now) (B.counts_now m.second.now) t c le left };
 
@@ -94,8 +99,7 @@ impl<'a, A: Store, B: Store> Store for Halves<'a, A, B> {
     ghost includes_reads = { λ m tells leaves. includes_reads_of_first (A.disk m.first.now) (B.disk m.second.now) _ (A.includes_reads m.first.now) tells leaves };
 
     fn lane(&mut self) -> Result<MirrorLane<A::Lane, B::Lane>, Failed>
-        ensures asked { IsLaneMade (λ lane. A.lane_seen lane.first)
-            (λ lane. A.lane_faults lane.first + B.lane_faults lane.second.lane)
+        ensures asked { IsLaneMade (λ lane. Some lane.second.reads.events) (λ lane. lane.second.failed)
             (⟦<Halves<'a, A, B> as Store>⟧.disk self.old)
             (⟦<Halves<'a, A, B> as Store>⟧.disk self.new) result }
         ensures halves { AreLanesMade A.lane_seen A.lane_faults B.lane_seen B.lane_faults A.disk
@@ -113,7 +117,11 @@ impl<'a, A: Store, B: Store> Store for Halves<'a, A, B> {
         match self.second.lane() {
             Ok(lane) => Ok(MirrorLane {
                 first: had,
-                second: SecondLane { lane, failed: 0 },
+                second: SecondLane {
+                    lane,
+                    failed: 0,
+                    reads: Log::new(),
+                },
             }),
             Err(Failed) => {
                 self.first.absorb(had);
@@ -129,14 +137,14 @@ impl<'a, A: Store, B: Store> Store for Halves<'a, A, B> {
         cell: u64,
         out: &mut [u8; 128],
     ) -> Result<(), Failed>
-        ensures asked { IsLaneRead (λ lane. A.lane_seen lane.first)
-            (λ lane. A.lane_faults lane.first + B.lane_faults lane.second.lane)
+        ensures asked { IsLaneRead (λ lane. Some lane.second.reads.events) (λ lane. lane.second.failed)
             (⟦<Halves<'a, A, B> as Store>⟧.disk self.now) cell lane.old lane.new out.new result }
         ensures halves { IsReadOfEither A.lane_seen A.lane_faults B.lane_seen B.lane_faults
             (A.disk self.now.first.now) (B.disk self.now.second.now) cell lane.old lane.new out.new
             result }
         ensures failed { lane.new.second.failed ≡ with_refusal result lane.old.second.failed }
     {
+        lane.second.reads = lane.second.reads.noted(&Event::Read(cell));
         match self.first.read(&mut lane.first, cell, out) {
             Ok(()) => return Ok(()),
             Err(Failed) => {}
@@ -151,8 +159,7 @@ impl<'a, A: Store, B: Store> Store for Halves<'a, A, B> {
     }
 
     fn absorb(&mut self, lane: MirrorLane<A::Lane, B::Lane>)
-        ensures asked { IsAbsorbed (λ lane. A.lane_seen lane.first)
-            (λ lane. A.lane_faults lane.first + B.lane_faults lane.second.lane) lane
+        ensures asked { IsAbsorbed (λ lane. Some lane.second.reads.events) (λ lane. lane.second.failed) lane
             (⟦<Halves<'a, A, B> as Store>⟧.disk self.old)
             (⟦<Halves<'a, A, B> as Store>⟧.disk self.new) }
         ensures first { IsAbsorbed A.lane_seen A.lane_faults lane.first (A.disk self.old.first.now)
@@ -165,10 +172,12 @@ impl<'a, A: Store, B: Store> Store for Halves<'a, A, B> {
         let SecondLane {
             lane: second,
             failed,
+            reads,
         } = second;
         self.first.absorb(first);
         self.second.absorb(second);
         self.failed = self.failed.saturating_add(failed);
+        self.made = self.made.joined(&reads);
     }
 
     fn write(&mut self, cell: u64, bytes: &[u8; 128]) -> Result<(), Failed>
@@ -186,6 +195,7 @@ impl<'a, A: Store, B: Store> Store for Halves<'a, A, B> {
         self.apart = true;
         let one = self.first.write(cell, bytes);
         let two = self.second.write(cell, bytes);
+        self.made = self.made.noted(&Event::Write(cell));
         match answer(one, two) {
             Ok(()) => {
                 self.apart = was;
@@ -210,6 +220,7 @@ impl<'a, A: Store, B: Store> Store for Halves<'a, A, B> {
     {
         let one = self.first.sync();
         let two = self.second.sync();
+        self.made = self.made.noted(&Event::Sync);
         match answer(one, two) {
             Ok(()) => Ok(()),
             Err(Failed) => {

@@ -1,5 +1,7 @@
 //! A lane of each half.
 
+use crate::log::Log;
+
 /// A lane of the second half, which is asked where the first half failed.
 #[derive(Drop)]
 pub struct SecondLane<M> {
@@ -7,6 +9,8 @@ pub struct SecondLane<M> {
     pub lane: M,
     /// How many reads failed of both halves.
     pub failed: u64,
+    /// The reads of both, whichever half served them.
+    pub reads: Log,
 }
 
 /// A lane of each half.

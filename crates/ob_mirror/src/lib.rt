@@ -4,6 +4,7 @@
 mod halves;
 mod joining;
 mod lane;
+mod log;
 mod mirror;
 mod places;
 mod reading;
@@ -12,6 +13,7 @@ mod standing;
 pub use halves::Halves;
 pub use joining::join;
 pub use lane::{MirrorLane, SecondLane};
+pub use log::Log;
 pub use mirror::Mirror;
 pub use places::Places;
 pub use reading::read_cells;

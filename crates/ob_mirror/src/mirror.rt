@@ -1,6 +1,6 @@
 //! The mirror.
 
-ghost use Rattle.std.specs.Prelude.{◌≡◌, ◌≤◌, ◌<◌, ◌+◌, ◌-◌, ℕ, length, false};
+ghost use Rattle.std.specs.Prelude.{◌≡◌, ◌≤◌, ◌<◌, ◌+◌, ◌-◌, ℕ, [], length, Some, false};
 ghost use denote.Param.Send.{IsSync};
 ghost use Rattle.ob_lanes.specs.Hands.{IsPlaceRead, IsPlaceReady, hand_at};
 ghost use Rattle.ob_mirror.specs.Laws.{counts_now_of_either, only_now_of_either, includes_reads_of_first};
@@ -40,6 +40,7 @@ impl<'a, A: Store, B: Store> Mirror<'a, A, B> {
         ensures first_then { result.halves.first_then.value ≡ first.entry.now }
         ensures second_then { result.halves.second_then.value ≡ second.entry.now }
         ensures failed { result.halves.failed ≡ 0 }
+        ensures made { result.halves.made.events ≡ [] }
     {
         Mirror {
             halves: Halves::over(first, second),
@@ -64,9 +65,9 @@ impl<'a, A: Store, B: Store> Store for Mirror<'a, A, B> {
 
     ghost disk = { λ m. ⟦<Halves<'a, A, B> as Store>⟧.disk m.halves };
 
-    ghost lane_faults = { λ lane. A.lane_faults lane.first + B.lane_faults lane.second.lane };
+    ghost lane_faults = { λ lane. lane.second.failed };
 
-    ghost lane_seen = { λ lane. A.lane_seen lane.first };
+    ghost lane_seen = { λ lane. Some lane.second.reads.events };
 
     ghost counts_now = { λ m t c le left. counts_now_of_either (A.disk m.halves.first.now) (B.disk m.halves.second.now) (A.counts_now m.halves.first.now) (B.counts_now m.halves.second.now) t c le left };
 
@@ -75,8 +76,7 @@ impl<'a, A: Store, B: Store> Store for Mirror<'a, A, B> {
     ghost includes_reads = { λ m tells leaves. includes_reads_of_first (A.disk m.halves.first.now) (B.disk m.halves.second.now) _ (A.includes_reads m.halves.first.now) tells leaves };
 
     fn lane(&mut self) -> Result<MirrorLane<A::Lane, B::Lane>, Failed>
-        ensures asked { IsLaneMade (λ lane. A.lane_seen lane.first)
-            (λ lane. A.lane_faults lane.first + B.lane_faults lane.second.lane)
+        ensures asked { IsLaneMade (λ lane. Some lane.second.reads.events) (λ lane. lane.second.failed)
             (⟦<Halves<'a, A, B> as Store>⟧.disk self.old.halves)
             (⟦<Halves<'a, A, B> as Store>⟧.disk self.new.halves) result }
         ensures halves { AreLanesMade A.lane_seen A.lane_faults B.lane_seen B.lane_faults A.disk
@@ -93,8 +93,7 @@ impl<'a, A: Store, B: Store> Store for Mirror<'a, A, B> {
         cell: u64,
         out: &mut [u8; 128],
     ) -> Result<(), Failed>
-        ensures asked { IsLaneRead (λ lane. A.lane_seen lane.first)
-            (λ lane. A.lane_faults lane.first + B.lane_faults lane.second.lane)
+        ensures asked { IsLaneRead (λ lane. Some lane.second.reads.events) (λ lane. lane.second.failed)
             (⟦<Halves<'a, A, B> as Store>⟧.disk self.now.halves) cell lane.old lane.new out.new
             result }
         ensures halves { IsReadOfEither A.lane_seen A.lane_faults B.lane_seen B.lane_faults
@@ -106,8 +105,7 @@ impl<'a, A: Store, B: Store> Store for Mirror<'a, A, B> {
     }
 
     fn absorb(&mut self, lane: MirrorLane<A::Lane, B::Lane>)
-        ensures asked { IsAbsorbed (λ lane. A.lane_seen lane.first)
-            (λ lane. A.lane_faults lane.first + B.lane_faults lane.second.lane) lane
+        ensures asked { IsAbsorbed (λ lane. Some lane.second.reads.events) (λ lane. lane.second.failed) lane
             (⟦<Halves<'a, A, B> as Store>⟧.disk self.old.halves)
             (⟦<Halves<'a, A, B> as Store>⟧.disk self.new.halves) }
         ensures first { IsAbsorbed A.lane_seen A.lane_faults lane.first
@@ -167,8 +165,7 @@ impl<'a, A: Lanes, B: Store> Lanes for Mirror<'a, A, B> {
         ensures many { length hands.new ≡ length hands.old }
         ensures each { (i : ℕ) → i < length hands.old
             → IsPlaceRead (⟦<Halves<'a, A, B> as Store>⟧.disk self.now.halves)
-            (λ lane. A.lane_seen lane.first)
-            (λ lane. A.lane_faults lane.first + B.lane_faults lane.second.lane) claims.now
+            (λ lane. Some lane.second.reads.events) (λ lane. lane.second.failed) claims.now
             round.now asked.now (hand_at hands.old i) (hand_at hands.new i) }
         ensures halves { (i : ℕ) → i < length hands.old
             → IsPlaceReadOfEither A.lane_seen A.lane_faults B.lane_seen B.lane_faults

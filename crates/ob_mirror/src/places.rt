@@ -1,7 +1,9 @@
 //! Hands of a mirror, whose jobs are read by the first half and, where that failed, by the second.
 
 ghost use Rattle.std.specs.Prelude.{◌≡◌, ◌≢◌, ◌≤◌, ◌<◌, ◌+◌, ◌∷◌, [], ◌++◌, ℕ, length, take, if◌then◌else◌};
+ghost use Rattle.ob_base.specs.Planned.{job_at};
 ghost use Rattle.ob_store.specs.Calls.{Notes};
+ghost use Rattle.ob_store.specs.declared.event.Event.TheVariants as event;
 ghost use Rattle.ob_lanes.specs.Hands.{IsPlaceReady, hand_at, slot_places, reads_of, slot_at};
 ghost use Rattle.ob_mirror.specs.Both.{saturating_sum};
 ghost use Rattle.ob_mirror.specs.Reading.{AreMended, IsMended, IsParted, IsPlaceMended, IsPlaceReadOfEither, HasPlacesOfJobs, failed_in, is_refused, lane_at, with_refusals};
@@ -10,7 +12,7 @@ use crate::lane::{MirrorLane, SecondLane};
 use ob_base::Fault;
 use ob_claims::{Claims, Round};
 use ob_lanes::{Hand, Lanes, Outcome, SealedJobs, Slot, read_slot};
-use ob_store::Store;
+use ob_store::{Event, Store};
 use std::thread::Threads;
 
 /// Places for the hands of both halves. By a value of this type their size is known.
@@ -70,6 +72,7 @@ fn read_slot_again<B: Store>(
         (B.lane_seen second.old.lane) (B.lane_seen second.new.lane) }
     ensures later { B.lane_faults second.old.lane ≤ B.lane_faults second.new.lane }
     ensures failed { second.new.failed ≡ with_refusals (result ∷ []) second.old.failed }
+    ensures log { second.new.reads ≡ second.old.reads }
 {
     if !was_refused(&slot.outcome) {
         return slot;
@@ -79,7 +82,7 @@ fn read_slot_again<B: Store>(
     again
 }
 
-// The same at a place of a part.
+// The same at a place of a part. The read is one of both halves, whichever served it.
 fn again_at<B: Store>(
     store: &B,
     second: &mut SecondLane<B::Lane>,
@@ -99,7 +102,11 @@ fn again_at<B: Store>(
     ensures later { B.lane_faults second.old.lane ≤ B.lane_faults second.new.lane }
     ensures failed { second.new.failed
         ≡ with_refusals (slot_at part.new i ∷ []) second.old.failed }
+    ensures log { second.new.reads.events ≡ second.old.reads.events
+        ++ event.Read (job_at asked.now.jobs.now (slot_at part.old i).place).cell ∷ [] }
 {
+    let cell = asked.jobs[part[i].place].cell;
+    second.reads = second.reads.noted(&Event::Read(cell));
     part[i] = read_slot_again(store, second, asked, part[i]);
 }
 

@@ -57,8 +57,8 @@ fn are_read(slots: &[Slot]) -> bool {
     true
 }
 
-// Whether so many lanes read so many jobs.
-fn reads_all<S: Lanes, R: Abort + Threads + Sync>(
+/// Whether so many lanes read so many jobs.
+pub fn reads_all<S: Lanes, R: Abort + Threads + Sync>(
     rt: &R,
     alloc: Global,
     store: &mut S,

@@ -8,8 +8,14 @@ mod calls;
 #[cfg(test)]
 mod crashes;
 #[cfg(test)]
+mod mute;
+#[cfg(test)]
 mod refusals;
+#[cfg(test)]
+mod silent;
 #[cfg(test)]
 mod spy;
 #[cfg(test)]
 mod steps;
+#[cfg(test)]
+mod telling;

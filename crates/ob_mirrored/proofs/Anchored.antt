@@ -47,7 +47,7 @@ unjoined_keep keys one two a c b d t u err (inl head) = head_keeps keys (one a) 
 unjoined_keep keys one two a c b d t u err (inr (inl join)) = join.does.tells.shows.anchors ∙ join.head.shown.anchors
 unjoined_keep keys one two a c b d t u err (inr (inr broken)) = joined_keep keys broken.p one a c (two b) (two d) t u broken.joined
 
-no_head : {A : Type 0} → ◌≡◌ {A = List ℕ} [] head_cells → A
+pub no_head : {A : Type 0} → ◌≡◌ {A = List ℕ} [] head_cells → A
 no_head is = absurd (cc is)
 
 module _ {X : Type 0} (disk : X → Disk) (by : Manner) (tape : Given) (keys : Keys) (old new : X) (before : Outside) (t u : Trace) where

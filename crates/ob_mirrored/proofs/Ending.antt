@@ -1,5 +1,5 @@
 -- What a run over a mirror comes to, once its fault's line is written.
-use Rattle.std.proofs.Common.{◌≡◌, ◌⊎◌, ℕ, false, List, [], Option, Some, inl, inr, refl, sym, subst, arith}
+use Rattle.std.proofs.Common.{◌≡◌, ◌⊎◌, ⊎_elim, ◌<◌, ℕ, false, List, [], Option, Some, inl, inr, refl, sym, subst, arith}
 use Rattle.std.specs.Borrow.{Bor}
 use Rattle.ob_base.specs.Causes.{Rose}
 use Rattle.ob_base.specs.declared.fault.Fault.{Fault}
@@ -16,6 +16,7 @@ use Rattle.ob_serial.specs.Vaults.{Standing}
 use Rattle.ob_store.specs.Calls.{GoesOn}
 use Rattle.ob_store.specs.Disk.{Disk, Image}
 use Rattle.ob_store.specs.Lines.{Trace}
+use Rattle.ob_store.proofs.Serving.{rose_later}
 use Rattle.ob_vault.proofs.Standing.{ring_keeps}
 use Rattle.ob_vault.specs.RingKind.{RingMayStop, ring_kind}
 use Rattle.ob_vault.specs.RingLives.{ring_lives}
@@ -31,7 +32,12 @@ use Rattle.ob_top.specs.Outside.{Given, IsCommandFinished, Outside, outside}
 use Rattle.ob_top.specs.Parts.{Manner, reading_head}
 use Rattle.ob_top.specs.Pasts.{PastLife}
 use Rattle.ob_top.specs.Promised.{Promised}
-use Rattle.ob_top.specs.Runs.{Ran, RunDone, RunOn}
+use Rattle.ob_top.specs.Runs.{EndsEarly, Ran, RunDone, RunOn, Went}
+use Rattle.ob_mirrored.proofs.Anchored.{no_head}
+
+-- a count that was 0 and rose
+pub refused_some : (before now : ℕ) → before ≡ 0 → Rose before now → 0 < now
+refused_some before now none rose = omega arith
 
 module _ {X : Type 0} (disk : X → Disk) (by : Manner) (tape : Given) (keys : Keys) (old new : X) (input input_new output output_new : Flow) (t u : Trace) (status : ℕ) where
   abbrev pub Done : Type 0
@@ -39,6 +45,21 @@ module _ {X : Type 0} (disk : X → Disk) (by : Manner) (tape : Given) (keys : K
 
   pub ended_run : (mid : Flow) (err : Option RunErr) → RunOn ring_kind ring_lives ring_audits disk (reading_head [] by) tape keys old new (outside input output) (outside input_new mid) t u err → IsCommandFinished mid output_new err status → Done
   ended_run mid err r f = run_done ring_kind ring_quiet ring_lives ring_audits disk (reading_head [] by) tape keys old new (outside input output) (outside input_new mid) (outside input_new output_new) t u refl status err r f
+
+  -- it is cut off by the store's fault only where the count of faults rose
+  early_cause : (unsure : Option ℕ) → EndsEarly ring_kind ring_lives [] keys by.lanes by.shares (disk old) (disk new) t u disk input input_new (failed.Fault (fault.StoreFault unsure)) → Rose (disk old).faults (disk new).faults
+  early_cause unsure (inl head) = no_head head.own
+  early_cause unsure (inr (inl came)) = ⊎_elim (λ none. absurd none) (λ shares. absurd (let wrong : fault.StoreFault unsure ≡ fault.BadParams shares.0 = shares.1 in cc)) came.refused
+  early_cause unsure (inr (inr opening)) = opening.cause tt
+
+  went_cause : (written : Flow) (records : List (EpochRecord ℕ)) (unsure : Option ℕ) → Went ring_kind ring_lives disk (reading_head [] by) tape keys old new (outside input output) (outside input_new written) t u records (Some (failed.Fault (fault.StoreFault unsure)))
+      → Rose (disk old).faults (disk new).faults
+  went_cause written records unsure (inl (none, ended, lives)) = early_cause unsure ended
+  went_cause written records unsure (inr ran) = rose_later (disk old).faults (disk ran.between).faults (disk new).faults ran.faults ran.serving.cause.0
+
+  pub ended_cause : (run : Done) (unsure : Option ℕ) → run.err ≡ Some (failed.Fault (fault.StoreFault unsure)) → Rose (disk old).faults (disk new).faults
+  ended_cause run unsure is = went_cause run.written run.records unsure
+      (subst (λ (e : Option RunErr). Went ring_kind ring_lives disk (reading_head [] by) tape keys old new (outside input output) (outside input_new run.written) t u run.records e) is run.went)
 
   -- the call, as the headline has it
   abbrev pub behind_join : RunCall X

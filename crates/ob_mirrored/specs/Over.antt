@@ -1,5 +1,5 @@
 -- What is done over a mirror, and what is left of its halves.
-use Rattle.std.specs.Prelude.{◌≡◌, ◌⊎◌, ℕ, true, false, List, ◌∷◌, ◌++◌, [], Option, Some, None}
+use Rattle.std.specs.Prelude.{◌≡◌, ◌⊎◌, ◌<◌, ℕ, true, false, List, ◌∷◌, ◌++◌, [], Option, Some, None}
 use Rattle.std.specs.Borrow.{Bor}
 use Rattle.ob_base.specs.Causes.{Rose}
 use Rattle.ob_base.specs.Layout.{ring_cells}
@@ -20,6 +20,7 @@ use Rattle.ob_store.specs.Disk.{Disk}
 use Rattle.ob_store.specs.Images.{Passes, SameOff}
 use Rattle.ob_store.specs.Lines.{Trace}
 use Rattle.ob_store.specs.Told.{Tells, TellsFirst}
+use Rattle.ob_store.specs.declared.event.Event.{Event}
 use Rattle.ob_store.specs.declared.event.Event.TheVariants.{Sync}
 use Rattle.ob_store.specs.declared.watch.Note.{Note}
 use Rattle.ob_top.specs.Begun.{EndsAtHead, HasReadHead}
@@ -96,7 +97,14 @@ module _ {X A B : Type 0} (disk : X → Disk) (first_of : X → A) (second_of : 
     pub first_left : first_of left ≡ c
     pub second_left : second_of left ≡ d
     pub goes : GoesOn (disk lent) (disk left)
+    -- It began with no call, so with none refused; and it tells its calls to the end, whatever its halves tell of theirs.
+    pub none_made : (disk lent).seen ≡ Some []
+    pub none_failed : (disk lent).faults ≡ 0
+    pub made : List Event
+    pub told : (disk left).seen ≡ Some made
     pub run : RunDone ring_kind ring_lives ring_audits disk (reading_head [] by) tape keys lent left before after t u status
+    -- The store's fault is told only where a call of the mirror was refused: a read that the second half served is none.
+    pub cause : (unsure : Option ℕ) → run.err ≡ Some (failed.Fault (StoreFault unsure)) → 0 < (disk left).faults
     -- the headline, from the join on
     pub headline : (p : Params) (at : Standing) (past : PastLife) → Stood disk keys p at past tape lent → Promised disk keys p at past (record {
       old = lent;

@@ -302,7 +302,9 @@ fn do_with<
 ///
 /// The status is that of `obladi`. Before anything is touched `fault: store` and 5 stand where
 /// either store is missing, behind what is wrong with the words and the keys, and for the second one
-/// behind a trace that is asked for and missing; and so they do where the copy failed.
+/// behind a trace that is asked for and missing; and so they do where the copy failed. Behind the copy
+/// they stand only where a call of both as one was refused: a read of the first that the second
+/// served is no cause.
 pub fn obladi_mirrored<
     'a,
     R: AllocGlobal + Threads + Wait + Sync,

@@ -1,10 +1,10 @@
-use Rattle.std.proofs.Common.{◌≡◌, ◌<◌, subst, sym, ◌∙◌, ap, below_more, arith, length}
+use Rattle.std.proofs.Common.{◌≡◌, ◌<◌, ◌++◌, subst, sym, ◌∙◌, ap, below_more, arith, length}
 use Rattle.std.proofs.lemmas.List.{take_all}
 use Rattle.ob_lanes.specs.Hands.{slot_places, reads_of, slot_at}
 use Rattle.ob_lanes.proofs.SlotReads.{rose_from, rose_on}
 use Rattle.ob_store.specs.Calls.{Notes}
 use Rattle.ob_mirror.specs.Reading.{IsMended, failed_in, with_refusals}
-use Rattle.ob_mirror.proofs.Again.{failed_more, mended_on, reads_more}
+use Rattle.ob_mirror.proofs.Again.{failed_more, log_more, mended_on, reads_more}
 use Rattle.ob_mirror.proofs.places.read_again.Goals as goal
 
 pub again_at-requires-clause-within : goal.again_at-requires-clause-within
@@ -39,6 +39,7 @@ loop-i-preserved g c =
       reads = reads_more asked all i (slot_at old i) _ _ _ (let t = c.loop-i-test.true in let m = so_far.many in omega (arith, t, m)) same so_far.reads step.reads;
       later = (let a = so_far.later in let b = step.later in omega (arith, a, b));
       failed = failed_more i old new (slot_at new i) _ _ _ step.front so_far.failed step.failed;
+      log = log_more asked all i (slot_at old i) _ _ _ (let t = c.loop-i-test.true in let m = so_far.many in omega (arith, t, m)) same so_far.log step.log;
     }
 
 pub returns : goal.returns
@@ -50,5 +51,7 @@ returns g c =
       each = λ j lt. so_far.mended j (omega (arith, whole, lt));
       reads = subst (λ l. Notes (reads_of c.args.asked.now (slot_places (failed_in l))) (g.B.Store.lane_seen c.args.second.now.lane) (g.B.Store.lane_seen c.loop-i.second.lane)) (take_all c.loop-i.i c.args.part.now (omega (arith, whole))) so_far.reads;
       later = so_far.later;
+      few = omega arith;
+      log = so_far.log ∙ ap (λ l. c.args.second.now.reads.events ++ reads_of c.args.asked.now (slot_places l)) (take_all c.loop-i.i c.args.part.now (omega (arith, whole)));
       failed = (let m = so_far.many in so_far.failed ∙ ap (λ l. with_refusals l c.args.second.now.failed) (take_all c.loop-i.i c.loop-i.part (omega (arith, whole, m))));
     }

@@ -1,4 +1,4 @@
-use Rattle.std.proofs.Common.{◌≡◌, ◌<◌, ◌≤◌, ℕ, length, take}
+use Rattle.std.proofs.Common.{◌≡◌, ◌<◌, ◌≤◌, ◌++◌, ℕ, length, take}
 use Rattle.ob_store.specs.Calls.{Notes}
 use Rattle.ob_lanes.specs.Hands.{slot_places, reads_of, slot_at}
 use Rattle.ob_mirror.specs.Reading.{IsMended, failed_in, with_refusals}
@@ -12,4 +12,5 @@ invariant-loop-i g l = record {
   reads : Notes (reads_of l.asked (slot_places (failed_in (take l.i l.initial.part)))) (g.B.Store.lane_seen l.initial.second.lane) (g.B.Store.lane_seen l.second.lane);
   later : g.B.Store.lane_faults l.initial.second.lane ≤ g.B.Store.lane_faults l.second.lane;
   failed : l.second.failed ≡ with_refusals (take l.i l.part) l.initial.second.failed;
+  log : l.second.reads.events ≡ l.initial.second.reads.events ++ reads_of l.asked (slot_places (take l.i l.initial.part));
 }

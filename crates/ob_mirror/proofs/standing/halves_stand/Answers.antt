@@ -9,4 +9,4 @@ returns g c =
     let one = g.A.Store.disk in
     let two = g.B.Store.disk in
     let together = Together is.apart (one is.first_then.value) (two is.second_then.value) in
-    each_stands was.first.ghost_name was.second.ghost_name is.first.ghost_name is.second.ghost_name (Together was.apart (one was.first_then.value) (two was.second_then.value)) together (one was.first.now) (one is.first.now) (two was.second.now) (two is.second.now) is.agree
+    each_stands was.first.ghost_name was.second.ghost_name is.first.ghost_name is.second.ghost_name (Together was.apart (one was.first_then.value) (two was.second_then.value)) together was.made.events is.made.events was.failed is.failed (one was.first.now) (one is.first.now) (two was.second.now) (two is.second.now) is.agree
