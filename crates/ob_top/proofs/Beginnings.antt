@@ -41,6 +41,7 @@ use Rattle.ob_conduct.specs.declared.run_err.RunErr.TheVariants as failed
 use Rattle.ob_top.specs.Outside.{Given, IsWatched, words_given}
 use Rattle.ob_opening.proofs.PlanLaws.{opened_plans}
 use Rattle.ob_opening.specs.OpeningActs.{AreGatesIn, IsLeftAt, OpensInLife}
+use Rattle.ob_opening.specs.OpeningStops.{OpeningStops}
 use Rattle.ob_recover.specs.Known.{format_gates}
 use Rattle.ob_opening.specs.Formats.{FormatsInClear, HasClosedLogs, IsFormatFault, format_words, formatted_standing}
 use Rattle.ob_opening.specs.OpeningRuns.{BeginsFirst, IsAtStart, IsRingOpened, OpeningLeaves, OpensPart, ReadsFirst, RefusedDoes, RefusedWrites, begun_notes}
@@ -57,19 +58,19 @@ use Rattle.ob_top.specs.Parts.{CameIn, SharesFit, head_cells}
 
 -- the watch was found broken
 pub broke_early : (head_is : List ℕ) {S : Type 0} (disk : S → Disk) (keys : Keys) (most : ℕ) (shares : Shares) (old new : Disk) (t u : Trace) (before after : Flow) (err : RunErr) → IsWatched u (Some err)
-    → (u.broken ≡ true → BreaksAtHead ring_kind ring_lives head_is keys most shares old new t u before after ⊎ BreaksAtOpening ring_kind ring_lives head_is keys most shares old new t u disk before) → EndsEarly ring_kind ring_lives head_is keys most shares old new t u disk before after err
+    → (u.broken ≡ true → BreaksAtHead ring_kind ring_lives ring_audits head_is keys most shares old new t u before after ⊎ BreaksAtOpening ring_kind ring_lives ring_audits head_is keys most shares old new t u disk before) → EndsEarly ring_kind ring_lives ring_audits head_is keys most shares old new t u disk before after err
 broke_early head_is disk keys most shares old new t u before after (failed.Fault refused) is so = absurd is
 broke_early head_is disk keys most shares old new t u before after failed.Unwatched is so = so is
 
 -- so it was behind the head's read
-pub broke_at_head : (keys : Keys) (most : ℕ) (shares : Shares) (old new : Disk) (t u : Trace) (before after : Flow) (err : RunErr) → IsWatched u (Some err) → (u.broken ≡ true → BreaksAtHead ring_kind ring_lives head_cells keys most shares old new t u before after)
+pub broke_at_head : (keys : Keys) (most : ℕ) (shares : Shares) (old new : Disk) (t u : Trace) (before after : Flow) (err : RunErr) → IsWatched u (Some err) → (u.broken ≡ true → BreaksAtHead ring_kind ring_lives ring_audits head_cells keys most shares old new t u before after)
     → EndsAtHead keys most shares old new t u before after err
 broke_at_head keys most shares old new t u before after (failed.Fault refused) is so = absurd is
 broke_at_head keys most shares old new t u before after failed.Unwatched is so = so is
 
 -- a run that ends at its head ends early
 pub early_at_head : {S : Type 0} (disk : S → Disk) (keys : Keys) (most : ℕ) (shares : Shares) (old new : Disk) (t u : Trace) (before after : Flow) (err : RunErr) → EndsAtHead keys most shares old new t u before after err
-    → EndsEarly ring_kind ring_lives head_cells keys most shares old new t u disk before after err
+    → EndsEarly ring_kind ring_lives ring_audits head_cells keys most shares old new t u disk before after err
 early_at_head disk keys most shares old new t u before after (failed.Fault refused) ends = inl ends
 early_at_head disk keys most shares old new t u before after failed.Unwatched ends = inl ends
 
@@ -122,12 +123,12 @@ module _ {S : Type 0} (disk : S → Disk) (keys : Keys) (most : ℕ) (some : 1 �
   -- it was refused
   pub unopened : {T L : Type 0} (shares : Shares) (fits : SharesFit p script shares) (o : Result (Opening L) Fault) (tape_old tape_new : T) (present : ℕ) (drawn : List ℕ) (first shown later : Trace) (refused : Fault) (after : Flow) → Shows (note.Read 0 ∷ []) first shown → shown.broken ≡ false →
       ((c : Image) → (disk old).left_since (disk old).moment c → (disk old).may_leave c)
-      → (disk old).faults ≤ (disk mid).faults → IsOpenFault refused → (IsStoreFault refused → Rose (disk mid).faults (disk new).faults) → RefusedDoes keys most p (disk mid) (disk new) shown later refused
+      → (disk old).faults ≤ (disk mid).faults → IsOpenFault refused → (IsStoreFault refused → Rose (disk mid).faults (disk new).faults) → RefusedDoes keys most p (disk mid) (disk new) shown later refused → OpeningStops keys most p (disk mid) (disk new) shown later refused
       → ((disk mid).tells → IsOpenRefusal keys p (disk mid).cells refused) → ((s : RingStanding) → (disk mid).tells → stand.Stands keys p s (disk mid).cells → IsStandingRefusal s refused)
       → RefusedWrites disk keys p mid new tape_old tape_new present drawn refused → OpeningLeaves {L = L} disk keys p mid new (Err refused)
-      → ((word_of : WordId → ℕ) (s : LifeState) (pending : Option LifeAct) → (disk mid).tells → IsLeftAt keys p word_of s pending (disk mid).cells → OpensInLife keys most p word_of s pending (disk mid) (disk new) shown later false) → EndsEarly ring_kind ring_lives head_cells keys most shares (disk old)
+      → ((word_of : WordId → ℕ) (s : LifeState) (pending : Option LifeAct) → (disk mid).tells → IsLeftAt keys p word_of s pending (disk mid).cells → OpensInLife keys most p word_of s pending (disk mid) (disk new) shown later false) → EndsEarly ring_kind ring_lives ring_audits head_cells keys most shares (disk old)
       (disk new) first later disk before after (failed.Fault refused)
-  unopened {T} {L} shares fits o tape_old tape_new present drawn first shown later refused after head_shown whole only further kind cause does refusal stood writes leaves acts =
+  unopened {T} {L} shares fits o tape_old tape_new present drawn first shown later refused after head_shown whole only further kind cause does stops refusal stood writes leaves acts =
       let so = ring_refuses T disk keys most p old mid new tape_old tape_new present drawn shown later refused some read kind does refusal stood writes in
       let either = opens_or_not disk keys p old mid new read leaves in
       inr (inr (record {
@@ -141,6 +142,7 @@ module _ {S : Type 0} (disk : S → Disk) (keys : Keys) (most : ℕ) (some : 1 �
         cause = λ is. rose_later (disk old).faults (disk mid).faults (disk new).faults further (cause is);
         seen = so.seen;
         shown = record { mid = mid; later = shown; read = read.seen; keeps = read.keeps; head = head_shown; does = does };
+        stops = record { read = mid; between = shown; keeps = read.keeps; passes = read.passes; head = head_shown; stops = stops };
         behind_head = let (notes, behind) = refused_shown keys most p (disk mid) (disk new) shown later refused does in (notes, record { between = shown; head = head_shown; whole = whole; behind = behind });
         unwritten = so.unwritten;
         left = λ at tells stands all. ring_leaves_standing disk keys p old new only tells all either at stands;

@@ -21,6 +21,7 @@ use Rattle.ob_shares.specs.declared.shares.Shares.{Shares}
 use Rattle.ob_stand.specs.Stands as stand
 use Rattle.ob_stand.specs.Stands.{OneOf, RingStanding, StandsRing, ring_standing, with_generation}
 use Rattle.ob_start.specs.Heads.{IsHead}
+use Rattle.ob_store.proofs.Keeping.{same_none}
 use Rattle.ob_store.proofs.Moments.{weakened}
 use Rattle.ob_store.proofs.Showing.{shows_none}
 use Rattle.ob_store.specs.Calls.{IsStoreFault, Keeps}
@@ -31,6 +32,7 @@ use Rattle.ob_store.specs.declared.watch.Note.{Note}
 use Rattle.ob_conduct.specs.declared.run_err.RunErr.TheVariants as failed
 use Rattle.ob_opening.specs.OpeningActs.{IsLeftAt, OpensInLife, StandsInLife}
 use Rattle.ob_opening.specs.OpeningRuns.{IsReadAlone, IsRingOpened, OpeningLeaves, OpensFrom, RefusedDoes, RefusedWrites}
+use Rattle.ob_opening.specs.OpeningStops.{OpeningStops}
 use Rattle.ob_opening.specs.Openings.{IsOpenFault, IsOpenRefusal, IsOpeningOf, IsStandingRefusal, OpensWhatStood}
 use Rattle.ob_opening.specs.declared.opening.Opening.{Opening}
 use Rattle.ob_vault.proofs.Fetching.{none_pending, same_act}
@@ -42,6 +44,7 @@ use Rattle.ob_vault.specs.Openings.{OpensStanding}
 use Rattle.ob_vault.specs.RingKind.{ring_kind}
 use Rattle.ob_vault.specs.RingLaws.{found_ring}
 use Rattle.ob_vault.specs.RingLives.{ring_lives}
+use Rattle.ob_top.specs.Audited.{ring_audits}
 use Rattle.ob_vault.specs.Seen.{RingMayBegin, opening_phases}
 use Rattle.ob_top.proofs.Beginnings.{refused_shown}
 use Rattle.ob_top.specs.Begun.{HasReadHead, IsBegun}
@@ -169,12 +172,12 @@ module _ {S : Type 0} (disk : S → Disk) (keys : Keys) (most : ℕ) (p : Params
 
   -- it was refused
   pub unopened_here : {T L : Type 0} (shares : Shares) (fits : SharesFit p script shares) (o : Result (Opening L) Fault) (tape_old tape_new : T) (present : ℕ) (drawn : List ℕ) (refused : Fault) (after : Flow) → ((c : Image) → (disk old).left_since (disk old).moment c → (disk old).may_leave c)
-      → IsOpenFault refused → (IsStoreFault refused → Rose (disk old).faults (disk new).faults) → RefusedDoes keys most p (disk old) (disk new) shown later refused
+      → IsOpenFault refused → (IsStoreFault refused → Rose (disk old).faults (disk new).faults) → RefusedDoes keys most p (disk old) (disk new) shown later refused → OpeningStops keys most p (disk old) (disk new) shown later refused
       → ((disk old).tells → IsOpenRefusal keys p (disk old).cells refused) → ((s : RingStanding) → (disk old).tells → stand.Stands keys p s (disk old).cells → IsStandingRefusal s refused)
       → RefusedWrites disk keys p old new tape_old tape_new present drawn refused → OpeningLeaves {L = L} disk keys p old new (Err refused)
       → ((word_of : WordId → ℕ) (s : LifeState) (pending : Option LifeAct) → (disk old).tells → IsLeftAt keys p word_of s pending (disk old).cells → OpensInLife keys most p word_of s pending (disk old) (disk new) shown later false)
-      → EndsEarly ring_kind ring_lives [] keys most shares (disk old) (disk new) shown later disk before after (failed.Fault refused)
-  unopened_here {T} {L} shares fits o tape_old tape_new present drawn refused after only kind cause does refusal stood writes leaves acts =
+      → EndsEarly ring_kind ring_lives ring_audits [] keys most shares (disk old) (disk new) shown later disk before after (failed.Fault refused)
+  unopened_here {T} {L} shares fits o tape_old tape_new present drawn refused after only kind cause does stops refusal stood writes leaves acts =
       let either = either_here disk keys p old new leaves in
       inr (inr (record {
         p = p;
@@ -187,6 +190,7 @@ module _ {S : Type 0} (disk : S → Disk) (keys : Keys) (most : ℕ) (p : Params
         cause = cause;
         seen = tt;
         shown = does;
+        stops = record { read = old; between = shown; keeps = keeps_none (disk old); passes = same_none (disk old); head = shows_none shown; stops = stops };
         behind_head = let (notes, behind) = refused_shown keys most p (disk old) (disk new) shown later refused does in (notes, record { between = shown; head = shows_none shown; whole = whole; behind = behind });
         unwritten = λ not. let alone = read_alone disk keys p old new tape_old tape_new present drawn refused kind writes not in (alone.keeps, alone.passes);
         left = λ at tells stands all. ring_leaves_standing disk keys p old new only tells all either at stands;

@@ -2,8 +2,10 @@
 use Rattle.std.specs.Prelude.{◌≡◌, ℕ, suc, true, List, Option}
 use Rattle.std.specs.Ordering.{nat_cmp}
 use Rattle.ob_base.specs.Layout.{GenerationTwin}
+use Rattle.ob_base.specs.declared.fault.Fault.{Fault}
 use Rattle.ob_base.specs.declared.params.Params.{Params}
 use Rattle.ob_opening.specs.OpeningActs.{AreGatesIn}
+use Rattle.ob_opening.specs.OpeningStops.{OpeningStops}
 use Rattle.ob_recover.specs.Known.{format_gates, gates_open}
 use Rattle.ob_recover.specs.Life.{LifeState, WordId}
 use Rattle.ob_schedule.specs.Schedule.{Fills, gate_cell}
@@ -11,6 +13,7 @@ use Rattle.ob_seal.specs.declared.keys.Keys.{Keys}
 use Rattle.ob_serial.specs.Serial.{Map}
 use Rattle.ob_serial.specs.Vaults.{VaultCall}
 use Rattle.ob_store.specs.Disk.{Disk, Image}
+use Rattle.ob_store.specs.Lines.{Trace}
 use Rattle.ob_store.specs.declared.event.Event.{Event}
 use Rattle.ob_store.specs.declared.watch.Note.{Note}
 use Rattle.ob_vault.specs.Acts.{AreTapeWords}
@@ -30,6 +33,8 @@ use Rattle.ob_admitted.specs.Told.{IsRunNoted}
 pub record AuditWords (store : StoreKind) : Type 1 where
   -- the registers' gates are a format's, whatever crashes
   pub made_gated : (made : Disk) → Type 0
+  -- an opening was refused with this fault, and by its notes so the store was left
+  pub opening_stops : Keys → (most : ℕ) → Params → (old new : Disk) → (before after : Trace) → Fault → Type 0
   -- what was found knows the gates of the store as it was opened
   pub knows_gates : store.Found → (opened : Disk) → Type 0
   -- From what was found on, over the store as it was opened, these calls were answered, which drew this and hid that; and one more, where that was
@@ -51,6 +56,7 @@ pub record RingLeavesAsShown (keys : Keys) (most : ℕ) (p : Params) (found : Ri
 abbrev pub ring_audits : AuditWords ring_kind
 ring_audits = record {
   made_gated = λ made. (c : Image) → made.may_leave c → AreGatesIn format_gates c;
+  opening_stops = OpeningStops;
   knows_gates = λ found opened. AreGatesKnown found.run opened;
   leaves_as_shown = RingLeavesAsShown;
 }

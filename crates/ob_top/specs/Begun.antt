@@ -26,6 +26,7 @@ use Rattle.ob_twin.specs.declared.gates.Gates.{Gates}
 use Rattle.ob_opening.specs.declared.opening.Opening.{Opening}
 use Rattle.ob_store.specs.Lines.{Shows, Trace}
 use Rattle.ob_vault.specs.RingLives.{ring_lives}
+use Rattle.ob_top.specs.Audited.{ring_audits}
 use Rattle.ob_top.specs.Runs.{BreaksAtHead, EndsEarly, IsReadAndOpened, LivesUnserved, ShownBehindHead, StopsAtHead}
 use Rattle.ob_top.specs.Staged.{OpensInStages}
 use Rattle.ob_top.specs.Parts.{IsOpened, begin_phases, head_cells}
@@ -63,8 +64,8 @@ pub record HasReadHead (keys : Keys) (p : Params) (old new : Disk) (t u : Trace)
 
 -- Nothing was run: the head was refused, or the watch broke at its read, and that is all that was done.
 abbrev pub EndsAtHead : Keys → (most : ℕ) → Shares → Disk → Disk → Trace → Trace → Flow → Flow → RunErr → Type 0
-EndsAtHead keys most shares old new t u before after (failed.Fault fault) = StopsAtHead ring_kind ring_lives head_cells keys most shares old new t u before after fault
-EndsAtHead keys most shares old new t u before after failed.Unwatched = BreaksAtHead ring_kind ring_lives head_cells keys most shares old new t u before after
+EndsAtHead keys most shares old new t u before after (failed.Fault fault) = StopsAtHead ring_kind ring_lives ring_audits head_cells keys most shares old new t u before after fault
+EndsAtHead keys most shares old new t u before after failed.Unwatched = BreaksAtHead ring_kind ring_lives ring_audits head_cells keys most shares old new t u before after
 
 -- What is told from the read of the head on, whatever the store and the watch were before that; and what is told behind it.
 abbrev pub FromHeadAndBehind : {S : Type 0} → (S → Disk) → Keys → Params → S → Trace → (List ℕ → S → Trace → Type 0) → Type 0
@@ -83,7 +84,7 @@ pub record BegunBehindHead {S : Type 0} (disk : S → Disk) (head_is : List ℕ)
 
 -- Nothing is begun with, for this cause, and no vault's call is in the store's life.
 pub record NotBegun {S : Type 0} (disk : S → Disk) (head_is : List ℕ) (keys : Keys) (most : ℕ) (shares : Shares) (old new : S) (t u : Trace) (before after : Flow) (err : RunErr) : Type 0 where
-  pub early : EndsEarly ring_kind ring_lives head_is keys most shares (disk old) (disk new) t u disk before after err
+  pub early : EndsEarly ring_kind ring_lives ring_audits head_is keys most shares (disk old) (disk new) t u disk before after err
   pub lives : (disk new).tells → LivesUnserved disk keys old new
 
 -- A vault with so many lanes may be made of the opening, over the store and the tape as they are.

@@ -115,8 +115,17 @@ abbrev pub PartlyShown : List ℕ → (store : StoreKind) → {S : Type 0} → (
 PartlyShown [] store disk keys most p old new t u fault = RefusedDoes keys most p old new t u fault
 PartlyShown (cell ∷ head) store disk keys most p old new t u fault = store.opens_shown disk keys most p old new t u fault
 
+-- The head's read was shown, behind which the store was this one, as it was before. From there on the opening stopped so.
+pub record StopsBehindHead (store : StoreKind) (audit : AuditWords store) (head_is : List ℕ) (keys : Keys) (most : ℕ) (p : Params) {S : Type 0} (disk : S → Disk) (old new : Disk) (t u : Trace) (fault : Fault) : Type 0 where
+  pub read : S
+  pub between : Trace
+  pub keeps : Keeps old (disk read)
+  pub passes : Passes Same old (disk read)
+  pub head : Shows (notes_of_head head_is) t between
+  pub stops : audit.opening_stops keys most p (disk read) new between u fault
+
 -- what the watch told before an early end, and behind it
-module _ (store : StoreKind) (life : LifeWords store) (head_is : List ℕ) (keys : Keys) (most : ℕ) (shares : Shares) (old new : Disk) (t u : Trace) where
+module _ (store : StoreKind) (life : LifeWords store) (audit : AuditWords store) (head_is : List ℕ) (keys : Keys) (most : ℕ) (shares : Shares) (old new : Disk) (t u : Trace) where
   -- The head was refused: all that was done is to read it.
   pub record StopsAtHead (before after : Flow) (fault : Fault) : Type 0 where
     pub own : head_is ≡ head_cells
@@ -155,6 +164,8 @@ module _ (store : StoreKind) (life : LifeWords store) (head_is : List ℕ) (keys
     pub cause : IsStoreFault fault → Rose old.faults new.faults
     pub seen : PartlySeen head_is store keys most p old new fault
     pub shown : PartlyShown head_is store disk keys most p old new t u fault
+    -- what it left of the registers' gates is as its notes tell
+    pub stops : StopsBehindHead store audit head_is keys most p disk old new t u fault
     -- behind the head's read the watch was whole
     pub behind_head : (notes : List Note) × ShownBehindHead head_is notes t u
     -- unless it may have begun the next generation, no cell is written, and a crash leaves what it might have left before
@@ -341,7 +352,7 @@ module _ (store : StoreKind) (life : LifeWords store) (audit : AuditWords store)
   abbrev pub Went : Keys → S → S → Outside → Outside → Trace → Trace → List (EpochRecord ℕ) → Option RunErr → Type 0
   Went keys old new before after t u records None = Ran keys old new before after t u records None
   Went keys old new before after t u records (Some err) =
-      ((records ≡ []) × EndsEarly store life by.head keys by.lanes by.shares (disk old) (disk new) t u disk before.input after.input err × ((disk new).tells → LivesOn disk keys old new [])) ⊎ Ran keys old new before after t u records (Some err)
+      ((records ≡ []) × EndsEarly store life audit by.head keys by.lanes by.shares (disk old) (disk new) t u disk before.input after.input err × ((disk new).tells → LivesOn disk keys old new [])) ⊎ Ran keys old new before after t u records (Some err)
 
   -- What it comes to before the fault's line is written.
   pub record RunOn (keys : Keys) (old new : S) (before after : Outside) (t u : Trace) (err : Option RunErr) : Type 0 where

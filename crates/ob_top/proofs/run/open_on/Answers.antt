@@ -61,13 +61,13 @@ returns-in-Err-prepare-clause-refused g c =
     let none : Disk = g.S.Store.disk c.args.store.now in (
       λ first before h. record {
         early = unopened (λ s. g.S.Store.disk s) c.args.keys.now c.args.means.now.lanes c.requires.lanes.0 c.args.params c.in-Ok.scripts _ first c.args.store.now c.prepare.new.store h.head (record { keeps = h.keeps; passes = h.passes; seen = h.seen })
-            c.in-Ok.ensures.came c.args.means.now.shares c.in-Ok-check_shares.ensures c.prepare.result _ _ _ _ before _ _ c.in-Err-prepare.fault _ h.shown h.whole (g.met.S.Store.only_now first) h.goes.faults e.faults e.serves.cause e.does_err e.refused e.stands e.unwritten e.leaves
+            c.in-Ok.ensures.came c.args.means.now.shares c.in-Ok-check_shares.ensures c.prepare.result _ _ _ _ before _ _ c.in-Err-prepare.fault _ h.shown h.whole (g.met.S.Store.only_now first) h.goes.faults e.faults e.serves.cause e.does_err e.stops e.refused e.stands e.unwritten e.leaves
             (λ word_of s pending told at. e.acts word_of s pending told at);
         lives = refused_lives (λ s. g.S.Store.disk s) g.met.S.Store.only_now c.args.keys.now first c.args.store.now h.goes h.keeps h.passes c.prepare.new.store e.serves.goes e.act;
       },
       record {
         early = unopened_here (λ s. g.S.Store.disk s) c.args.keys.now c.args.means.now.lanes c.args.params c.in-Ok.scripts _ c.args.store.now c.prepare.new.store c.requires.head c.in-Ok.ensures.came _ _ c.requires.whole
-            c.args.means.now.shares c.in-Ok-check_shares.ensures c.prepare.result _ _ _ _ c.in-Err-prepare.fault _ (g.met.S.Store.only_now c.args.store.now) e.faults e.serves.cause e.does_err e.refused e.stands e.unwritten e.leaves
+            c.args.means.now.shares c.in-Ok-check_shares.ensures c.prepare.result _ _ _ _ c.in-Err-prepare.fault _ (g.met.S.Store.only_now c.args.store.now) e.faults e.serves.cause e.does_err e.stops e.refused e.stands e.unwritten e.leaves
             (λ word_of s pending told at. e.acts word_of s pending told at);
         lives = refused_lives (λ s. g.S.Store.disk s) g.met.S.Store.only_now c.args.keys.now c.args.store.now c.args.store.now (goes_same none) (keeps_none none) (same_none none) c.prepare.new.store e.serves.goes e.act;
       },
