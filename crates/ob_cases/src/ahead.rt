@@ -9,13 +9,15 @@ ghost use Rattle.ob_mem.specs.Heard.{told};
 ghost use Rattle.ob_mem.specs.Memory.{disk_of_store};
 ghost use Rattle.ob_mem.specs.Laws.{counts_now, only_now, includes_reads};
 
-use crate::calling::{CELLS, EMPTY, FORMAT, RUNS, WIDE, ask_for, blank, call_on, sink_of};
+use crate::calling::{EMPTY, FORMAT, RUNS, ask_for, blank, insist};
 use ob_base::Failed;
 use ob_claims::{Claims, Round};
+use ob_desk::Eager;
 use ob_io::Sink;
 use ob_lanes::{Hand, Lanes, SealedJobs, read_hands};
 use ob_mem::{MemLane, MemStore};
 use ob_store::Store;
+use ob_top_calls::{CELLS, NEVER, WIDE, call_by, sink_of};
 use std::process::Abort;
 use std::sync::Wait;
 use std::sync::atomic::AtomicU64;
@@ -139,10 +141,11 @@ fn make<R: AllocGlobal + Threads + Wait + Sync + Abort>(
     requires { (disk_of_store store.old.store).out ≡ 0 }
     ensures { (disk_of_store store.new.store).out ≡ 0 }
 {
+    let mut output = sink_of(rt.alloc(), WIDE, NEVER).expect(rt, "memory");
     let mut trace = Some(LastLine { last });
     let ask = ask_for(words, EMPTY);
-    let status = call_on(rt, store, ask, &mut sink_of(rt, WIDE), &mut trace);
-    assert!(rt; status == 0, "{words}");
+    let status = call_by(rt, store, &ask, &mut output, &mut trace, &mut Eager);
+    insist(rt, status.expect(rt, "memory") == 0, words);
 }
 
 // A format writes 62 times, and a run of one epoch 46 times.
@@ -155,10 +158,8 @@ fn expect_none_late<R: AllocGlobal + Threads + Wait + Sync + Abort>(rt: &R, word
     };
     make(rt, &mut store, &last, FORMAT);
     make(rt, &mut store, &last, words);
-    assert!(rt;
-        store.writes.all == 108 && store.writes.late == 0,
-        "{words}"
-    );
+    let none_late = store.writes.all == 108 && store.writes.late == 0;
+    insist(rt, none_late, words);
 }
 
 #[test]

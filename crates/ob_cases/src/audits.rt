@@ -1,8 +1,9 @@
 //! Audits of a format's trace and a run's in a row, with a line changed, more or less, and of such
 //! as end before they are told.
 
-use crate::calling::{NEVER, ask_for, expect_alone, number_of, parted, replaced};
+use crate::calling::{expect_alone, number_of, parted, replaced};
 use crate::lines::{FORMATTED, ONE_EPOCH};
+use ob_top_calls::ask_for;
 use std::process::Abort;
 use std::sync::Wait;
 use std::thread::Threads;
@@ -13,7 +14,7 @@ pub fn expect_audit<R: AllocGlobal + Threads + Wait + Sync + Abort>(
     text: &str,
     wanted: &str,
 ) {
-    expect_alone(rt, ask_for("audit", text), NEVER, wanted);
+    expect_alone(rt, &ask_for("audit", text), wanted);
 }
 
 // What of a format's trace and a run's in a row is changed, what stands there instead, and what is
@@ -54,7 +55,9 @@ const CUT: &str = "\
 fn an_audit_is_told_up_to_a_write_that_fails(rt: HostRuntime) {
     for line in CUT.lines() {
         let (write, wanted) = parted(&rt, line, ": ");
-        expect_alone(&rt, ask_for("audit", "O/"), number_of(&rt, write), wanted);
+        let mut ask = ask_for("audit", "O/");
+        ask.bad_write = number_of(&rt, write);
+        expect_alone(&rt, &ask, wanted);
     }
 }
 
@@ -62,5 +65,5 @@ fn an_audit_is_told_up_to_a_write_that_fails(rt: HostRuntime) {
 fn an_audit_ends_where_its_input_fails(rt: HostRuntime) {
     let mut ask = ask_for("audit", FORMATTED);
     ask.bad_read = 1;
-    expect_alone(&rt, ask, NEVER, "7 fault: source/");
+    expect_alone(&rt, &ask, "7 fault: source/");
 }

@@ -2,36 +2,19 @@
 
 ghost use Rattle.std.specs.Prelude.{◌≡◌};
 ghost use Rattle.ob_mem.specs.Memory.{disk_of_store};
-ghost use Rattle.ob_top.specs.Outside.{NoneOut};
 
 use crate::lines::FORMATTED;
-use ob_desk::{Beat, Eager};
-use ob_io::Sink;
-use ob_lanes::Lanes;
-use ob_mem::{Fail, MemSink, MemSource, MemStore};
-use ob_seal::ListTape;
-use ob_top::obladi;
+use ob_mem::{Fail, MemSink, MemStore};
+use ob_top_calls as calls;
+use ob_top_calls::{Answer, Ask, CELLS, KEYS, NEVER, WIDE, has, has_front};
 use std::process::Abort;
 use std::sync::Wait;
 use std::thread::Threads;
 
-/// The keys of the bytes 0 to 95.
-pub const KEYS: &str = "\
-    000102030405060708090a0b0c0d0e0f101112131415161718191a1b1c1d1e1f\
-    202122232425262728292a2b2c2d2e2f303132333435363738393a3b3c3d3e3f\
-    404142434445464748494a4b4c4d4e4f505152535455565758595a5b5c5d5e5f";
-
-/// The cells of a store of 8 keys.
-pub const CELLS: usize = 109;
-
-/// Room for each output and each trace of a store of 8 keys.
-pub const WIDE: usize = 1000;
-
-/// The moment behind all calls.
-pub const END: usize = 1000;
-
-/// No call comes to this number.
-pub const NEVER: u64 = u64::MAX;
+/// Ends the test where this isn't so, and names the case.
+pub fn insist<R: Abort>(rt: &R, so: bool, case: &str) {
+    assert!(rt; so, "{case}");
+}
 
 /// The format of a store of 8 keys, under a trace.
 pub const FORMAT: &str = "format S K 8 2 2 3 2 2 2 2 8 --trace T";
@@ -47,18 +30,7 @@ pub static RUNS: [&str; 4] = [
 /// A script of an empty transaction.
 pub const EMPTY: &str = "client 1/begin/commit";
 
-/// What is asked for: the words, the keys, the script, in which a `/` stands for the end of a line,
-/// which of its reads fails, and the tape, behind which are zeros.
-#[derive(Clone, Copy)]
-pub struct Ask<'a> {
-    pub words: &'a str,
-    pub keys: Option<&'a str>,
-    pub script: &'a str,
-    pub bad_read: u64,
-    pub tape: &'a [u64],
-}
-
-/// These words under the keys, with a script of which no read fails and a tape of zeros.
+/// These words under the keys, with a script, a tape of zeros and wide room for a trace.
 pub fn ask_for<'a>(words: &'a str, script: &'a str) -> Ask<'a> {
     ask_with(words, script, &[])
 }
@@ -69,19 +41,17 @@ pub fn ask_with<'a>(words: &'a str, script: &'a str, tape: &'a [u64]) -> Ask<'a>
         words,
         keys: Some(KEYS),
         script,
-        bad_read: NEVER,
         tape,
+        bad_read: NEVER,
+        bad_write: NEVER,
+        room: WIDE,
+        trace: Some(WIDE),
     }
 }
 
 /// A text with another in each place of a part.
 pub fn replaced<R: AllocGlobal + Abort>(rt: &R, text: &str, part: &str, by: &str) -> String {
     text.replace(rt.alloc(), part, by).expect(rt, "memory")
-}
-
-/// A text with its line ends, for each of which a `/` stands.
-pub fn lines_of<R: AllocGlobal + Abort>(rt: &R, text: &str) -> String {
-    replaced(rt, text, "/", "\n")
 }
 
 /// The text of bytes.
@@ -99,119 +69,51 @@ pub fn number_of<R: Abort>(rt: &R, text: &str) -> u64 {
     text.parse::<u64>().ok().expect(rt, "a number")
 }
 
-/// The words of a line.
-pub fn words_of<'a, R: AllocGlobal + Abort>(rt: &R, line: &'a str) -> Vec<&'a str> {
-    let mut words = Vec::new(rt.alloc());
-    for word in line.split(' ') {
-        words.push(word).expect(rt, "memory");
-    }
-    words
-}
-
-// The script as the input, of which a read may fail.
-fn source_of<R: AllocGlobal + Abort>(rt: &R, ask: Ask<'_>) -> MemSource {
-    let script = lines_of(rt, ask.script).as_bytes().to_vec(rt.alloc());
-    let bad_reads = [ask.bad_read].to_vec(rt.alloc()).expect(rt, "memory");
-    MemSource::new(script.expect(rt, "memory"), bad_reads)
-}
-
-/// A sink with so much room.
-pub fn sink_of<R: AllocGlobal + Abort>(rt: &R, room: usize) -> MemSink {
-    let made = MemSink::new(rt.alloc(), room, Vec::new(rt.alloc()));
-    made.expect(rt, "memory")
-}
-
-/// Makes a call over a store that may be handed in, and answers its status.
-pub fn call<R: AllocGlobal + Threads + Wait + Sync + Abort, S: Lanes, B: Beat>(
+/// Makes a call over a store.
+pub fn call_on<R: AllocGlobal + Threads + Wait + Sync + Abort>(
     rt: &R,
-    store: Option<&mut S>,
-    ask: Ask<'_>,
-    output: &mut MemSink,
-    beat: &mut B,
-) -> u8
-    requires { NoneOut S.disk store }
+    store: &mut MemStore,
+    ask: &Ask<'_>,
+) -> Answer
+    requires { (disk_of_store store.old).out ≡ 0 }
+    ensures { (disk_of_store store.new).out ≡ 0 }
 {
-    let words = words_of(rt, ask.words);
-    let mut tape = ListTape::new(rt.alloc(), ask.tape).expect(rt, "memory");
-    let mut input = source_of(rt, ask);
-    let mut trace: Option<MemSink> = None;
-    obladi(
-        rt,
-        &words,
-        ask.keys.map(str::as_bytes),
-        store,
-        &mut tape,
-        &mut input,
-        output,
-        &mut trace,
-        beat,
-    )
+    calls::call(rt, store, ask).expect(rt, "memory")
 }
 
-/// Makes a call over a store, and answers its status.
-pub fn call_on<R: AllocGlobal + Threads + Wait + Sync + Abort, S: Lanes, W: Sink>(
-    rt: &R,
-    store: &mut S,
-    ask: Ask<'_>,
-    output: &mut MemSink,
-    trace: &mut Option<W>,
-) -> u8
-    requires { (S.disk store.old).out ≡ 0 }
-    ensures { (S.disk store.new).out ≡ 0 }
-{
-    let words = words_of(rt, ask.words);
-    let mut tape = ListTape::new(rt.alloc(), ask.tape).expect(rt, "memory");
-    let mut input = source_of(rt, ask);
-    obladi(
-        rt,
-        &words,
-        ask.keys.map(str::as_bytes),
-        Some(store),
-        &mut tape,
-        &mut input,
-        output,
-        trace,
-        &mut Eager,
-    )
+/// Compares what was told with `STATUS OUTPUT`.
+pub fn expect_told<R: Abort>(rt: &R, answer: &Answer, wanted: &str) {
+    let (status, output) = parted(rt, wanted, " ");
+    let so = answer.status as u64 == number_of(rt, status) && has(&answer.output, output);
+    insist(rt, so, wanted);
 }
 
-/// Compares a status and what was told with `STATUS OUTPUT`.
-pub fn expect_told<R: AllocGlobal + Abort>(
-    rt: &R,
-    ask: Ask<'_>,
-    status: u8,
-    told: &[u8],
-    wanted: &str,
-) {
-    let (wanted, output) = parted(rt, wanted, " ");
-    assert!(rt;
-        status as u64 == number_of(rt, wanted) && told == lines_of(rt, output).as_bytes(),
-        "{} {status} {output}",
-        ask.words
-    );
-}
-
-/// Makes a call without a store, of whose output this write fails, and compares what it answers
-/// with `STATUS OUTPUT`.
+/// Makes a call without a store, and compares what it answers with `STATUS OUTPUT`.
 pub fn expect_alone<R: AllocGlobal + Threads + Wait + Sync + Abort>(
     rt: &R,
-    ask: Ask<'_>,
-    bad_write: u64,
+    ask: &Ask<'_>,
     wanted: &str,
 ) {
-    let none: Option<&mut MemStore> = None;
-    let bad_writes = [bad_write].to_vec(rt.alloc()).expect(rt, "memory");
-    let output = MemSink::new(rt.alloc(), WIDE, bad_writes);
-    let mut output = output.expect(rt, "memory");
-    let status = call(rt, none, ask, &mut output, &mut Eager);
-    expect_told(rt, ask, status, output.written(), wanted);
+    let answer = calls::call_alone(rt, ask).expect(rt, "memory");
+    expect_told(rt, &answer, wanted);
 }
 
-/// Whether these are the first so many lines of a list.
-pub fn is_front<R: AllocGlobal + Abort>(rt: &R, trace: &[u8], list: &str, lines: usize) -> bool {
-    let whole = lines_of(rt, list);
-    let text = text_of(rt, trace);
-    whole.starts_with(text) && text.ends_with('\n') && text.lines().count() == lines
+// Whether a trace has the first so many lines of a list.
+fn is_front(trace: &MemSink, list: &str, lines: usize) -> bool {
+    let mut ends: usize = 0;
+    let mut last = 0;
+    for byte in trace.written() {
+        last = *byte;
+        ends = ends.saturating_add((*byte == b'\n') as usize);
+    }
+    last == b'\n' && ends == lines && has_front(trace, list, trace.written().len())
+}
+
+fn is_traced(trace: &Option<MemSink>, list: (&str, usize)) -> bool {
+    match trace {
+        Some(trace) => is_front(trace, list.0, list.1),
+        None => false,
+    }
 }
 
 /// Makes a call with room for all of its trace, and compares what it answers with `STATUS OUTPUT`,
@@ -226,24 +128,16 @@ pub fn expect<R: AllocGlobal + Threads + Wait + Sync + Abort>(
     requires { (disk_of_store store.old).out ≡ 0 }
     ensures { (disk_of_store store.new).out ≡ 0 }
 {
-    let mut output = sink_of(rt, WIDE);
-    let mut trace = Some(sink_of(rt, WIDE));
-    let status = call_on(rt, store, ask, &mut output, &mut trace);
-    expect_told(rt, ask, status, output.written(), wanted);
-    let trace = trace.expect(rt, "a trace");
-    assert!(rt;
-        is_front(rt, trace.written(), list.0, list.1),
-        "{}",
-        ask.words
-    );
+    let answer = call_on(rt, store, &ask);
+    expect_told(rt, &answer, wanted);
+    insist(rt, is_traced(&answer.trace, list), ask.words);
 }
 
 /// A store of so many cells, of which these calls fail.
 pub fn blank<R: AllocGlobal + Abort>(rt: &R, cells: usize, fails: &[Fail]) -> MemStore
     ensures { (disk_of_store result).out ≡ 0 }
 {
-    let fails = fails.to_vec(rt.alloc()).expect(rt, "memory");
-    MemStore::new(rt.alloc(), cells, fails).expect(rt, "memory")
+    calls::blank(rt.alloc(), cells, fails).expect(rt, "memory")
 }
 
 /// A store of 8 keys, of which these calls fail, just formatted under a trace.
@@ -253,7 +147,7 @@ pub fn formatted<R: AllocGlobal + Threads + Wait + Sync + Abort>(rt: &R, fails: 
     let mut store = blank(rt, CELLS, fails);
     let told = "0 store of 109 cells/";
     expect(rt, &mut store, ask_for(FORMAT, ""), told, (FORMATTED, 73));
-    assert!(rt; store.moments() == 72);
+    insist(rt, store.moments() == 72, told);
     store
 }
 
@@ -267,12 +161,5 @@ pub fn left_after<R: AllocGlobal + Abort>(
 ) -> MemStore
     ensures { (disk_of_store result).out ≡ 0 }
 {
-    let Some(byte) = filling else {
-        return store.crash(moment, &[]).expect(rt, "memory");
-    };
-    let mut fillings = [(0, [byte; 128]); CELLS];
-    for i in 0..CELLS {
-        fillings[i].0 = i as u64;
-    }
-    store.crash(moment, &fillings).expect(rt, "memory")
+    calls::left_after(store, moment, filling).expect(rt, "memory")
 }

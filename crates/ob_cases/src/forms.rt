@@ -1,8 +1,9 @@
 //! Forms of a run, and runs with a hasty beat, over a store that was just formatted.
 
-use crate::calling::{EMPTY, WIDE, ask_for, call, formatted, sink_of};
+use crate::calling::{EMPTY, formatted, insist};
 use ob_desk::{Beat, Eager, Hasty};
 use ob_mem::MemSink;
+use ob_top_calls::{NEVER, WIDE, ask_for, call_by, sink_of};
 use std::process::Abort;
 use std::sync::Wait;
 use std::thread::Threads;
@@ -15,10 +16,11 @@ fn told_by<R: AllocGlobal + Threads + Wait + Sync + Abort, B: Beat>(
     script: &str,
 ) -> MemSink {
     let mut store = formatted(rt, &[]);
-    let mut output = sink_of(rt, WIDE);
+    let mut output = sink_of(rt.alloc(), WIDE, NEVER).expect(rt, "memory");
+    let mut trace: Option<MemSink> = None;
     let ask = ask_for(words, script);
-    let status = call(rt, Some(&mut store), ask, &mut output, beat);
-    assert!(rt; status == 0, "{words}");
+    let status = call_by(rt, &mut store, &ask, &mut output, &mut trace, beat);
+    insist(rt, status.expect(rt, "memory") == 0, words);
     output
 }
 
@@ -43,7 +45,7 @@ const TOLD: &[u8] = b"\
 
 fn expect_form<R: AllocGlobal + Threads + Wait + Sync + Abort>(rt: &R, form: &str) {
     let told = told_by(rt, &mut Eager, form, TWO_EPOCHS);
-    assert!(rt; told.written() == TOLD, "{form}");
+    insist(rt, told.written() == TOLD, form);
 }
 
 #[test]
@@ -60,14 +62,15 @@ const ABORTED: &[u8] = b"epoch 1\ntxn 1 client 1 aborted epoch end\n";
 // Whether a run of an empty transaction was too late for its epoch, or else in time.
 fn is_late<R: AllocGlobal + Threads + Wait + Sync + Abort>(rt: &R, words: &str) -> bool {
     let told = told_by(rt, &mut Hasty, words, EMPTY);
-    assert!(rt; told.written() == ABORTED || told.written() == COMMITTED);
-    told.written() == ABORTED
+    let late = told.written() == ABORTED;
+    insist(rt, late || told.written() == COMMITTED, words);
+    late
 }
 
 #[test]
 fn a_hasty_beat_ends_epochs_early(rt: HostRuntime) {
     for words in ["run S K --turns --lanes 1", "run S K --turns --lanes 4"] {
-        assert!(&rt; is_late(&rt, words));
+        insist(&rt, is_late(&rt, words), words);
     }
     for _ in 0..15 {
         is_late(&rt, "run S K");

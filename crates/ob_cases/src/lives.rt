@@ -4,11 +4,12 @@ ghost use Rattle.std.specs.Prelude.{◌≡◌, IfSome};
 ghost use Rattle.ob_mem.specs.Memory.{disk_of_store};
 
 use crate::calling::{
-    END, WIDE, ask_with, blank, call_on, expect_told, left_after, number_of, parted, replaced,
-    sink_of,
+    ask_with, blank, call_on, expect_told, insist, left_after, number_of, parted, replaced,
 };
-use ob_mem::{MemSink, MemStore};
+use ob_mem::MemStore;
 use ob_store::Store;
+use ob_top_calls as calls;
+use ob_top_calls::END;
 use std::process::Abort;
 use std::sync::Wait;
 use std::thread::Threads;
@@ -28,11 +29,7 @@ fn cell_of<R: Abort>(rt: &R, store: &mut MemStore, cell: u64) -> [u8; 128]
     requires { (disk_of_store store.old).out ≡ 0 }
     ensures { (disk_of_store store.new).out ≡ 0 }
 {
-    let mut bytes = [0; 128];
-    let mut lane = store.lane().ok().expect(rt, "a lane");
-    assert!(rt; store.read(&mut lane, cell, &mut bytes).is_ok());
-    store.absorb(lane);
-    bytes
+    calls::cell_of(store, cell).expect(rt, "a cell")
 }
 
 // Changes a bit of a cell.
@@ -42,7 +39,7 @@ fn flip<R: Abort>(rt: &R, store: &mut MemStore, cell: u64)
 {
     let mut bytes = cell_of(rt, store, cell);
     bytes[20] ^= 1;
-    assert!(rt; store.write(cell, &bytes).is_ok());
+    insist(rt, store.write(cell, &bytes).is_ok(), "a write");
 }
 
 // Asserts that a cell begins with these numbers.
@@ -51,7 +48,7 @@ fn expect_begin<R: AllocGlobal + Abort>(rt: &R, store: &mut MemStore, step: &str
     ensures { (disk_of_store store.new).out ≡ 0 }
 {
     let numbers = numbers_of(rt, step);
-    assert!(rt; 1 < numbers.len() && numbers.len() <= 17, "{step}");
+    assert!(*rt; 1 < numbers.len() && numbers.len() <= 17);
     let bytes = cell_of(rt, store, numbers[0]);
     expect_numbers(rt, &bytes, &numbers[1..]);
 }
@@ -81,10 +78,8 @@ fn make<R: AllocGlobal + Threads + Wait + Sync + Abort>(
     let words = replaced(rt, words, "run S K", lanes);
     let tape = numbers_of(rt, tape);
     let ask = ask_with(words.as_str(), script, &tape);
-    let mut output = sink_of(rt, WIDE);
-    let mut trace: Option<MemSink> = None;
-    let status = call_on(rt, store, ask, &mut output, &mut trace);
-    expect_told(rt, ask, status, output.written(), wanted);
+    let answer = call_on(rt, store, &ask);
+    expect_told(rt, &answer, wanted);
 }
 
 // The store that stands in a store's place behind a step that makes another.
@@ -132,7 +127,7 @@ fn go_on<R: AllocGlobal + Threads + Wait + Sync + Abort>(rt: &R, lanes: &str, st
             None => take(rt, &mut store, lanes, step),
         }
     }
-    assert!(rt; store.starved() == 0);
+    insist(rt, store.starved() == 0, steps);
 }
 
 /// Plays steps, each a line, by one lane and by four.

@@ -1,6 +1,7 @@
 //! Calls without a store: what is refused, in its order, and the files that words call for.
 
-use crate::calling::{KEYS, NEVER, ask_for, expect_alone, parted, words_of};
+use crate::calling::{expect_alone, insist, parted};
+use ob_top_calls::{KEYS, ask_for, words_of};
 use ob_words::store_wanted;
 use std::process::Abort;
 
@@ -60,7 +61,7 @@ fn refusals_come_in_their_order(rt: HostRuntime) {
         let (keys, words) = parted(&rt, call, " ");
         let mut ask = ask_for(words, "begin");
         ask.keys = keys_of(keys);
-        expect_alone(&rt, ask, NEVER, wanted);
+        expect_alone(&rt, &ask, wanted);
     }
 }
 
@@ -88,7 +89,7 @@ static WANTED: [(&str, Option<bool>, &str); 18] = [
 ];
 
 fn expect_wanted<R: AllocGlobal + Abort>(rt: &R, line: &str, may_make: Option<bool>, beside: &str) {
-    let words = words_of(rt, line);
+    let words = words_of(rt.alloc(), line).expect(rt, "memory");
     let paths = store_wanted(rt.alloc(), &words).expect(rt, "memory");
     let (store, keys) = match may_make {
         Some(may_make) => (Some(("S", may_make)), Some("K")),
@@ -105,12 +106,11 @@ fn expect_wanted<R: AllocGlobal + Abort>(rt: &R, line: &str, may_make: Option<bo
     } else {
         None
     };
-    assert!(rt;
-        paths.store == store
-            && paths.keys == keys
-            && paths.trace == trace
-            && paths.mirror == mirror,
-        "{line}"
+    let beside = paths.trace == trace && paths.mirror == mirror;
+    insist(
+        rt,
+        paths.store == store && paths.keys == keys && beside,
+        line,
     );
 }
 

@@ -4,11 +4,10 @@ ghost use Rattle.std.specs.Prelude.{◌≡◌};
 ghost use Rattle.ob_mem.specs.Memory.{disk_of_store};
 
 use crate::audits::expect_audit;
-use crate::calling::{
-    Ask, EMPTY, END, RUNS, ask_for, ask_with, call_on, formatted, left_after, sink_of, text_of,
-};
+use crate::calling::{EMPTY, RUNS, ask_with, call_on, formatted, insist, left_after, text_of};
 use crate::lines::FORMATTED;
 use ob_mem::MemStore;
+use ob_top_calls::{Answer, Ask, END, ask_for};
 use std::process::Abort;
 use std::sync::Wait;
 use std::thread::Threads;
@@ -24,17 +23,21 @@ fn owned<R: AllocGlobal + Abort>(rt: &R, text: &str) -> String {
 fn trace_of<R: AllocGlobal + Threads + Wait + Sync + Abort>(
     rt: &R,
     store: &mut MemStore,
-    ask: Ask<'_>,
+    mut ask: Ask<'_>,
 ) -> String
     requires { (disk_of_store store.old).out ≡ 0 }
     ensures { (disk_of_store store.new).out ≡ 0 }
 {
-    let mut output = sink_of(rt, ROOM);
-    let mut trace = Some(sink_of(rt, ROOM));
-    let status = call_on(rt, store, ask, &mut output, &mut trace);
-    let trace = trace.expect(rt, "a trace");
-    assert!(rt; status == 0 && output.written().starts_with(b"epoch "));
-    owned(rt, text_of(rt, trace.written()))
+    ask.room = ROOM;
+    ask.trace = Some(ROOM);
+    let Answer {
+        status,
+        output,
+        trace,
+    } = call_on(rt, store, &ask);
+    let so = status == 0 && output.written().starts_with(b"epoch ");
+    insist(rt, so, ask.words);
+    owned(rt, text_of(rt, trace.expect(rt, "a trace").written()))
 }
 
 // Puts the first so many lines of a trace behind a text: how many of them tell of a write or a
@@ -101,7 +104,7 @@ fn expect_behind<R: AllocGlobal + Threads + Wait + Sync + Abort>(
 fn ran<R: AllocGlobal + Threads + Wait + Sync + Abort>(rt: &R) -> (MemStore, String) {
     let mut ran = left_after(rt, &formatted(rt, &[]), END, None);
     let trace = trace_of(rt, &mut ran, ask_for(RUNS[1], EMPTY));
-    assert!(rt; ran.moments() == 56);
+    insist(rt, ran.moments() == 56, RUNS[1]);
     (ran, trace)
 }
 

@@ -1,9 +1,8 @@
 //! Self-tests by the top call: their summaries, counts that are refused, and an output without
 //! room.
 
-use crate::calling::{NEVER, ask_for, call, expect_alone, lines_of, parted, sink_of};
-use ob_desk::Eager;
-use ob_mem::MemStore;
+use crate::calling::{expect_alone, insist, parted};
+use ob_top_calls::{ask_for, call_alone, has_front};
 use std::process::Abort;
 use std::sync::Wait;
 use std::thread::Threads;
@@ -45,7 +44,7 @@ fn expect_drills<R: AllocGlobal + Threads + Wait + Sync + Abort>(rt: &R, lines: 
         let (words, wanted) = parted(rt, line, " -> ");
         let mut ask = ask_for(words, "");
         ask.keys = None;
-        expect_alone(rt, ask, NEVER, wanted);
+        expect_alone(rt, &ask, wanted);
     }
 }
 
@@ -68,13 +67,12 @@ const OF_ONE: &str = "\
 
 // A self-test of one transaction, with room for so many bytes of its summary.
 fn expect_room<R: AllocGlobal + Threads + Wait + Sync + Abort>(rt: &R, room: usize) {
-    let none: Option<&mut MemStore> = None;
-    let mut output = sink_of(rt, room);
-    let ask = ask_for("drill 1", "");
-    let status = call(rt, none, ask, &mut output, &mut Eager);
-    let text = lines_of(rt, OF_ONE);
-    assert!(rt; status == if room < 105 { 7 } else { 0 });
-    assert!(rt; text.len() == 105 && output.written() == &text.as_bytes()[..room.min(text.len())]);
+    let mut ask = ask_for("drill 1", "");
+    ask.room = room;
+    let answer = call_alone(rt, &ask).expect(rt, "memory");
+    let status = if room < 105 { 7 } else { 0 };
+    let so = OF_ONE.len() == 105 && has_front(&answer.output, OF_ONE, room);
+    insist(rt, so && answer.status == status, OF_ONE);
 }
 
 #[test]

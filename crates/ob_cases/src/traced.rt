@@ -4,10 +4,11 @@ ghost use Rattle.std.specs.Prelude.{◌≡◌};
 ghost use Rattle.ob_mem.specs.Memory.{disk_of_store};
 
 use crate::calling::{
-    Ask, CELLS, EMPTY, END, RUNS, ask_for, ask_with, blank, expect, formatted, left_after, replaced,
+    EMPTY, RUNS, ask_for, ask_with, blank, expect, formatted, insist, left_after, replaced,
 };
 use crate::lines::{AGAIN, FORMATTED, ONE_EPOCH, TWO_EPOCHS};
 use ob_mem::{Fail, MemStore};
+use ob_top_calls::{Ask, CELLS, END};
 use std::process::Abort;
 use std::sync::Wait;
 use std::thread::Threads;
@@ -23,7 +24,8 @@ static SIZES: [(&str, usize, usize); 4] = [
 #[test]
 fn lists_are_as_long(rt: HostRuntime) {
     for &(list, lines, bytes) in &SIZES {
-        assert!(&rt; list.split_terminator('/').count() == lines && list.len() == bytes);
+        let count = list.split_terminator('/').count();
+        insist(&rt, count == lines && list.len() == bytes, list);
     }
 }
 
@@ -231,7 +233,7 @@ fn expect_fail<R: AllocGlobal + Threads + Wait + Sync + Abort>(
     told: &str,
 ) {
     let line = ONE_EPOCH.split_terminator('/').nth(lines.saturating_sub(1));
-    assert!(rt; line == Some(last));
+    insist(rt, line == Some(last), last);
     play(
         rt,
         &[fail],

@@ -3,11 +3,18 @@
 ghost use Rattle.std.specs.Prelude.{◌≡◌};
 ghost use Rattle.ob_mem.specs.Memory.{disk_of_store};
 
-use crate::playing::{END, ONE_EPOCH, PUT, RUN, STEPS, expect, formatted, left_after};
+use crate::playing::{ONE_EPOCH, PUT, RUN, STEPS, expect, formatted, insist, left_after};
 use ob_mem::{Fail, MemStore};
+use ob_top_calls::END;
 use std::process::Abort;
 use std::sync::Wait;
 use std::thread::Threads;
+
+// What is told of an epoch of this number, whose one transaction is committed, with this behind it.
+fn told_of<R: AllocGlobal + Abort>(rt: &R, epoch: u64, get: &str) -> String {
+    let told = format!(in rt.alloc(); "epoch {epoch}/txn 1 client 1 committed/{get}");
+    told.expect(rt, "memory")
+}
 
 /// A run of two epochs, the first of this number, of which the second one reads what was put.
 pub fn expect_next<R: AllocGlobal + Threads + Wait + Sync + Abort>(
@@ -19,21 +26,16 @@ pub fn expect_next<R: AllocGlobal + Threads + Wait + Sync + Abort>(
     requires { (disk_of_store store.old).out ≡ 0 }
     ensures { (disk_of_store store.new).out ≡ 0 }
 {
+    let get = if found {
+        "get 5 = hi/"
+    } else {
+        "get 5 absent/"
+    };
+    let mut told = told_of(rt, epoch, "");
+    let next = told_of(rt, epoch.saturating_add(1), get);
+    told.push_str(next.as_str()).expect(rt, "memory");
     let script = "client 1/begin/commit/begin/get 5/commit/";
-    let (txn, value) = (
-        "txn 1 client 1 committed/",
-        if found { "= hi" } else { "absent" },
-    );
-    let next = epoch.saturating_add(1);
-    let told = format!(in rt.alloc(); "epoch {epoch}/{txn}epoch {next}/{txn}get 5 {value}/");
-    expect(
-        rt,
-        store,
-        RUN,
-        script,
-        0,
-        told.expect(rt, "memory").as_str(),
-    );
+    expect(rt, store, RUN, script, 0, told.as_str());
 }
 
 // Whether an epoch has ended that makes so many writes and syncs, the last two of which are its
@@ -63,16 +65,9 @@ fn steps_of<R: AllocGlobal + Threads + Wait + Sync + Abort>(
     epoch: u64,
 ) -> usize {
     let mut copy = left_after(rt, store, END, None);
-    let told = format!(in rt.alloc(); "epoch {epoch}/txn 1 client 1 committed/");
-    let told = told.expect(rt, "memory");
-    expect(
-        rt,
-        &mut copy,
-        RUN,
-        "client 1/begin/commit",
-        0,
-        told.as_str(),
-    );
+    let told = told_of(rt, epoch, "");
+    let script = "client 1/begin/commit";
+    expect(rt, &mut copy, RUN, script, 0, told.as_str());
     copy.moments()
 }
 
@@ -209,7 +204,7 @@ fn count_cases<R: AllocGlobal + Threads + Wait + Sync + Abort>(rt: &R) -> u64 {
 // next run.
 #[test]
 fn each_failing_call_is_told_and_no_epoch_lost(rt: HostRuntime) {
-    assert!(&rt; count_cases(&rt) > 18_000);
+    insist(&rt, count_cases(&rt) > 18_000, "cases");
 }
 
 fn expect_images<R: AllocGlobal + Threads + Wait + Sync + Abort>(rt: &R, ran: &MemStore) {

@@ -1,9 +1,8 @@
 //! Traces that have too little room: what is still done, and what is told.
 
-use crate::playing::{
-    END, NEVER, WIDE, ask_for, call_on, expect, formatted, has, left_after, lines_of,
-};
+use crate::playing::{call_on, expect, formatted, insist, insist_at, left_after};
 use ob_mem::{MemSink, MemStore};
+use ob_top_calls::{Answer, Ask, END, NEVER, WIDE, ask_for, has, has_front};
 use std::process::Abort;
 use std::sync::Wait;
 use std::thread::Threads;
@@ -58,15 +57,13 @@ fn is_told<R: AllocGlobal + Abort>(rt: &R, output: &MemSink, room: usize, told: 
     if room < WHOLE {
         text.push_str("fault: sink/").expect(rt, "memory");
     }
-    has(rt, output, text.as_str())
+    has(output, text.as_str())
 }
 
 // Whether this is the whole trace as far as there is so much room.
-fn is_cut<R: AllocGlobal + Abort>(rt: &R, trace: &Option<MemSink>, room: usize) -> bool {
-    let whole = lines_of(rt, TRACE);
-    let whole = whole.as_bytes();
+fn is_cut(trace: &Option<MemSink>, room: usize) -> bool {
     match trace {
-        Some(trace) => trace.written() == &whole[..room.min(whole.len())],
+        Some(trace) => has_front(trace, TRACE, room),
         None => false,
     }
 }
@@ -99,13 +96,11 @@ fn expect_cut<R: AllocGlobal + Threads + Wait + Sync + Abort>(
     ask.trace = Some(room);
     let answer = call_on(rt, &mut store, &ask);
     let status = if room < WHOLE { 7 } else { 0 };
-    assert!(rt;
-        answer.status == status
-            && is_told(rt, &answer.output, room, told)
-            && is_cut(rt, &answer.trace, room)
-            && store.moments() == steps_of(room),
-        "{room}"
-    );
+    let so = answer.status == status
+        && is_told(rt, &answer.output, room, told)
+        && is_cut(&answer.trace, room)
+        && store.moments() == steps_of(room);
+    insist_at(rt, so, room as u64);
     expect_next(rt, &store, room >= ENDED);
 }
 
@@ -140,6 +135,12 @@ fn a_batch_of_its_own_is_delivered_behind_a_trace_that_ends(rt: HostRuntime) {
     expect_all_cut(&rt, "client 1/begin/get 5/commit", told);
 }
 
+// What a store that was just formatted answers.
+fn answer_of_new<R: AllocGlobal + Threads + Wait + Sync + Abort>(rt: &R, ask: &Ask<'_>) -> Answer {
+    let mut store = formatted(rt, &[]);
+    call_on(rt, &mut store, ask)
+}
+
 // A report of which the output has room for so much, and this write fails, where the trace ends
 // within the epoch's end.
 fn expect_short<R: AllocGlobal + Threads + Wait + Sync + Abort>(
@@ -147,17 +148,16 @@ fn expect_short<R: AllocGlobal + Threads + Wait + Sync + Abort>(
     room: usize,
     bad_write: u64,
 ) {
-    let mut store = formatted(rt, &[]);
     let mut ask = ask_for(RUNS[1], EMPTY);
-    (ask.room, ask.bad_write, ask.trace) = (room, bad_write, Some(300));
-    let answer = call_on(rt, &mut store, &ask);
+    ask.room = room;
+    ask.bad_write = bad_write;
+    ask.trace = Some(300);
+    let answer = answer_of_new(rt, &ask);
     let told = answer.output.written();
     let report = b"epoch 1\ntxn 1 client 1 committed\n";
     let many = if bad_write == NEVER { room } else { 0 };
-    assert!(rt;
-        answer.status == 7 && report.starts_with(told) && told.len() == many,
-        "{room}"
-    );
+    let so = answer.status == 7 && report.starts_with(told) && told.len() == many;
+    insist_at(rt, so, room as u64);
 }
 
 #[test]
@@ -178,11 +178,14 @@ fn is_untouched(trace: &Option<MemSink>) -> bool {
 
 // A run that is handed a trace for which its words don't ask.
 fn expect_untraced<R: AllocGlobal + Threads + Wait + Sync + Abort>(rt: &R) {
-    let mut store = formatted(rt, &[]);
     let mut ask = ask_for("run S K", EMPTY);
     ask.trace = Some(WIDE);
-    let answer = call_on(rt, &mut store, &ask);
-    assert!(rt; answer.status == 0 && is_untouched(&answer.trace));
+    let answer = answer_of_new(rt, &ask);
+    insist(
+        rt,
+        answer.status == 0 && is_untouched(&answer.trace),
+        "run S K",
+    );
 }
 
 #[test]

@@ -5,9 +5,10 @@ ghost use Rattle.ob_mem.specs.Memory.{disk_of_store};
 
 use crate::harms::{Harm, Told, expect_told, harm_store};
 use crate::playing::{
-    CELLS, END, ONE_EPOCH, PUT, READS, RUN, STEPS, formatted, left_after, made_before,
+    ONE_EPOCH, PUT, READS, RUN, STEPS, formatted, insist, insist_at, left_after, made_before,
 };
 use ob_mem::{Fail, MemStore};
+use ob_top_calls::{CELLS, END};
 use std::process::Abort;
 use std::sync::Wait;
 use std::thread::Threads;
@@ -41,7 +42,7 @@ fn is_told<R: AllocGlobal + Threads + Wait + Sync + Abort>(
     harm_store(rt, &mut store, Harm::Flip(cell));
     let (told, steps) = told_of(cell);
     expect_told(rt, &mut store, (RUN, PUT), told, ONE_EPOCH);
-    assert!(rt; store.moments() == steps.saturating_add(1), "{cell}");
+    insist_at(rt, store.moments() == steps.saturating_add(1), cell);
     matches!(told, Told::Damaged(_))
 }
 
@@ -58,7 +59,8 @@ fn count_told<R: AllocGlobal + Threads + Wait + Sync + Abort>(rt: &R, made: &Mem
 
 #[test]
 fn each_damaged_cell_that_is_read_is_told(rt: HostRuntime) {
-    assert!(&rt; count_told(&rt, &formatted(&rt, &[])) == 33);
+    let many = count_told(&rt, &formatted(&rt, &[]));
+    insist(&rt, many == 33, "cells");
 }
 
 // Two cells of one phase, the first of which is damaged, and the second too or its read is refused:
@@ -116,7 +118,7 @@ fn expect_first<R: AllocGlobal + Threads + Wait + Sync + Abort>(rt: &R, words: &
         harm_store(rt, &mut store, Harm::Flip(second));
     }
     expect_told(rt, &mut store, (words, PUT), told, ONE_EPOCH);
-    assert!(rt; (store.faults() > 0) == refused);
+    insist(rt, (store.faults() > 0) == refused, words);
 }
 
 #[test]

@@ -4,8 +4,9 @@ ghost use Rattle.std.specs.Prelude.{◌≡◌};
 ghost use Rattle.ob_mem.specs.Memory.{disk_of_store};
 
 use crate::harms::{harm_of, harm_store, parted};
-use crate::playing::{END, RUN, blank, expect, left_after};
+use crate::playing::{RUN, blank, expect, left_after};
 use ob_mem::MemStore;
+use ob_top_calls::END;
 use std::process::Abort;
 use std::sync::Wait;
 use std::thread::Threads;
@@ -32,34 +33,46 @@ const NEW: Life = Life {
     moment: 0,
 };
 
-const NEW_NARROW: Life = Life {
-    cells: 37,
-    format: "format S K 4 1 2 1 1 1 4 1 1",
-    formatted: "store of 37 cells/",
-    script: "client 1/begin/commit",
-    ran: "epoch 1/txn 1 client 1 committed/",
-    moment: 0,
-};
+// Which stores there are: a new one of 8 keys; one of 8 where a record is open; one behind an epoch
+// that put key 5; a new one of 4, whose stash may keep one row; one of a single key where a record is
+// open.
+static LIVES: [(&str, Life); 5] = [
+    ("new", NEW),
+    ("recorded", Life { moment: 9, ..NEW }),
+    ("ended", Life { moment: END, ..NEW }),
+    (
+        "narrow",
+        Life {
+            cells: 37,
+            format: "format S K 4 1 2 1 1 1 4 1 1",
+            formatted: "store of 37 cells/",
+            script: "client 1/begin/commit",
+            ran: "epoch 1/txn 1 client 1 committed/",
+            moment: 0,
+        },
+    ),
+    (
+        "single",
+        Life {
+            cells: 29,
+            format: "format S K 1 1 1 1 1 2 1 1 1",
+            formatted: "store of 29 cells/",
+            script: "client 1/begin/commit",
+            ran: "epoch 1/txn 1 client 1 committed/",
+            moment: 9,
+        },
+    ),
+];
 
-const RECORDED_SINGLE: Life = Life {
-    cells: 29,
-    format: "format S K 1 1 1 1 1 2 1 1 1",
-    formatted: "store of 29 cells/",
-    script: "client 1/begin/commit",
-    ran: "epoch 1/txn 1 client 1 committed/",
-    moment: 9,
-};
-
-// Which store it is: a new one of 8 keys; a new one of 4, whose stash may keep one row; one of 8
-// and one of a single key where a record is open; and one behind an epoch that put key 5.
-fn life_of(base: &str) -> Life {
-    match base {
-        "narrow" => NEW_NARROW,
-        "recorded" => Life { moment: 9, ..NEW },
-        "single" => RECORDED_SINGLE,
-        "ended" => Life { moment: END, ..NEW },
-        _ => NEW,
+// The life of this name.
+fn life_of<R: Abort>(rt: &R, base: &str) -> Life {
+    let mut found = None;
+    for &(name, life) in &LIVES {
+        if name == base {
+            found = Some(life);
+        }
     }
+    found.expect(rt, base)
 }
 
 // What the crash left.
@@ -79,17 +92,30 @@ fn base_of<R: AllocGlobal + Threads + Wait + Sync + Abort>(rt: &R, life: Life) -
 fn play<R: AllocGlobal + Threads + Wait + Sync + Abort>(rt: &R, row: &str) {
     let (base, row) = parted(rt, row, ": ");
     let (harms, wanted) = parted(rt, row, " -> ");
-    let (status, told) = parted(rt, wanted, " ");
-    let mut store = base_of(rt, life_of(base));
+    let mut store = base_of(rt, life_of(rt, base));
     for harm in harms.split(", ") {
         harm_store(rt, &mut store, harm_of(rt, harm));
     }
-    let script = match base {
-        "narrow" | "single" => "client 1/begin/get 0/commit",
-        _ => "client 1/begin/get 5/commit",
+    expect_wanted(rt, &mut store, base, wanted);
+}
+
+// A run that gets key 5, or key 0 where there is no such key, is answered `STATUS OUTPUT`.
+fn expect_wanted<R: AllocGlobal + Threads + Wait + Sync + Abort>(
+    rt: &R,
+    store: &mut MemStore,
+    base: &str,
+    wanted: &str,
+)
+    requires { (disk_of_store store.old).out ≡ 0 }
+{
+    let (status, told) = parted(rt, wanted, " ");
+    let script = if base == "narrow" || base == "single" {
+        "client 1/begin/get 0/commit"
+    } else {
+        "client 1/begin/get 5/commit"
     };
     let status = status.parse::<u8>().ok().expect(rt, "a status");
-    expect(rt, &mut store, RUN, script, status, told);
+    expect(rt, store, RUN, script, status, told);
 }
 
 // Heads: each number out of its range, then two versions that are none.

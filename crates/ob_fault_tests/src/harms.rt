@@ -4,10 +4,11 @@
 ghost use Rattle.std.specs.Prelude.{◌≡◌};
 ghost use Rattle.ob_mem.specs.Memory.{disk_of_store};
 
-use crate::playing::expect;
+use crate::playing::{expect, insist};
 use ob_mem::MemStore;
 use ob_seal::{Keys, Sealer};
 use ob_store::Store;
+use ob_top_calls as calls;
 use std::process::Abort;
 use std::sync::Wait;
 use std::thread::Threads;
@@ -52,7 +53,7 @@ fn sealer_of(generation: u64) -> Sealer {
 // Sets so many bytes from a place on to the low ones of a number.
 fn put<R: Abort>(rt: &R, bytes: &mut [u8], place: usize, number: u64, many: usize) {
     let low = number.to_le_bytes();
-    assert!(rt; many <= 8 && place <= bytes.len() && many <= bytes.len() - place);
+    assert!(*rt; many <= 8 && place <= bytes.len() && many <= bytes.len() - place);
     bytes[place..place + many].copy_from_slice(&low[..many]);
 }
 
@@ -61,11 +62,7 @@ fn cell_of<R: Abort>(rt: &R, store: &mut MemStore, cell: u64) -> [u8; 128]
     requires { (disk_of_store store.old).out ≡ 0 }
     ensures { (disk_of_store store.new).out ≡ 0 }
 {
-    let mut bytes = [0; 128];
-    let mut lane = store.lane().ok().expect(rt, "a lane");
-    assert!(rt; store.read(&mut lane, cell, &mut bytes).is_ok());
-    store.absorb(lane);
-    bytes
+    calls::cell_of(store, cell).expect(rt, "a cell")
 }
 
 // Writes a cell.
@@ -73,7 +70,7 @@ fn write<R: Abort>(rt: &R, store: &mut MemStore, cell: u64, bytes: &[u8; 128])
     requires { (disk_of_store store.old).out ≡ 0 }
     ensures { (disk_of_store store.new).out ≡ 0 }
 {
-    assert!(rt; store.write(cell, bytes).is_ok());
+    insist(rt, store.write(cell, bytes).is_ok(), "a write");
 }
 
 // Seals a sealed cell anew with these of its plain bytes set, for a cell and under a number that is
@@ -93,7 +90,7 @@ fn reseal<R: Abort>(
     let mut plain = opened.plain;
     put(rt, &mut plain, change.0, change.1, change.2);
     let number = opened.number.saturating_add(to.1);
-    assert!(rt; number < 1 << 62);
+    assert!(*rt; number < 1 << 62);
     let bytes = sealer_of(opened.generation).seal_at(to.0, number, &plain);
     write(rt, store, to.0, &bytes);
 }
@@ -147,16 +144,22 @@ pub fn parted<'a, R: Abort>(rt: &R, line: &'a str, mark: &str) -> (&'a str, &'a 
     line.split_once(mark).expect(rt, mark)
 }
 
-/// A harm by its kind and its numbers; any other text is none.
-pub fn harm_of<R: Abort>(rt: &R, text: &str) -> Harm {
+// The numbers of a line, of which there are at most four, and zeros behind them.
+fn numbers_of<R: Abort>(rt: &R, text: &str) -> [u64; 4] {
     let mut n = [0; 4];
     let mut many: usize = 0;
-    let (kind, numbers) = text.split_once(' ').unwrap_or((text, ""));
-    for word in numbers.split_whitespace() {
-        assert!(rt; many < 4, "{text}");
+    for word in text.split_whitespace() {
+        assert!(*rt; many < 4);
         n[many] = number_of(rt, word);
         many = many.saturating_add(1);
     }
+    n
+}
+
+/// A harm by its kind and its numbers; any other text is none.
+pub fn harm_of<R: Abort>(rt: &R, text: &str) -> Harm {
+    let (kind, numbers) = text.split_once(' ').unwrap_or((text, ""));
+    let n = numbers_of(rt, numbers);
     match kind {
         "flip" => Harm::Flip(n[0]),
         "open" => Harm::Open(n[0]),
@@ -165,6 +168,21 @@ pub fn harm_of<R: Abort>(rt: &R, text: &str) -> Harm {
         "stamp" => Harm::Stamp(n[0], n[1] as usize, n[2], n[3] as usize),
         _ => Harm::None,
     }
+}
+
+// Makes a run with this script, of which a damaged cell's tag is told.
+fn expect_damaged<R: AllocGlobal + Threads + Wait + Sync + Abort>(
+    rt: &R,
+    store: &mut MemStore,
+    ask: (&str, &str),
+    cell: u64,
+)
+    requires { (disk_of_store store.old).out ≡ 0 }
+    ensures { (disk_of_store store.new).out ≡ 0 }
+{
+    let text = format!(in rt.alloc(); "fault: damaged cell {cell} tag/");
+    let text = text.expect(rt, "memory");
+    expect(rt, store, ask.0, ask.1, 4, text.as_str());
 }
 
 /// Makes a run with this script, of which this is told; where it is none of these faults, this.
@@ -178,15 +196,13 @@ pub fn expect_told<R: AllocGlobal + Threads + Wait + Sync + Abort>(
     requires { (disk_of_store store.old).out ≡ 0 }
     ensures { (disk_of_store store.new).out ≡ 0 }
 {
-    let (words, script) = ask;
-    match told {
-        Told::Done => expect(rt, store, words, script, 0, done),
+    let (status, text) = match told {
+        Told::Done => (0, done),
+        Told::NotStore => (3, "fault: not a store/"),
+        Told::Store => (5, "fault: store/"),
         Told::Damaged(cell) => {
-            let text = format!(in rt.alloc(); "fault: damaged cell {cell} tag/");
-            let text = text.expect(rt, "memory");
-            expect(rt, store, words, script, 4, text.as_str())
+            return expect_damaged(rt, store, ask, cell);
         }
-        Told::NotStore => expect(rt, store, words, script, 3, "fault: not a store/"),
-        Told::Store => expect(rt, store, words, script, 5, "fault: store/"),
-    }
+    };
+    expect(rt, store, ask.0, ask.1, status, text);
 }

@@ -2,10 +2,11 @@
 
 use crate::crashes::expect_next;
 use crate::playing::{
-    END, NEVER, ONE_EPOCH, PUT, READS, RUN, STEPS, WIDE, ask_for, call_on, expect, formatted, has,
-    left_after, made_before,
+    ONE_EPOCH, PUT, READS, RUN, STEPS, call_on, expect, formatted, insist, insist_at, left_after,
+    made_before,
 };
 use ob_mem::{Fail, MemStore};
+use ob_top_calls::{END, NEVER, WIDE, ask_for, has};
 use std::process::Abort;
 use std::sync::Wait;
 use std::thread::Threads;
@@ -33,15 +34,13 @@ fn is_told<R: AllocGlobal + Threads + Wait + Sync + Abort>(
     let mut store = formatted(rt, &[fail]);
     let answer = call_on(rt, &mut store, &ask_for(words, PUT));
     if store.faults() == 0 {
-        let ended = answer.status == 0 && has(rt, &answer.output, ONE_EPOCH);
-        assert!(rt; ended && store.moments() == 72 + STEPS);
+        let ended = answer.status == 0 && has(&answer.output, ONE_EPOCH);
+        insist(rt, ended && store.moments() == 72 + STEPS, words);
         return false;
     }
-    let told = answer.status == 5 && has(rt, &answer.output, "fault: store/");
-    assert!(rt;
-        told && store.moments() == steps.saturating_add(72),
-        "{steps}"
-    );
+    let told = answer.status == 5 && has(&answer.output, "fault: store/");
+    let so = told && store.moments() == steps.saturating_add(72);
+    insist_at(rt, so, steps as u64);
     expect_not_ended(rt, &store);
     true
 }
@@ -51,7 +50,7 @@ fn expect_reads<R: AllocGlobal + Threads + Wait + Sync + Abort>(rt: &R, words: &
     for place in 0..READS.len() {
         let (cell, (writes, steps)) = (READS[place], made_before(place));
         let fail = Fail::Read { cell, writes };
-        assert!(rt; is_told(rt, words, fail, steps), "{cell}");
+        insist_at(rt, is_told(rt, words, fail, steps), cell);
     }
 }
 
@@ -78,9 +77,9 @@ fn expect_lanes<R: AllocGlobal + Threads + Wait + Sync + Abort>(
         } else {
             13
         };
-        assert!(rt; is_told(rt, words, Fail::Lane(lane), steps), "{lane}");
+        insist_at(rt, is_told(rt, words, Fail::Lane(lane), steps), lane);
     }
-    assert!(rt; !is_told(rt, words, Fail::Lane(all), 0));
+    insist_at(rt, !is_told(rt, words, Fail::Lane(all), 0), all);
 }
 
 #[test]
@@ -104,14 +103,14 @@ fn expect_end<R: AllocGlobal + Threads + Wait + Sync + Abort>(rt: &R, row: &Ends
     let (bad_read, bad_write, room, status, told, steps, ended) = *row;
     let mut store = formatted(rt, &[]);
     let mut ask = ask_for(RUN, PUT);
-    (ask.bad_read, ask.bad_write, ask.room) = (bad_read, bad_write, room);
+    ask.bad_read = bad_read;
+    ask.bad_write = bad_write;
+    ask.room = room;
     let answer = call_on(rt, &mut store, &ask);
-    assert!(rt;
-        answer.status == status
-            && has(rt, &answer.output, told)
-            && store.moments() == steps.saturating_add(72),
-        "{told}"
-    );
+    let so = answer.status == status
+        && has(&answer.output, told)
+        && store.moments() == steps.saturating_add(72);
+    insist(rt, so, told);
     expect_next(rt, &mut store, 1 + ended as u64, ended);
 }
 

@@ -4,8 +4,9 @@ ghost use Rattle.std.specs.Prelude.{◌≡◌};
 ghost use Rattle.ob_mem.specs.Memory.{disk_of_store};
 
 use crate::harms::{harm_of, harm_store, number_of, parted};
-use crate::playing::{Ask, CELLS, KEYS, NEVER, ask_for, blank, call_on, expect, formatted, has};
+use crate::playing::{blank, call_on, expect, formatted, insist};
 use ob_mem::{Fail, MemStore};
+use ob_top_calls::{Ask, CELLS, KEYS, NEVER, ask_for, has};
 use std::process::Abort;
 use std::sync::Wait;
 use std::thread::Threads;
@@ -122,17 +123,14 @@ fn is_written<R: AllocGlobal + Threads + Wait + Sync + Abort>(rt: &R, line: &str
     let mut store = stand(rt, found);
     let before = store.moments();
     let answer = call_on(rt, &mut store, &ask_at(rt, found, call));
-    let status = number_of(rt, status);
-    assert!(rt;
-        answer.status as u64 == status && has(rt, &answer.output, told),
-        "{line}"
-    );
+    let so = answer.status as u64 == number_of(rt, status) && has(&answer.output, told);
+    insist(rt, so, line);
     store.moments() != before
 }
 
 // Plays a row by which the store is neither written to nor synced.
 fn expect_idle<R: AllocGlobal + Threads + Wait + Sync + Abort>(rt: &R, line: &str) {
-    assert!(rt; !is_written(rt, line), "{line}");
+    insist(rt, !is_written(rt, line), line);
 }
 
 // Want of memory alone, status 9, has no row: the store here has ample memory.

@@ -4,8 +4,9 @@ ghost use Rattle.std.specs.Prelude.{◌≡◌};
 ghost use Rattle.ob_mem.specs.Memory.{disk_of_store};
 
 use crate::harms::{Harm, harm_store};
-use crate::playing::{Answer, END, PUT, WIDE, ask_for, call_on, formatted, has, left_after};
+use crate::playing::{PUT, call_on, formatted, insist, left_after};
 use ob_mem::MemStore;
+use ob_top_calls::{Answer, END, WIDE, ask_for, has};
 use std::process::Abort;
 use std::sync::Wait;
 use std::thread::Threads;
@@ -29,8 +30,8 @@ fn expect_worn<R: AllocGlobal + Threads + Wait + Sync + Abort>(
         trace,
     } = call_on(rt, store, &ask);
     let trace = trace.expect(rt, "a trace");
-    assert!(rt; status == 8 && has(rt, &output, "fault: worn at 4611686018427387904/"));
-    assert!(rt; has(rt, &trace, shown));
+    let so = status == 8 && has(&output, "fault: worn at 4611686018427387904/");
+    insist(rt, so && has(&trace, shown), shown);
 }
 
 // A store that was just formatted, with no call behind it.
@@ -49,7 +50,7 @@ fn expect_no_run<R: AllocGlobal + Threads + Wait + Sync + Abort>(rt: &R) {
     let mut store = new_store(rt);
     harm_store(rt, &mut store, Harm::Stamp(3, 0, LAST, 8));
     expect_worn(rt, &mut store, READ);
-    assert!(rt; store.moments() == 1);
+    insist(rt, store.moments() == 1, READ);
 }
 
 #[test]
