@@ -47,19 +47,19 @@ module _ {X : Type 0} (disk : X → Disk) (by : Manner) (tape : Given) (keys : K
   ended_run mid err r f = run_done ring_kind ring_quiet ring_lives ring_audits disk (reading_head [] by) tape keys old new (outside input output) (outside input_new mid) (outside input_new output_new) t u refl status err r f
 
   -- it is cut off by the store's fault only where the count of faults rose
-  early_cause : (unsure : Option ℕ) → EndsEarly ring_kind ring_lives [] keys by.lanes by.shares (disk old) (disk new) t u disk input input_new (failed.Fault (fault.StoreFault unsure)) → Rose (disk old).faults (disk new).faults
+  early_cause : (unsure : Option ℕ) → EndsEarly ring_kind ring_lives ring_audits [] keys by.lanes by.shares (disk old) (disk new) t u disk input input_new (failed.Fault (fault.StoreFault unsure)) → Rose (disk old).faults (disk new).faults
   early_cause unsure (inl head) = no_head head.own
   early_cause unsure (inr (inl came)) = ⊎_elim (λ none. absurd none) (λ shares. absurd (let wrong : fault.StoreFault unsure ≡ fault.BadParams shares.0 = shares.1 in cc)) came.refused
   early_cause unsure (inr (inr opening)) = opening.cause tt
 
-  went_cause : (written : Flow) (records : List (EpochRecord ℕ)) (unsure : Option ℕ) → Went ring_kind ring_lives disk (reading_head [] by) tape keys old new (outside input output) (outside input_new written) t u records (Some (failed.Fault (fault.StoreFault unsure)))
+  went_cause : (written : Flow) (records : List (EpochRecord ℕ)) (unsure : Option ℕ) → Went ring_kind ring_lives ring_audits disk (reading_head [] by) tape keys old new (outside input output) (outside input_new written) t u records (Some (failed.Fault (fault.StoreFault unsure)))
       → Rose (disk old).faults (disk new).faults
   went_cause written records unsure (inl (none, ended, lives)) = early_cause unsure ended
   went_cause written records unsure (inr ran) = rose_later (disk old).faults (disk ran.between).faults (disk new).faults ran.faults ran.serving.cause.0
 
   pub ended_cause : (run : Done) (unsure : Option ℕ) → run.err ≡ Some (failed.Fault (fault.StoreFault unsure)) → Rose (disk old).faults (disk new).faults
   ended_cause run unsure is = went_cause run.written run.records unsure
-      (subst (λ (e : Option RunErr). Went ring_kind ring_lives disk (reading_head [] by) tape keys old new (outside input output) (outside input_new run.written) t u run.records e) is run.went)
+      (subst (λ (e : Option RunErr). Went ring_kind ring_lives ring_audits disk (reading_head [] by) tape keys old new (outside input output) (outside input_new run.written) t u run.records e) is run.went)
 
   -- the call, as the headline has it
   abbrev pub behind_join : RunCall X
