@@ -3,8 +3,9 @@
 ghost use Rattle.std.specs.Prelude.{◌≡◌};
 ghost use Rattle.ob_mem.specs.Memory.{disk_of_store};
 
-use crate::asking::{Ask, EMPTY, RUNS, Told, ask_for, audited, blank, call, drawn, expect_said};
+use crate::asking::{EMPTY, RUNS, Told, audited, blank, call, drawn, expect_said, insist};
 use ob_mem::MemStore;
+use ob_top_calls::{Ask, ask_for};
 use std::process::Abort;
 use std::sync::Wait;
 use std::thread::Threads;
@@ -56,7 +57,7 @@ fn go_on<R: AllocGlobal + Threads + Wait + Sync + Abort>(
         output,
         trace,
     } = call(rt, store, ask);
-    assert!(rt; status == 0);
+    insist(rt, status == 0, ask.words);
     text.push_str(trace.as_str()).expect(rt, "memory");
     output
 }
@@ -81,7 +82,8 @@ fn traced<R: AllocGlobal + Threads + Wait + Sync + Abort>(rt: &R) -> String {
     let mut text = String::new(rt.alloc());
     let (made, ran) = trace_all(rt, &mut text);
     let ended = ran.as_str().matches("txn ").count();
-    assert!(rt; made.as_str() == "store of 2823 cells\n" && ended == 320);
+    let so = made.as_str() == "store of 2823 cells\n" && ended == 320;
+    insist(rt, so, made.as_str());
     text
 }
 
@@ -142,13 +144,13 @@ fn fits_changed<R: AllocGlobal + Threads + Wait + Sync + Abort>(
     let said = audited(rt, text.as_str());
     match break_of(rt, said.as_str()) {
         Some(number) => {
-            assert!(rt; number > place, "{place} {number}");
+            insist(rt, number > place, said.as_str());
             false
         }
         None => {
             let same = by.as_str() == line;
             let holes = is_hole(line) && is_hole(by.as_str());
-            assert!(rt; same || holes, "{place}");
+            insist(rt, same || holes, line);
             !same
         }
     }
@@ -177,5 +179,5 @@ fn breaks_mostly<R: AllocGlobal + Threads + Wait + Sync + Abort>(rt: &R, text: &
 #[test]
 fn a_line_that_is_changed_breaks_no_line_before_it(rt: HostRuntime) {
     let text = traced(&rt);
-    assert!(&rt; breaks_mostly(&rt, text.as_str()));
+    insist(&rt, breaks_mostly(&rt, text.as_str()), "lines");
 }

@@ -126,7 +126,7 @@ impl Shown {
         match hole {
             Hole::Leaf(leaf) => leaf < 4,
             Hole::Slot(cell) => {
-                assert!(rt; cell < CELLS as u64);
+                assert!(*rt; cell < CELLS as u64);
                 let again = self.read[cell as usize];
                 self.read[cell as usize] = true;
                 !again

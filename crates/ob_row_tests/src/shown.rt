@@ -5,11 +5,12 @@ ghost use Rattle.std.specs.Prelude.{◌≡◌};
 ghost use Rattle.ob_mem.specs.Memory.{disk_of_store};
 
 use crate::asking::{
-    EMPTY, END, RUNS, Told, ask_for, call, expect_said, formatted, left_after, lines_of,
+    EMPTY, RUNS, Told, call, expect_said, formatted, insist, left_after, lines_of,
 };
 use crate::freshness::is_fresh;
 use crate::threes::{calls_behind, front_of, joined};
 use ob_mem::{Fail, MemStore};
+use ob_top_calls::{END, ask_for};
 use std::process::Abort;
 use std::sync::Wait;
 use std::thread::Threads;
@@ -57,7 +58,7 @@ fn empty_trace<R: AllocGlobal + Threads + Wait + Sync + Abort>(
     ensures { (disk_of_store store.new).out ≡ 0 }
 {
     let Told { status, trace, .. } = empty_run(rt, store, tape);
-    assert!(rt; status == 0);
+    insist(rt, status == 0, "an empty run");
     trace
 }
 
@@ -81,7 +82,7 @@ fn expect_whole<R: AllocGlobal + Threads + Wait + Sync + Abort>(
 ) {
     let whole = joined(rt, before, trace);
     expect_said(rt, whole.as_str(), said);
-    assert!(rt; is_fresh(rt, whole.as_str()) == fresh);
+    insist(rt, is_fresh(rt, whole.as_str()) == fresh, said);
 }
 
 // What a format and a run behind it traced, and the run behind that.
@@ -100,7 +101,8 @@ fn expect_second<R: AllocGlobal + Threads + Wait + Sync + Abort>(
     trace: &str,
 ) {
     behind(rt, trace, &[SECOND, "W 11/S/"]);
-    assert!(rt; before.lines().count() == 177 && trace.lines().count() == 115);
+    let so = before.lines().count() == 177 && trace.lines().count() == 115;
+    insist(rt, so, trace);
     expect_whole(rt, before, trace, "fits\n", true);
     let old = replaced(rt, trace, "R 91/", "R 56/");
     let said = "breaks line 217 wanted slot of bucket 3\n";
@@ -169,7 +171,8 @@ fn refused_trace<R: AllocGlobal + Threads + Wait + Sync + Abort>(
         output,
         trace,
     } = empty_run(rt, store, tape);
-    assert!(rt; status == 5 && output.as_str() == "fault: store\n");
+    let so = status == 5 && output.as_str() == "fault: store\n";
+    insist(rt, so, output.as_str());
     trace
 }
 
@@ -179,7 +182,8 @@ fn refused<R: AllocGlobal + Threads + Wait + Sync + Abort>(rt: &R) -> MemStore {
     let (mut store, _) = formatted(rt, &refused_reads(rt), &[]);
     let trace = refused_trace(rt, &mut store, &LEAVES);
     let rest = behind(rt, trace.as_str(), &[READS, REFUSED]);
-    assert!(rt; rest.is_empty() && store.faults() == 1 && store.moments() == 81);
+    let once = store.faults() == 1 && store.moments() == 81;
+    insist(rt, rest.is_empty() && once, rest);
     store
 }
 
@@ -229,15 +233,14 @@ fn found_again<R: AllocGlobal + Threads + Wait + Sync + Abort>(rt: &R) -> (Strin
 fn expect_stale<R: AllocGlobal + Abort>(rt: &R, before: &str, trace: &str, from: &str, to: &str) {
     let stale = replaced(rt, trace, from, to);
     let whole = joined(rt, before, stale.as_str());
-    assert!(rt;
-        stale.as_str() != trace && !is_fresh(rt, whole.as_str()),
-        "{from}"
-    );
+    let is_stale = stale.as_str() != trace && !is_fresh(rt, whole.as_str());
+    insist(rt, is_stale, from);
 }
 
 // Asserts that the traces are fresh as they are, and with no line changed.
 fn expect_all_stale<R: AllocGlobal + Abort>(rt: &R, before: &str, trace: &str) {
-    assert!(rt; is_fresh(rt, joined(rt, before, trace).as_str()));
+    let whole = joined(rt, before, trace);
+    insist(rt, is_fresh(rt, whole.as_str()), "as they are");
     for &(from, to) in &STALE {
         expect_stale(rt, before, trace, from, to);
     }
@@ -255,7 +258,7 @@ fn stopped<R: AllocGlobal + Threads + Wait + Sync + Abort>(rt: &R, fails: &[Fail
 {
     let (mut store, _) = formatted(rt, fails, &[]);
     let told = empty_run(rt, &mut store, &[]);
-    assert!(rt; told.status == 5);
+    insist(rt, told.status == 5, "a run that is refused");
     store
 }
 
@@ -276,7 +279,11 @@ fn expect_same<R: AllocGlobal + Threads + Wait + Sync + Abort>(
 {
     let told = empty_run(rt, one, &[]);
     let again = empty_run(rt, other, &[]);
-    assert!(rt; told.status == 0 && is_same(&told, &again));
+    insist(
+        rt,
+        told.status == 0 && is_same(&told, &again),
+        "the next run",
+    );
 }
 
 // The same behind a crash of both.
@@ -302,7 +309,8 @@ fn reopened<R: AllocGlobal + Threads + Wait + Sync + Abort>(
 {
     let mut store = stopped(rt, &[fail, Fail::Sync(syncs)]);
     let trace = refused_trace(rt, &mut store, &[]);
-    assert!(rt; trace.as_str().lines().count() == 25 && store.faults() == 2);
+    let so = trace.as_str().lines().count() == 25 && store.faults() == 2;
+    insist(rt, so, trace.as_str());
     store
 }
 

@@ -10,10 +10,11 @@ ghost use Rattle.std.specs.Prelude.{◌≡◌};
 ghost use Rattle.ob_mem.specs.Memory.{disk_of_store};
 
 use crate::asking::{
-    EMPTY, END, RUNS, ask_for, call, drawn, drawn_run, expect_said, formatted, left_after,
+    EMPTY, RUNS, call, drawn, drawn_run, expect_said, formatted, insist, left_after,
 };
 use crate::freshness::is_fresh;
 use ob_mem::{Fail, MemStore};
+use ob_top_calls::{END, ask_for};
 use std::process::Abort;
 use std::sync::Wait;
 use std::thread::Threads;
@@ -127,8 +128,9 @@ fn run_over<R: AllocGlobal + Threads + Wait + Sync + Abort>(
 {
     let before = store.moments();
     let told = call(rt, &mut store, ask_for(words, script));
-    assert!(rt; told.status == 0, "{words}");
-    assert!(rt; store.moments().saturating_sub(before) == steps_of(told.trace.as_str()));
+    let steps = store.moments().saturating_sub(before);
+    let so = told.status == 0 && steps == steps_of(told.trace.as_str());
+    insist(rt, so, words);
     Ran {
         store,
         before,
@@ -249,7 +251,7 @@ pub fn behind_call<R: AllocGlobal + Threads + Wait + Sync + Abort>(
 ) -> Second {
     let (mut store, formatted) = formatted(rt, &[fail], &[]);
     let told = call(rt, &mut store, ask_for(words, script));
-    assert!(rt; told.status == 5 && store.faults() == 1);
+    insist(rt, told.status == 5 && store.faults() == 1, words);
     // Before a read no write is pending. The same cell could be read again before the next one.
     if let Fail::Read { .. } = fail {
         store = left_after(rt, &store, END, None);
@@ -318,7 +320,7 @@ fn expect_third<R: AllocGlobal + Threads + Wait + Sync + Abort>(
 ) {
     let third = third_of(rt, second, moment, filling, words);
     let whole = third.whole.as_str();
-    assert!(rt; is_fresh(rt, whole), "{whole}");
+    insist(rt, is_fresh(rt, whole), whole);
     match wanted_at(second, &third, moment, filling) {
         Some((body, from)) => expect_said(rt, whole, broken(rt, whole, from, body).as_str()),
         None => expect_said(rt, whole, "fits\n"),
