@@ -18,10 +18,6 @@ use std::rt::Files;
 use std::thread;
 use std::thread::Threads;
 
-// A thread is started for so many jobs. To start one takes as long as some twenty reads of a file that
-// the system has in memory, and a store whose phases have few jobs is small: the system has it there.
-const JOBS_A_THREAD: usize = 16;
-
 fn read_slot(lane: &mut FileLane, asked: &SealedJobs, place: usize) -> Slot
     requires within { place < length asked.now.jobs.now }
     ensures place { result.place ≡ place }
@@ -86,7 +82,7 @@ fn read_hands<R: Threads + Sync>(
         → IsPlaceTried 0 claims.now round.now asked.now (hand_at hands.old i)
         (hand_at hands.new i) }
 {
-    let threads = (asked.jobs.len() / JOBS_A_THREAD).min(hands.len()).max(1);
+    let threads = hands.len().max(1);
     thread::for_each_mut(
         rt,
         hands,
