@@ -296,9 +296,9 @@ fn do_with<
 /// it wasn't opened. Where the words ask for no mirror it is left as it is, and all is done that
 /// `obladi` does. A run with a mirror first reads the head of the store, then the register of the
 /// epoch, and copies all its cells to the second one, whatever that had; from then on each write and
-/// sync goes to both, and a read that the first refuses is made of the second. With `--trace` all
-/// that the first sees is written there, as it sees it, behind a first line that tells of the
-/// mirror.
+/// sync goes to both, and a read that the first refuses is made of the second. With `--trace` each
+/// read of the first up to the copy's end, and then each call of both as one, is written there, behind
+/// a first line that tells of the mirror.
 ///
 /// The status is that of `obladi`. Before anything is touched `fault: store` and 5 stand where
 /// either store is missing, behind what is wrong with the words and the keys, and for the second one
