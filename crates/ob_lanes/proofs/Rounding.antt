@@ -6,6 +6,7 @@ use Rattle.std.proofs.lemmas.List.{flat_map_more}
 use Rattle.std.proofs.lemmas.List.Elements.{All-head, All-push, All-tail}
 use Rattle.ob_store.specs.declared.event.Event.{Event}
 use Rattle.ob_store.specs.Calls.{Notes, IsFreshLane}
+use Rattle.ob_store.proofs.Lanes.{fresh_tells_none}
 use Rattle.ob_lanes.specs.declared.hand.Hand.{Hand}
 use Rattle.ob_lanes.specs.declared.hand.Slot.{Slot}
 use Rattle.ob_lanes.specs.declared.readers.Readers.{Readers}
@@ -25,7 +26,7 @@ hands_more places place = sym (flat_map_more hand_in [] places place)
 -- ---- lanes made
 
 fresh_on : (mid new lane : Option (List Event)) → Notes [] mid new → IsFreshLane mid lane → IsFreshLane new lane
-fresh_on mid None lane still fresh = tt
+fresh_on mid None lane still fresh = fresh_tells_none mid lane fresh
 fresh_on (Some m) (Some n) lane still fresh = fresh
 fresh_on None (Some n) lane still fresh = absurd still
 

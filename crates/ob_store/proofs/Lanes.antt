@@ -1,9 +1,9 @@
 -- What a lane did, its store did once the lane is taken back.
-use Rattle.std.proofs.Common.{◌≡◌, List, [], ◌++◌, Option, Some, None, Result, Ok, Err, inl, refl, ◌∙◌, ap, subst, arith}
+use Rattle.std.proofs.Common.{◌≡◌, List, [], ◌++◌, Option, Some, None, Result, Ok, Err, inl, refl, sym, ◌∙◌, ap, subst, arith}
 use Rattle.std.proofs.lemmas.List.{append-nil}
 use Rattle.ob_store.specs.declared.event.Event.{Event}
 use Rattle.ob_store.specs.declared.watch.Note.{Note}
-use Rattle.ob_store.specs.Calls.{Notes, NotesLane, IsFreshLane}
+use Rattle.ob_store.specs.Calls.{Notes, NotesLane, IsFreshLane, TellsNone}
 use Rattle.ob_store.specs.Lines.{Trace}
 use Rattle.ob_store.specs.Told.{events_of, TellsFirst, Does}
 use Rattle.ob_store.proofs.Showing.{shows_none}
@@ -18,6 +18,11 @@ lane_noted events (Some o) mid lane None (Some x) fresh still did back = absurd 
 lane_noted events None (Some m) lane now (Some x) fresh still did back = absurd still
 lane_noted events None None lane (Some l) (Some x) fresh still did back = absurd back
 lane_noted events None None lane None (Some x) fresh still did back = absurd (let wrong : Some x ≡ None = back in cc)
+
+-- a new lane has told nothing, whatever its store tells
+pub fresh_tells_none : (store lane : Option (List Event)) → IsFreshLane store lane → TellsNone lane
+fresh_tells_none (Some s) lane fresh = subst TellsNone (sym fresh) refl
+fresh_tells_none None lane fresh = fresh
 
 -- the row of a lane is the store's
 pub lane_does : {T E : Type 0} (notes : List Note) (old mid lane now new : Option (List Event)) (k l : Trace) (r : Result T E) → IsFreshLane old lane → Notes [] old mid → Does notes lane now k l r → NotesLane now mid new → Does notes old new k l r

@@ -29,10 +29,15 @@ abbrev pub NotesLane : Option (List Event) → Option (List Event) → Option (L
 NotesLane (Some events) old new = Notes events old new
 NotesLane None old new = new ≡ None
 
--- a lane of a store that tells its events has none yet
+-- no events, or none that are told
+abbrev pub TellsNone : Option (List Event) → Type 0
+TellsNone (Some events) = events ≡ []
+TellsNone None = Unit {0}
+
+-- a new lane has told no event, and tells that where its store tells its events
 abbrev pub IsFreshLane : Option (List Event) → Option (List Event) → Type 0
 IsFreshLane (Some store) lane = lane ≡ Some []
-IsFreshLane None lane = Unit {0}
+IsFreshLane None lane = TellsNone lane
 
 -- the faults of a lane are added, up to the last value of a `u64`
 abbrev pub AddsFaults : ℕ → ℕ → ℕ → Type 0
