@@ -1,5 +1,5 @@
 -- How a generation is begun.
-use Rattle.std.proofs.Common.{◌≡◌, ℕ, suc, ◌+◌, ◌^◌, ◌<◌, List, [], ◌∷◌, Option, Result, refl, ◌∙◌, subst, add-one}
+use Rattle.std.proofs.Common.{◌≡◌, ℕ, suc, ◌+◌, ◌^◌, ◌<◌, List, [], ◌∷◌, Option, Result, arith, refl, sym, ◌∙◌, subst, add-one}
 use Rattle.ob_store.specs.declared.event.Event.{Event}
 use Rattle.ob_store.specs.declared.event.Event.TheVariants as event
 use Rattle.ob_store.specs.declared.watch.Note.TheVariants.{Sync}
@@ -46,6 +46,12 @@ pub next_stands : (tag : Tagging) (g : ℕ) (old mid new : Image) → g + 1 < 2 
 next_stands tag g old mid new small same stands put =
     let kept = put_stands tag 1 (g + 1) mid new small (under_next tag 1 g (g + 1) mid refl (stands_again tag 1 g mid old same stands)) put in
     subst (λ n. KeepsAt tag 1 old n new) (add-one g) (record { stands = kept.stands; rest = λ k out. kept.rest k out ∙ same k })
+
+-- the same, whatever its number is called
+pub next_number : (keys : Keys) (g m : ℕ) (old mid new : Image) → g + 1 < 2 ^ 62 → ((k : ℕ) → mid k ≡ old k) → g + 1 ≡ suc m → IsPut (tagging keys) 1 mid (g + 1) new → StandsAt (tagging keys) 1 old m → KeepsAt (tagging keys) 1 old (g + 1) new
+next_number keys g m old mid new small same is put stands =
+    let at : m ≡ g = omega (arith, is) in
+    subst (λ n. KeepsAt (tagging keys) 1 old n new) (sym (add-one g)) (next_stands (tagging keys) g old mid new small same (subst (λ n. StandsAt (tagging keys) 1 old n) at stands) put)
 
 -- from the sync on
 pub begins : {S : Type 0} (disk : S → Disk) (keys : Keys) (g : ℕ) (old mid new : S) (r : Result (Unit {0}) SetErr) → Notes (event.Sync ∷ []) (disk old).seen (disk mid).seen → Passes Same (disk old) (disk mid) → Keeps (disk old) (disk mid) → ((disk old).tells → IsSynced (disk mid))

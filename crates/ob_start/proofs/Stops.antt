@@ -1,5 +1,5 @@
 -- What a begin that was refused leaves of the generations' register, by how many of its notes weren't shown.
-use Rattle.std.proofs.Common.{◌≡◌, ◌≤◌, ℕ, ◌+◌, ◌-◌, Bool, true, false, inl, inr, List, [], ◌∷◌, ◌++◌, length, length-append, Err, append_assoc, ⊎_elim, ap, arith, refl, subst, sym, ◌∙◌}
+use Rattle.std.proofs.Common.{◌≡◌, ◌≤◌, ℕ, zero, suc, ◌+◌, ◌-◌, Bool, true, false, inl, inr, List, [], ◌∷◌, ◌++◌, length, length-append, Err, append_assoc, ⊎_elim, ap, arith, refl, subst, sym, ◌∙◌}
 use Rattle.std.proofs.lemmas.List.{length-take-le}
 use mathlib.Core.Path.{fun_ext}
 use Rattle.ob_seal.specs.declared.keys.Keys.{Keys}
@@ -14,12 +14,13 @@ use Rattle.ob_store.specs.declared.watch.Note.TheVariants.{Sync, Write}
 use Rattle.ob_twin.specs.Keyed.{tagging}
 use Rattle.ob_twin.specs.Opening.{is_closed_first}
 use Rattle.ob_twin.specs.Orders.{SetDoes, gate_notes, prepare_notes, set_notes, through_notes}
-use Rattle.ob_twin.specs.Register.{IsPut, SameOutside, gate_at, place_of}
+use Rattle.ob_twin.specs.Register.{IsPut, KeepsAt, SameOutside, StandsAt, gate_at, place_of}
+use Rattle.ob_twin.specs.Refused.{SetLeaves}
 use Rattle.ob_twin.specs.Stops.{IsRegisterLeft, IsSettingLeft, SetStops, StopsShort}
 use Rattle.ob_twin.specs.declared.gates.Open.{Open}
 use Rattle.ob_twin.specs.declared.set_err.SetErr.{SetErr}
 use Rattle.ob_twin.specs.declared.set_err.SetErr.TheVariants.{Before, Unsure}
-use Rattle.ob_start.specs.Beginning.{IsBeginLeft, IsSyncedLeft}
+use Rattle.ob_start.specs.Beginning.{IsBeginLeft, IsNumberBy, IsSyncedLeft}
 use Rattle.ob_start.specs.Orders.{begin_notes}
 
 -- what is cut short is no longer than the whole
@@ -40,8 +41,10 @@ module _ (keys : Keys) (known : Open) (n : ℕ) (old new : Disk) where
   Stops k l = StopsShort (begin_notes known n) (begin_notes known n) (IsBeginLeft keys closes n old) old new k l
 
   -- all was done
-  pub set_leaves : (mid : Disk) → Keeps old mid → SameOutside 1 new.cells old.cells → old.tells → IsPut (tagging keys) 1 mid.cells n new.cells → IsSyncedLeft keys n old.cells 0 new.cells
-  set_leaves mid keeps rest told put = record {
+  pub set_leaves : (mid : Disk) → Keeps old mid → SameOutside 1 new.cells old.cells → old.tells → IsPut (tagging keys) 1 mid.cells n new.cells → ((m : ℕ) → n ≡ suc m → StandsAt (tagging keys) 1 old.cells m → KeepsAt (tagging keys) 1 old.cells n new.cells)
+      → IsSyncedLeft keys n old.cells 0 new.cells
+  set_leaves mid keeps rest told put stands = record {
+    number = stands;
     rest = rest;
     register = record { place = put.opened; other = put.rest (gate_at 1 (place_of (n + 1))) (λ e. omega (arith, e)) (λ e. omega (arith, e)) ∙ keeps.cells told (gate_at 1 (place_of (n + 1))) };
   }
@@ -60,8 +63,12 @@ module _ (keys : Keys) (known : Open) (n : ℕ) (old new : Disk) where
     abbrev all : List Note
     all = set_notes closes 1 n
 
-    onto : (lacking : ℕ) (c : Image) → new.may_leave c → (1 ≤ lacking) × (lacking ≤ length all) → IsSettingLeft (tagging keys) closes 1 n mid lacking c → IsBeginLeft keys closes n old lacking c
-    onto lacking c left few setting = inr (
+    -- the number by how many lack, if the register stood at the one before
+    abbrev CountsBy : ℕ → Image → Type 0
+    CountsBy lacking c = (m : ℕ) → n ≡ suc m → mid.tells → IsSynced mid → StandsAt (tagging keys) 1 mid.cells m → IsNumberBy keys mid.cells m n lacking c
+
+    onto : (lacking : ℕ) (c : Image) → new.may_leave c → (1 ≤ lacking) × (lacking ≤ length all) → IsSettingLeft (tagging keys) closes 1 n mid lacking c → CountsBy lacking c → IsBeginLeft keys closes n old lacking c
+    onto lacking c left few setting counts = inr (
       few,
       λ told opened.
           let same : mid.cells ≡ old.cells = fun_ext (λ j. keeps.cells told j) in
@@ -69,6 +76,7 @@ module _ (keys : Keys) (known : Open) (n : ℕ) (old new : Disk) where
           record {
             rest = λ k out. passed.2 k out ∙ settled told passed.0 passed.1 k ∙ keeps.cells told k;
             register = subst (λ (i : Image). IsRegisterLeft (tagging keys) 1 n i lacking c) same (setting (keeps.tells told) (settled told) (λ closed. keeps.cells told (gate_at 1 (place_of n)) ∙ opened closed));
+            number = λ m is stands. subst (λ (i : Image). IsNumberBy keys i m n lacking c) same (counts m is (keeps.tells told) (settled told) (subst (λ (i : Image). StandsAt (tagging keys) 1 i m) (sym same) stands));
           },
     )
 
@@ -90,41 +98,55 @@ module _ (keys : Keys) (known : Open) (n : ℕ) (old new : Disk) where
     as_many : (shown : List Note) → length all - length shown ≡ length (begin_notes known n) - length (Sync ∷ shown)
     as_many shown = (let rows = length-append (Sync ∷ []) all in let shows = length-append (Sync ∷ []) shown in omega (arith, rows, shows))
 
-    -- and some lack of one that was cut short before its gate
-    some_left : (made shown : List Note) → IsCut (prepare_notes closes 1 n) made shown → (1 ≤ length all - length shown) × (length all - length shown ≤ length all)
+    -- and two at least of one that was cut short before its gate
+    some_left : (made shown : List Note) → IsCut (prepare_notes closes 1 n) made shown → (2 ≤ length all - length shown) × (length all - length shown ≤ length all)
     some_left made shown cut =
         let few = cut_few (prepare_notes closes 1 n) made shown cut in
         let parts = length-append (prepare_notes closes 1 n) (through_notes (gate_at 1 (place_of n))) in
         (omega (arith, few, parts), omega arith)
 
-    unsure_left : ((c : Image) → new.may_leave c → IsSettingLeft (tagging keys) closes 1 n mid 1 c) → (c : Image) → new.may_leave c → IsBeginLeft keys closes n old (length (begin_notes known n) - length (Sync ∷ gate)) c
-    unsure_left stops c left = subst (λ (lacking : ℕ). IsBeginLeft keys closes n old lacking c) (sym (one_lacks closes) ∙ as_many gate) (onto 1 c left (omega arith, some_lack closes) (stops c left))
+    unsure_left : ((c : Image) → new.may_leave c → IsSettingLeft (tagging keys) closes 1 n mid 1 c) → ((c : Image) → new.may_leave c → CountsBy 1 c) → (c : Image) → new.may_leave c → IsBeginLeft keys closes n old (length (begin_notes known n) - length (Sync ∷ gate)) c
+    unsure_left stops counts c left = subst (λ (lacking : ℕ). IsBeginLeft keys closes n old lacking c) (sym (one_lacks closes) ∙ as_many gate) (onto 1 c left (omega arith, some_lack closes) (stops c left) (counts c left))
 
-    pub set_stops : (x : SetErr) → SetDoes closes 1 n mid.seen new.seen l m (Err x) → SetStops (tagging keys) closes 1 n mid new l m (Err x) → Stops k m
-    set_stops (Before fault) does stops = record {
+    -- where two lack at least, the old number
+    old_by : (m lacking : ℕ) (c : Image) → 2 ≤ lacking → KeepsAt (tagging keys) 1 mid.cells m c → IsNumberBy keys mid.cells m n lacking c
+    old_by m zero c two keeps = absurd (omega (arith, two))
+    old_by m (suc zero) c two keeps = absurd (omega (arith, two))
+    old_by m (suc (suc more)) c two keeps = keeps
+
+    -- what the set says of its images, at its return
+    abbrev Counts : SetErr → Type 0
+    Counts x = (c : Image) → new.may_leave c → (m : ℕ) → n ≡ suc m → mid.tells → IsSynced mid → StandsAt (tagging keys) 1 mid.cells m → SetLeaves (tagging keys) 1 mid.cells m n (Err x) c
+
+    pub set_stops : (x : SetErr) → SetDoes closes 1 n mid.seen new.seen l m (Err x) → SetStops (tagging keys) closes 1 n mid new l m (Err x) → Counts x → Stops k m
+    set_stops (Before fault) does stops counts = record {
       first = record {
         made = Sync ∷ (stops.first).made;
         shown = Sync ∷ (stops.first).shown;
         cut = cut_behind (Sync ∷ []) all (stops.first).made (stops.first).shown (cut_more (prepare_notes closes 1 n) (through_notes (gate_at 1 (place_of n))) (stops.first).made (stops.first).shown (stops.first).cut);
         tells = tells_then (Sync ∷ []) (Sync ∷ []) (stops.first).made (stops.first).shown old.seen mid.seen new.seen k l m synced (stops.first).tells;
       };
-      left = λ c left. subst (λ (lacking : ℕ). IsBeginLeft keys closes n old lacking c) (as_many (stops.first).shown) (onto (length all - length (stops.first).shown) c left (some_left (stops.first).made (stops.first).shown (stops.first).cut) (stops.left c left));
+      left = λ c left.
+          let few = some_left (stops.first).made (stops.first).shown (stops.first).cut in
+          let lacking = length all - length (stops.first).shown in
+          subst (λ (lacking : ℕ). IsBeginLeft keys closes n old lacking c) (as_many (stops.first).shown)
+          (onto lacking c left (omega (arith, few.0), few.1) (stops.left c left) (λ m is told settled stands. old_by m lacking c few.0 (counts c left m is told settled stands)));
     }
-    set_stops (Unsure fault) (inl one) stops = record {
+    set_stops (Unsure fault) (inl one) stops counts = record {
       first = record {
         made = Sync ∷ gate;
         shown = Sync ∷ gate;
         cut = cut_behind (Sync ∷ []) all gate gate (subst (λ (row : List Note). IsCut row gate gate) gate_then_sync (cut_more gate (Sync ∷ []) gate gate (cut_none gate)));
         tells = tells_then (Sync ∷ []) (Sync ∷ []) gate gate old.seen mid.seen new.seen k l m synced one;
       };
-      left = unsure_left stops;
+      left = unsure_left stops counts;
     }
-    set_stops (Unsure fault) (inr both) stops = record {
+    set_stops (Unsure fault) (inr both) stops counts = record {
       first = record {
         made = Sync ∷ all;
         shown = Sync ∷ gate;
         cut = cut_behind (Sync ∷ []) all all gate (subst (λ (row : List Note). IsCut row row gate) gate_then_sync (cut_sync gate));
         tells = tells_then (Sync ∷ []) (Sync ∷ []) all gate old.seen mid.seen new.seen k l m synced both;
       };
-      left = unsure_left stops;
+      left = unsure_left stops counts;
     }

@@ -1,5 +1,5 @@
 -- What the begin of a generation tells and leaves.
-use Rattle.std.specs.Prelude.{◌≡◌, ◌<◌, ◌≤◌, ◌⊎◌, ◌^◌, ℕ, suc, Bool, IsTrue, List, [], ◌∷◌, ◌++◌, length, map, None, Result, Ok, Err}
+use Rattle.std.specs.Prelude.{◌≡◌, ◌<◌, ◌≤◌, ◌⊎◌, ◌^◌, ℕ, zero, suc, Bool, IsTrue, List, [], ◌∷◌, ◌++◌, length, map, None, Result, Ok, Err}
 use Rattle.ob_base.specs.declared.fault.Fault.{Fault}
 use Rattle.ob_base.specs.declared.fault.Fault.TheVariants as fault
 use Rattle.ob_store.specs.Disk.{Disk, Image}
@@ -10,7 +10,7 @@ use Rattle.ob_store.specs.declared.event.Event.TheVariants as event
 use Rattle.ob_seal.specs.declared.keys.Keys.{Keys}
 use Rattle.ob_twin.specs.Keyed.{tagging}
 use Rattle.ob_twin.specs.Orders.{set_notes}
-use Rattle.ob_twin.specs.Register.{IsOpen, StandsAt, OldOrNew, SameOutside, place_of}
+use Rattle.ob_twin.specs.Register.{IsOpen, KeepsAt, StandsAt, OldOrNew, SameOutside, place_of}
 use Rattle.ob_twin.specs.Opening.{gates_set, is_closed_first}
 use Rattle.ob_twin.specs.Stops.{IsRegisterLeft, StopsShort}
 use Rattle.ob_twin.specs.declared.gates.Open.{Open}
@@ -53,10 +53,17 @@ abbrev pub BeginLeaves : {S : Type 0} → (S → Disk) → Keys → ℕ → S �
 BeginLeaves disk keys generation old new (Ok next) = BeginsFrom disk keys generation old new
 BeginLeaves disk keys generation old new (Err refused) = Passes Same (disk old) (disk new) ⊎ BeginsFrom disk keys generation old new
 
+-- Where it stood at a number, a crash leaves the next one once no note lacks, either where the gate's sync does, and else the old one.
+abbrev pub IsNumberBy : Keys → (from : Image) → (old new lacking : ℕ) → Image → Type 0
+IsNumberBy keys from old new zero image = KeepsAt (tagging keys) 1 from new image
+IsNumberBy keys from old new (suc zero) image = OldOrNew (tagging keys) 1 from old new image
+IsNumberBy keys from old new (suc (suc more)) image = KeepsAt (tagging keys) 1 from old image
+
 -- The image has these cells, but for the generations' register, which is left by how many notes lack.
 pub record IsSyncedLeft (keys : Keys) (generation : ℕ) (cells : Image) (lacking : ℕ) (image : Image) : Type 0 where
   pub rest : SameOutside 1 image cells
   pub register : IsRegisterLeft (tagging keys) 1 generation cells lacking image
+  pub number : (before : ℕ) → generation ≡ suc before → StandsAt (tagging keys) 1 cells before → IsNumberBy keys cells before generation lacking image
 
 -- From that store on this generation was to begin, and so many of its notes lack. Where its first sync is one of them the image might have been
 -- left before; else it is left so from the cells that were told, if a gate that is closed first was open.

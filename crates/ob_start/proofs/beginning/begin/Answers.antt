@@ -1,4 +1,4 @@
-use Rattle.std.proofs.Common.{suc, inl, inr, None, refl, Ok, arith, Err, add-one, subst, ◌+◌, ◌∙◌}
+use Rattle.std.proofs.Common.{suc, inl, inr, None, refl, Ok, arith, Err, add-one, subst, sym, ◌+◌, ◌∙◌}
 use Rattle.ob_start.specs.Beginning.{BeginStops, IsSyncedLeft}
 use Rattle.ob_start.proofs.Stops.{set_leaves, set_stops, sync_stops}
 use Rattle.ob_base.specs.declared.fault.Fault.TheVariants.{StoreFault}
@@ -13,7 +13,7 @@ use Rattle.ob_twin.specs.Orders.{set_notes}
 use Rattle.ob_twin.proofs.Clear.{both_clear, clear_but, none_clear, set_clear}
 use Rattle.ob_store.proofs.Lanes.{first_none}
 use Rattle.ob_start.specs.Orders.{begin_notes}
-use Rattle.ob_start.proofs.Beginnings.{still, begin_does, next_stands, begins}
+use Rattle.ob_start.proofs.Beginnings.{still, begin_does, next_number, next_stands, begins}
 use Rattle.ob_store.specs.Calls.{IsFailed, IsStoreFault}
 use Rattle.ob_store.proofs.Serving.{serves_err, serves_ok, serves_then}
 use Rattle.ob_store.proofs.Keeping.{serves_none}
@@ -146,7 +146,8 @@ returns-in-Ok-set-clause-stops g c = λ tells.
     let new = g.S.Store.disk c.set.new.store in
     let keeps = c.sync_noted.ensures.keeps in
     subst (λ n. IsSyncedLeft keys n old.cells 0 new.cells) (add-one c.args.generation)
-    (set_leaves keys c.args.gates.now.generation (c.args.generation + 1) old new mid keeps (returns-in-Ok-set-clause-rest g c tells) tells (c.in-Ok-set.ensures.done (keeps.tells tells)))
+    (set_leaves keys c.args.gates.now.generation (c.args.generation + 1) old new mid keeps (returns-in-Ok-set-clause-rest g c tells) tells (c.in-Ok-set.ensures.done (keeps.tells tells))
+    (λ m is stands. next_number keys c.args.generation m old.cells mid.cells new.cells (omega arith) (keeps.cells tells) is (c.in-Ok-set.ensures.done (keeps.tells tells)) stands))
 
 pub returns-in-Err-set-clause-stops : goal.returns-in-Err-set-clause-stops
 returns-in-Err-set-clause-stops g c =
@@ -159,4 +160,5 @@ returns-in-Err-set-clause-stops g c =
     let l = g.W.Watch.trace c.sync_noted.new.watch in
     let m = g.W.Watch.trace c.set.new.watch in
     subst (λ n. BeginStops keys known n old new k m (Err (StoreFault None))) (add-one c.args.generation)
-    (set_stops keys known (c.args.generation + 1) old new mid k l m c.in-Ok.ensures.told c.sync_noted.ensures.keeps c.in-Ok.ensures.durable c.set.ensures.passes c.in-Err-set.field-0 c.in-Err-set.ensures.does c.in-Err-set.ensures.stops)
+    (set_stops keys known (c.args.generation + 1) old new mid k l m c.in-Ok.ensures.told c.sync_noted.ensures.keeps c.in-Ok.ensures.durable c.set.ensures.passes c.in-Err-set.field-0 c.in-Err-set.ensures.does c.in-Err-set.ensures.stops
+    (λ image left m is told settled stands. (c.in-Err-set.ensures.old_or_new m (is ∙ sym (add-one m)) told settled stands).each image (g.met.S.Store.counts_now c.set.new.store mid.moment image c.set.ensures.serves.goes.later left)))
