@@ -5,17 +5,20 @@ use Rattle.std.specs.Borrow.{GName}
 use Rattle.ob_base.specs.declared.fault.Failed.{Failed}
 use Rattle.ob_store.specs.declared.event.Event.{Event}
 use Rattle.ob_store.specs.declared.event.Event.TheVariants.{Read, Write, Sync}
+use Rattle.ob_store.specs.declared.store.Store.{Ghosts}
 use Rattle.ob_store.specs.Disk.{Clock, Disk, Image}
 use Rattle.ob_store.specs.Images.{LeavesOnly}
 use Rattle.ob_store.specs.Calls.{Notes, NotesLane}
 use Rattle.ob_store.proofs.Events.{joined, none_noted}
 use Rattle.ob_store.proofs.Lanes.{lane_noted}
 use Rattle.ob_mirror.specs.Mirrored.{even_moments, odd_moments, woven_moments, Agree, mirrored}
+use Rattle.ob_mirror.specs.declared.lane.MirrorLane.{MirrorLane}
 use Rattle.ob_mirror.specs.Asked.{IsAbsorbed, IsMadeSure, IsCellWritten}
 use Rattle.ob_mirror.specs.Both.{AreAsked}
 use Rattle.ob_mirror.specs.Joins.{IsCopy}
 use Rattle.ob_mirror.specs.Lanes.{AreLanesMade}
-use Rattle.ob_mirror.specs.Standing.{EachStands, Follows, OnlyReads, TellsReads, changes}
+use Rattle.ob_mirror.specs.Standing.{EachStands}
+use Rattle.ob_mirror.specs.Telling.{Follows, OnlyReads, TellsReads, changes}
 
 woven_even : (a b : Clock) (part : ℕ) → part % 2 ≡ 0 → woven_moments a b part ≡ a (part / 2)
 woven_even a b part is = rw is refl
@@ -68,7 +71,7 @@ copy_leaves cells P first second by copy one two has image left = by image first
 
 -- ---- events
 
-changes_join : (xs ys : List Event) → changes (xs ++ ys) ≡ changes xs ++ changes ys
+pub changes_join : (xs ys : List Event) → changes (xs ++ ys) ≡ changes xs ++ changes ys
 changes_join [] ys = refl
 changes_join (Read cell ∷ xs) ys = changes_join xs ys
 changes_join (Write cell ∷ xs) ys = ap (λ (es : List Event). Write cell ∷ es) (changes_join xs ys)
@@ -102,7 +105,7 @@ module _ {L M : Type 0} (seen_a : L → Option (List Event)) (faults_a : L → �
       let s = lane_row (seen_b second) b.seen d.seen two again.seen in
       record { own = s.0; first = lane_reads reads (seen_a first) a.seen c.seen one back.seen; second = s.1; same = s.2 ∙ sym none }
 
-  pub follows_lane : {S T : Type 0} (one : S → Disk) (two : T → Disk) (a c : S) (b d : T) (result : _) → AreLanesMade seen_a faults_a seen_b faults_b one two a c b d result → Follows [] (one a) (one c) (two b) (two d)
+  pub follows_lane : {S T : Type 0} {ga : Ghosts S L} {gb : Ghosts T M} (one : S → Disk) (two : T → Disk) (a c : S) (b d : T) (result : Result (MirrorLane S T L M ga gb) Failed) → AreLanesMade seen_a faults_a seen_b faults_b one two a c b d result → Follows [] (one a) (one c) (two b) (two d)
   follows_lane one two a c b d (Ok lane) made = record { own = []; first = made.0.seen; second = made.1.seen; same = refl }
   follows_lane one two a c b d (Err e) (inl refused) = record {
     own = [];

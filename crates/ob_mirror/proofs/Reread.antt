@@ -11,6 +11,7 @@ use Rattle.ob_base.specs.declared.job.Job.{Job}
 use Rattle.ob_base.specs.Planned.{job_at}
 use Rattle.ob_seal.specs.declared.keys.Keys.{Keys}
 use Rattle.ob_store.specs.declared.event.Event.{Event}
+use Rattle.ob_store.specs.declared.store.Store.{Ghosts}
 use Rattle.ob_store.specs.Disk.{Disk, Image}
 use Rattle.ob_store.specs.Calls.{IsStoreFault}
 use Rattle.ob_claims.specs.declared.claims.Claims.{Claims}
@@ -26,7 +27,8 @@ use Rattle.ob_mirror.specs.declared.lane.MirrorLane.{MirrorLane}
 use Rattle.ob_mirror.specs.declared.lane.SecondLane.{SecondLane}
 use Rattle.ob_mirror.specs.Both.{saturating_sum}
 use Rattle.ob_mirror.specs.Mirrored.{Agree, mirrored}
-use Rattle.ob_mirror.specs.Reading.{AreMended, IsHandReadOfEither, IsMended, IsParted, IsPlaceMended, IsPlaceReadOfEither, HasPlacesOfJobs, is_refused, with_refusals}
+use Rattle.ob_mirror.specs.Reading.{AreMended, IsHandReadOfEither, IsMended, IsParted, IsPlaceMended, IsPlaceReadOfEither, HasPlacesOfJobs, TellLanes, TellPlaces, is_refused, with_refusals}
+use Rattle.ob_mirror.proofs.Tells.{part_read}
 
 abbrev blank : Slot
 blank = record { place = 0; outcome = Ok [] }
@@ -112,9 +114,9 @@ module _ (x y : GName) (together : Type 0) (made : List Event) (failed : ℕ) (a
         });
       }
 
-  module _ {L M : Type 0} (seen_a : L → Option (List Event)) (faults_a : L → ℕ) (seen_b : M → Option (List Event)) (faults_b : M → ℕ) (claims : Claims) (round : Round) (asked : SealedJobs) where
+  module _ {A B L M : Type 0} {ga : Ghosts A L} {gb : Ghosts B M} (seen_a : L → Option (List Event)) (faults_a : L → ℕ) (seen_b : M → Option (List Event)) (faults_b : M → ℕ) (claims : Claims) (round : Round) (asked : SealedJobs) where
     -- the seat that a hand read with, and the places that it had claimed
-    claimed_so : (tried : Hand L) (new : Hand (MirrorLane L M)) → new.seat ≡ tried.seat → slot_places new.part.items ≡ slot_places tried.part.items → HasClaimed claims round tried → HasClaimed claims round new
+    claimed_so : (tried : Hand L) (new : Hand (MirrorLane A B L M ga gb)) → new.seat ≡ tried.seat → slot_places new.part.items ≡ slot_places tried.part.items → HasClaimed claims round tried → HasClaimed claims round new
     claimed_so tried new seat places was =
         let beyond = was.beyond in record {
           own = subst (IsClaimSeat claims) (sym seat) was.own;
@@ -126,8 +128,8 @@ module _ (x y : GName) (together : Type 0) (made : List Event) (failed : ℕ) (a
           reached = subst (λ (ps : List ℕ). All (λ x. x < new.seat.me.0.reached) ps) (sym places) (subst (λ (n : ℕ). All (λ x. x < n) (slot_places tried.part.items)) (sym (ap (λ (s : ClaimSeat). s.me.0.reached) seat)) was.reached);
         }
 
-    hand_read : (old new : Hand (MirrorLane L M)) → IsHandReadOfEither seen_a faults_a seen_b faults_b a b claims round asked old new
-        → IsHandRead both_halves (λ (l : MirrorLane L M). Some l.second.reads.events) (λ (l : MirrorLane L M). l.second.failed) claims round asked old new
+    hand_read : (old new : Hand (MirrorLane A B L M ga gb)) → IsHandReadOfEither seen_a faults_a seen_b faults_b a b claims round asked old new
+        → IsHandRead both_halves (λ (l : MirrorLane A B L M ga gb). Some l.second.reads.events) (λ (l : MirrorLane A B L M ga gb). l.second.failed) claims round asked old new
     hand_read old new by =
         let many = by.second.many in
         let before = old.lane.second.failed in
@@ -143,7 +145,7 @@ module _ (x y : GName) (together : Type 0) (made : List Event) (failed : ℕ) (a
           room = by.room;
         }
 
-    hand_done : (old new : Hand (MirrorLane L M)) → IsHandReadOfEither seen_a faults_a seen_b faults_b a b claims round asked old new → IsHandDone round new
+    hand_done : (old new : Hand (MirrorLane A B L M ga gb)) → IsHandReadOfEither seen_a faults_a seen_b faults_b a b claims round asked old new → IsHandDone round new
     hand_done old new by =
         let full = by.room in
         let whole = by.first.room in
@@ -151,8 +153,8 @@ module _ (x y : GName) (together : Type 0) (made : List Event) (failed : ℕ) (a
         let reached : new.seat.me.0.reached ≡ by.tried.seat.me.0.reached = ap (λ (s : ClaimSeat). s.me.0.reached) by.seat in
         ⊎_elim (λ le. inl (omega (arith, le, full, whole, many))) (λ le. inr (omega (arith, le, reached))) by.done
 
-    pub place_read : (old new : Option (Hand (MirrorLane L M))) → IsPlaceReadOfEither seen_a faults_a seen_b faults_b a b claims round asked old new
-        → IsPlaceRead both_halves (λ (l : MirrorLane L M). Some l.second.reads.events) (λ (l : MirrorLane L M). l.second.failed) claims round asked old new
+    pub place_read : (old new : Option (Hand (MirrorLane A B L M ga gb))) → IsPlaceReadOfEither seen_a faults_a seen_b faults_b a b claims round asked old new
+        → IsPlaceRead both_halves (λ (l : MirrorLane A B L M ga gb). Some l.second.reads.events) (λ (l : MirrorLane A B L M ga gb). l.second.failed) claims round asked old new
     place_read (Some old) (Some new) by = (hand_read old new by, hand_done old new by)
     place_read (Some old) None by = by
     place_read None (Some new) by = by
@@ -165,9 +167,18 @@ read_within claims round asked a seen faults (Some out) None read = absurd read
 read_within claims round asked a seen faults None (Some back) read = absurd read
 read_within claims round asked a seen faults None None read = tt
 
-module _ {L M : Type 0} (claims : Claims) (round : Round) (asked : SealedJobs) where
+-- lanes that told so, the first half's having read since
+pub places_told : {L M : Type 0} (claims : Claims) (round : Round) (asked : SealedJobs) (a : Disk) (seen_a : L → Option (List Event)) (faults_a : L → ℕ) (seen_b : M → Option (List Event)) (out back : Option (Hand L)) (second : Option (SecondLane M))
+    → TellLanes seen_a seen_b out second → IsPlaceRead a seen_a faults_a claims round asked out back → TellPlaces seen_a seen_b asked back second
+places_told claims round asked a seen_a faults_a seen_b (Some out) (Some back) (Some second) told read = part_read seen_a seen_b asked out back second told read.0.seen
+places_told claims round asked a seen_a faults_a seen_b (Some out) (Some back) None told read = tt
+places_told claims round asked a seen_a faults_a seen_b (Some out) None second told read = absurd read
+places_told claims round asked a seen_a faults_a seen_b None (Some back) second told read = absurd read
+places_told claims round asked a seen_a faults_a seen_b None None second told read = tt
+
+module _ {A B L M : Type 0} {ga : Ghosts A L} {gb : Ghosts B M} (claims : Claims) (round : Round) (asked : SealedJobs) where
   -- a hand that was parted is as ready as it was
-  pub parted_ready : (old : Option (Hand (MirrorLane L M))) (out : Option (Hand L)) (second : Option (SecondLane M)) → IsPlaceReady claims round old → IsParted old out second → IsPlaceReady claims round out
+  pub parted_ready : (old : Option (Hand (MirrorLane A B L M ga gb))) (out : Option (Hand L)) (second : Option (SecondLane M)) → IsPlaceReady claims round old → IsParted old out second → IsPlaceReady claims round out
   parted_ready (Some old) (Some out) (Some second) ready parted = subst (IsHandReady claims round) (sym parted.0) (record { own = ready.own; come = ready.come; start = ready.start; unclaimed = ready.unclaimed; empty = ready.empty })
   parted_ready (Some old) (Some out) None ready parted = absurd parted
   parted_ready (Some old) None second ready parted = absurd parted
@@ -176,7 +187,7 @@ module _ {L M : Type 0} (claims : Claims) (round : Round) (asked : SealedJobs) w
 
   module _ (seen_a : L → Option (List Event)) (faults_a : L → ℕ) (seen_b : M → Option (List Event)) (faults_b : M → ℕ) (a b : Disk) where
     -- a hand was parted, read by the first half, and put together again
-    pub place_by : (old : Option (Hand (MirrorLane L M))) (out back : Option (Hand L)) (second : Option (SecondLane M)) (new : Option (Hand (MirrorLane L M)))
+    pub place_by : (old : Option (Hand (MirrorLane A B L M ga gb))) (out back : Option (Hand L)) (second : Option (SecondLane M)) (new : Option (Hand (MirrorLane A B L M ga gb)))
         → IsParted old out second → IsPlaceRead a seen_a faults_a claims round asked out back → IsPlaceMended asked b seen_b faults_b back second new → IsPlaceReadOfEither seen_a faults_a seen_b faults_b a b claims round asked old new
     place_by (Some old) (Some out) (Some back) (Some second) (Some new) parted read mended = record {
       tried = back;

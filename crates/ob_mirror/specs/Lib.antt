@@ -1,4 +1,5 @@
 pub mod Mirrored
+pub mod Telling
 pub mod Laws
 pub mod Asked
 pub mod Both

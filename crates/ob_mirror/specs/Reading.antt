@@ -5,6 +5,7 @@ use Rattle.ob_base.specs.declared.fault.Fault.{Fault}
 use Rattle.ob_base.specs.declared.fault.Fault.TheVariants.{StoreFault}
 use Rattle.ob_base.specs.Planned.{job_at}
 use Rattle.ob_store.specs.declared.event.Event.{Event}
+use Rattle.ob_store.specs.declared.store.Store.{Ghosts}
 use Rattle.ob_store.specs.Disk.{Disk}
 use Rattle.ob_store.specs.Calls.{Notes}
 use Rattle.ob_claims.specs.declared.claims.Claims.{Claims}
@@ -17,6 +18,7 @@ use Rattle.ob_lanes.specs.declared.hand.Hand.{Hand}
 use Rattle.ob_mirror.specs.declared.lane.MirrorLane.{MirrorLane}
 use Rattle.ob_mirror.specs.declared.lane.SecondLane.{SecondLane}
 use Rattle.ob_mirror.specs.Both.{saturating_sum}
+use Rattle.ob_mirror.specs.Telling.{LaneTells, OnlyReads, TellsReads, changes}
 
 -- whether a read was refused
 abbrev pub is_refused : Result (List ℕ) Fault → Bool
@@ -49,9 +51,9 @@ pub record AreMended {M : Type 0} (asked : SealedJobs) (disk : Disk) (seen : M �
   pub few : before.failed < 2 ^ 64
   pub log : after.reads.events ≡ before.reads.events ++ reads_of asked (slot_places old)
 
-module _ {L M : Type 0} (seen_a : L → Option (List Event)) (faults_a : L → ℕ) (seen_b : M → Option (List Event)) (faults_b : M → ℕ) (a b : Disk) (claims : Claims) (round : Round) (asked : SealedJobs) where
+module _ {A B L M : Type 0} {ga : Ghosts A L} {gb : Ghosts B M} (seen_a : L → Option (List Event)) (faults_a : L → ℕ) (seen_b : M → Option (List Event)) (faults_b : M → ℕ) (a b : Disk) (claims : Claims) (round : Round) (asked : SealedJobs) where
   -- A lane of the first half read all jobs that a hand claimed, and one of the second just those that failed.
-  pub record IsHandReadOfEither (old new : Hand (MirrorLane L M)) : Type 0 where
+  pub record IsHandReadOfEither (old new : Hand (MirrorLane A B L M ga gb)) : Type 0 where
     pub tried : Hand L
     pub first : IsHandRead a seen_a faults_a claims round asked (record { lane = old.lane.first; seat = old.seat; part = old.part }) tried
     pub done : IsHandDone round tried
@@ -61,14 +63,14 @@ module _ {L M : Type 0} (seen_a : L → Option (List Event)) (faults_a : L → �
     pub room : vec_capacity new.part ≡ vec_capacity old.part
 
   -- a hand is where one was, and so read
-  abbrev pub IsPlaceReadOfEither : Option (Hand (MirrorLane L M)) → Option (Hand (MirrorLane L M)) → Type 0
+  abbrev pub IsPlaceReadOfEither : Option (Hand (MirrorLane A B L M ga gb)) → Option (Hand (MirrorLane A B L M ga gb)) → Type 0
   IsPlaceReadOfEither (Some old) (Some new) = IsHandReadOfEither old new
   IsPlaceReadOfEither (Some old) None = ⊥
   IsPlaceReadOfEither None (Some new) = ⊥
   IsPlaceReadOfEither None None = Unit {0}
 
 -- a hand of a mirror as one of the first half and a lane of the second
-abbrev pub IsParted : {L M : Type 0} → Option (Hand (MirrorLane L M)) → Option (Hand L) → Option (SecondLane M) → Type 0
+abbrev pub IsParted : {A B L M : Type 0} {ga : Ghosts A L} {gb : Ghosts B M} → Option (Hand (MirrorLane A B L M ga gb)) → Option (Hand L) → Option (SecondLane M) → Type 0
 IsParted (Some h) (Some f) (Some s) = (f ≡ record { lane = h.lane.first; seat = h.seat; part = h.part }) × (s ≡ h.lane.second)
 IsParted None None None = Unit {0}
 IsParted (Some h) None s = ⊥
@@ -80,7 +82,7 @@ abbrev pub lane_at : {M : Type 0} → List (Option (SecondLane M)) → ℕ → O
 lane_at lanes i = slice_index_or lanes i None
 
 -- A hand was put together of one of the first half and a lane of the second, which has read again what failed.
-pub record IsHandMended {L M : Type 0} (asked : SealedJobs) (b : Disk) (seen : M → Option (List Event)) (faults : M → ℕ) (first : Hand L) (second : SecondLane M) (new : Hand (MirrorLane L M)) : Type 0 where
+pub record IsHandMended {A B L M : Type 0} {ga : Ghosts A L} {gb : Ghosts B M} (asked : SealedJobs) (b : Disk) (seen : M → Option (List Event)) (faults : M → ℕ) (first : Hand L) (second : SecondLane M) (new : Hand (MirrorLane A B L M ga gb)) : Type 0 where
   pub mended : AreMended asked b seen faults first.part.items new.part.items second new.lane.second
   pub lane : new.lane.first ≡ first.lane
   pub seat : new.seat ≡ first.seat
@@ -91,8 +93,25 @@ abbrev pub HasPlacesOfJobs : {L : Type 0} → SealedJobs → Option (Hand L) →
 HasPlacesOfJobs asked None = Unit {0}
 HasPlacesOfJobs asked (Some hand) = (i : ℕ) → i < length hand.part.items → (slot_at hand.part.items i).place < length asked.jobs.now
 
-abbrev pub IsPlaceMended : {L M : Type 0} → SealedJobs → Disk → (M → Option (List Event)) → (M → ℕ) → Option (Hand L) → Option (SecondLane M) → Option (Hand (MirrorLane L M)) → Type 0
+abbrev pub IsPlaceMended : {A B L M : Type 0} {ga : Ghosts A L} {gb : Ghosts B M} → SealedJobs → Disk → (M → Option (List Event)) → (M → ℕ) → Option (Hand L) → Option (SecondLane M) → Option (Hand (MirrorLane A B L M ga gb)) → Type 0
 IsPlaceMended asked b seen faults (Some first) (Some second) (Some new) = IsHandMended asked b seen faults first second new
 IsPlaceMended asked b seen faults (Some first) (Some second) None = ⊥
 IsPlaceMended asked b seen faults (Some first) None new = Unit {0}
 IsPlaceMended asked b seen faults None second new = new ≡ None
+
+-- Lanes of both halves that were those of a mirror's tell so.
+abbrev pub TellLanes : {L M : Type 0} → (L → Option (List Event)) → (M → Option (List Event)) → Option (Hand L) → Option (SecondLane M) → Type 0
+TellLanes seen_a seen_b (Some first) (Some second) = ∥ LaneTells second.reads.events (seen_a first.lane) (seen_b second.lane) ∥₁
+TellLanes seen_a seen_b (Some first) None = Unit {0}
+TellLanes seen_a seen_b None second = Unit {0}
+
+-- And where the first half's has read the jobs of its part since then, and the second's log doesn't have these reads yet.
+pub record LaneTellsPart {L M : Type 0} (seen_a : L → Option (List Event)) (seen_b : M → Option (List Event)) (asked : SealedJobs) (first : Hand L) (second : SecondLane M) : Type 0 where
+  pub only : changes second.reads.events ≡ []
+  pub same : TellsReads (second.reads.events ++ reads_of asked (slot_places first.part.items)) (seen_a first.lane)
+  pub again : OnlyReads (seen_b second.lane)
+
+abbrev pub TellPlaces : {L M : Type 0} → (L → Option (List Event)) → (M → Option (List Event)) → SealedJobs → Option (Hand L) → Option (SecondLane M) → Type 0
+TellPlaces seen_a seen_b asked (Some first) (Some second) = ∥ LaneTellsPart seen_a seen_b asked first second ∥₁
+TellPlaces seen_a seen_b asked (Some first) None = Unit {0}
+TellPlaces seen_a seen_b asked None second = Unit {0}

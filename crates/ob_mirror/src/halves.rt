@@ -2,6 +2,7 @@
 
 ghost use Rattle.std.specs.Prelude.{◌≡◌, ◌+◌, ◌-◌, [], Some, false};
 ghost use Rattle.ob_mirror.specs.Mirrored.{Agree, Together, mirrored};
+ghost use Rattle.ob_mirror.specs.Telling.{Follows};
 ghost use Rattle.ob_mirror.specs.Laws.{counts_now_of_either, only_now_of_either, includes_reads_of_first};
 ghost use Rattle.ob_mirror.specs.Asked.{IsLaneMade, IsLaneRead, IsAbsorbed, IsCellWritten, IsMadeSure};
 ghost use Rattle.ob_mirror.specs.Both.{AreAsked, both, saturating_sum, with_refusal};
@@ -33,6 +34,47 @@ pub struct Halves<'a, A: Store, B: Store> {
     pub second_then: Snapshot<B>,
     ghost agree: { Agree (Together apart (A.disk first_then.value) (B.disk second_then.value))
         (A.disk first.now) (B.disk second.now) },
+    pub ghost follows: { ∥ Follows made.events (A.disk first_then.value) (A.disk first.now)
+        (B.disk second_then.value) (B.disk second.now) ∥₁ },
+}
+
+// Both are given back.
+fn absorb_both<A: Store, B: Store>(first: &mut A, second: &mut B, one: A::Lane, two: B::Lane)
+    ensures first { IsAbsorbed A.lane_seen A.lane_faults one (A.disk first.old) (A.disk first.new) }
+    ensures second { IsAbsorbed B.lane_seen B.lane_faults two (B.disk second.old)
+        (B.disk second.new) }
+{
+    first.absorb(one);
+    second.absorb(two);
+}
+
+// Both are to write a cell.
+fn write_both<A: Store, B: Store>(
+    first: &mut A,
+    second: &mut B,
+    cell: u64,
+    bytes: &[u8; 128],
+) -> Result<(), Failed>
+    requires first { (A.disk first.old).out ≡ 0 }
+    requires second { (B.disk second.old).out ≡ 0 }
+    ensures { AreAsked (IsCellWritten cell bytes.now) (A.disk first.old) (A.disk first.new)
+        (B.disk second.old) (B.disk second.new) result }
+{
+    let one = first.write(cell, bytes);
+    let two = second.write(cell, bytes);
+    answer(one, two)
+}
+
+// Both are to make sure of what was written.
+fn sync_both<A: Store, B: Store>(first: &mut A, second: &mut B) -> Result<(), Failed>
+    requires first { (A.disk first.old).out ≡ 0 }
+    requires second { (B.disk second.old).out ≡ 0 }
+    ensures { AreAsked IsMadeSure (A.disk first.old) (A.disk first.new) (B.disk second.old)
+        (B.disk second.new) result }
+{
+    let one = first.sync();
+    let two = second.sync();
+    answer(one, two)
 }
 
 // Refused where either call was.
@@ -84,7 +126,7 @@ impl<'a, A: Store, B: Store> Halves<'a, A, B> {
 }
 
 impl<'a, A: Store, B: Store> Store for Halves<'a, A, B> {
-    type Lane = MirrorLane<A::Lane, B::Lane>;
+    type Lane = MirrorLane<A, B>;
 
     ghost disk = { λ m. mirrored m.first.ghost_name m.second.ghost_name (Together m.apart (A.disk m.first_then.value) (B.disk m.second_then.value)) m.made.events m.failed (A.disk m.first.now) (B.disk m.second.now) };
 
@@ -98,7 +140,7 @@ impl<'a, A: Store, B: Store> Store for Halves<'a, A, B> {
 
     ghost includes_reads = { λ m tells leaves. includes_reads_of_first (A.disk m.first.now) (B.disk m.second.now) _ (A.includes_reads m.first.now) tells leaves };
 
-    fn lane(&mut self) -> Result<MirrorLane<A::Lane, B::Lane>, Failed>
+    fn lane(&mut self) -> Result<MirrorLane<A, B>, Failed>
         ensures asked { IsLaneMade (λ lane. Some lane.second.reads.events) (λ lane. lane.second.failed)
             (⟦<Halves<'a, A, B> as Store>⟧.disk self.old)
             (⟦<Halves<'a, A, B> as Store>⟧.disk self.new) result }
@@ -133,7 +175,7 @@ impl<'a, A: Store, B: Store> Store for Halves<'a, A, B> {
 
     fn read(
         &self,
-        lane: &mut MirrorLane<A::Lane, B::Lane>,
+        lane: &mut MirrorLane<A, B>,
         cell: u64,
         out: &mut [u8; 128],
     ) -> Result<(), Failed>
@@ -158,7 +200,7 @@ impl<'a, A: Store, B: Store> Store for Halves<'a, A, B> {
         }
     }
 
-    fn absorb(&mut self, lane: MirrorLane<A::Lane, B::Lane>)
+    fn absorb(&mut self, lane: MirrorLane<A, B>)
         ensures asked { IsAbsorbed (λ lane. Some lane.second.reads.events) (λ lane. lane.second.failed) lane
             (⟦<Halves<'a, A, B> as Store>⟧.disk self.old)
             (⟦<Halves<'a, A, B> as Store>⟧.disk self.new) }
@@ -174,10 +216,9 @@ impl<'a, A: Store, B: Store> Store for Halves<'a, A, B> {
             failed,
             reads,
         } = second;
-        self.first.absorb(first);
-        self.second.absorb(second);
         self.failed = self.failed.saturating_add(failed);
         self.made = self.made.joined(&reads);
+        absorb_both(&mut *self.first, &mut *self.second, first, second);
     }
 
     fn write(&mut self, cell: u64, bytes: &[u8; 128]) -> Result<(), Failed>
@@ -193,10 +234,8 @@ impl<'a, A: Store, B: Store> Store for Halves<'a, A, B> {
     {
         let was = self.apart;
         self.apart = true;
-        let one = self.first.write(cell, bytes);
-        let two = self.second.write(cell, bytes);
         self.made = self.made.noted(&Event::Write(cell));
-        match answer(one, two) {
+        match write_both(&mut *self.first, &mut *self.second, cell, bytes) {
             Ok(()) => {
                 self.apart = was;
                 Ok(())
@@ -218,10 +257,8 @@ impl<'a, A: Store, B: Store> Store for Halves<'a, A, B> {
             (B.disk self.old.second.now) (B.disk self.new.second.now) result }
         ensures failed { self.new.failed ≡ with_refusal result self.old.failed }
     {
-        let one = self.first.sync();
-        let two = self.second.sync();
         self.made = self.made.noted(&Event::Sync);
-        match answer(one, two) {
+        match sync_both(&mut *self.first, &mut *self.second) {
             Ok(()) => Ok(()),
             Err(Failed) => {
                 self.failed = self.failed.saturating_add(1);

@@ -1,6 +1,9 @@
 //! A lane of each half.
 
+ghost use Rattle.ob_mirror.specs.Telling.{LaneTells};
+
 use crate::log::Log;
+use ob_store::Store;
 
 /// A lane of the second half, which is asked where the first half failed.
 #[derive(Drop)]
@@ -15,9 +18,10 @@ pub struct SecondLane<M> {
 
 /// A lane of each half.
 #[derive(Drop)]
-pub struct MirrorLane<L, M> {
+pub struct MirrorLane<A: Store, B: Store> {
     /// The first half's.
-    pub first: L,
+    pub first: A::Lane,
     /// The second half's.
-    pub second: SecondLane<M>,
+    pub second: SecondLane<B::Lane>,
+    pub ghost tells: { ∥ LaneTells second.reads.events (A.lane_seen first) (B.lane_seen second.lane) ∥₁ },
 }

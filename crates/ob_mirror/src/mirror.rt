@@ -61,7 +61,7 @@ impl<'a, A: Store, B: Store> Mirror<'a, A, B> {
 }
 
 impl<'a, A: Store, B: Store> Store for Mirror<'a, A, B> {
-    type Lane = MirrorLane<A::Lane, B::Lane>;
+    type Lane = MirrorLane<A, B>;
 
     ghost disk = { λ m. ⟦<Halves<'a, A, B> as Store>⟧.disk m.halves };
 
@@ -75,7 +75,7 @@ impl<'a, A: Store, B: Store> Store for Mirror<'a, A, B> {
 
     ghost includes_reads = { λ m tells leaves. includes_reads_of_first (A.disk m.halves.first.now) (B.disk m.halves.second.now) _ (A.includes_reads m.halves.first.now) tells leaves };
 
-    fn lane(&mut self) -> Result<MirrorLane<A::Lane, B::Lane>, Failed>
+    fn lane(&mut self) -> Result<MirrorLane<A, B>, Failed>
         ensures asked { IsLaneMade (λ lane. Some lane.second.reads.events) (λ lane. lane.second.failed)
             (⟦<Halves<'a, A, B> as Store>⟧.disk self.old.halves)
             (⟦<Halves<'a, A, B> as Store>⟧.disk self.new.halves) result }
@@ -89,7 +89,7 @@ impl<'a, A: Store, B: Store> Store for Mirror<'a, A, B> {
 
     fn read(
         &self,
-        lane: &mut MirrorLane<A::Lane, B::Lane>,
+        lane: &mut MirrorLane<A, B>,
         cell: u64,
         out: &mut [u8; 128],
     ) -> Result<(), Failed>
@@ -104,7 +104,7 @@ impl<'a, A: Store, B: Store> Store for Mirror<'a, A, B> {
         self.halves.read(lane, cell, out)
     }
 
-    fn absorb(&mut self, lane: MirrorLane<A::Lane, B::Lane>)
+    fn absorb(&mut self, lane: MirrorLane<A, B>)
         ensures asked { IsAbsorbed (λ lane. Some lane.second.reads.events) (λ lane. lane.second.failed) lane
             (⟦<Halves<'a, A, B> as Store>⟧.disk self.old.halves)
             (⟦<Halves<'a, A, B> as Store>⟧.disk self.new.halves) }
@@ -152,7 +152,7 @@ impl<'a, A: Lanes, B: Store> Lanes for Mirror<'a, A, B> {
     fn read_parts<R: Threads + Sync>(
         &self,
         rt: &R,
-        hands: &mut [Option<Hand<MirrorLane<A::Lane, B::Lane>>>],
+        hands: &mut [Option<Hand<MirrorLane<A, B>>>],
         claims: &Claims,
         round: &Round,
         asked: &SealedJobs,

@@ -6,7 +6,7 @@ ghost use Rattle.ob_store.specs.Calls.{Notes};
 ghost use Rattle.ob_store.specs.declared.event.Event.TheVariants as event;
 ghost use Rattle.ob_lanes.specs.Hands.{IsPlaceReady, hand_at, slot_places, reads_of, slot_at};
 ghost use Rattle.ob_mirror.specs.Both.{saturating_sum};
-ghost use Rattle.ob_mirror.specs.Reading.{AreMended, IsMended, IsParted, IsPlaceMended, IsPlaceReadOfEither, HasPlacesOfJobs, failed_in, is_refused, lane_at, with_refusals};
+ghost use Rattle.ob_mirror.specs.Reading.{AreMended, IsMended, IsParted, IsPlaceMended, IsPlaceReadOfEither, HasPlacesOfJobs, TellLanes, TellPlaces, failed_in, is_refused, lane_at, with_refusals};
 
 use crate::lane::{MirrorLane, SecondLane};
 use ob_base::Fault;
@@ -127,10 +127,11 @@ fn read_again<B: Store>(
     }
 }
 
-fn part_place<L, M>(
-    place: &mut Option<Hand<MirrorLane<L, M>>>,
-) -> (Option<Hand<L>>, Option<SecondLane<M>>)
+fn part_place<A: Store, B: Store>(
+    place: &mut Option<Hand<MirrorLane<A, B>>>,
+) -> (Option<Hand<A::Lane>>, Option<SecondLane<B::Lane>>)
     ensures parted { IsParted place.old result.0 result.1 }
+    ensures told { TellLanes A.lane_seen B.lane_seen result.0 result.1 }
 {
     match place.take() {
         Some(hand) => {
@@ -143,13 +144,14 @@ fn part_place<L, M>(
     }
 }
 
-fn join_place<L: Drop, B: Store>(
+fn join_place<A: Store, B: Store>(
     store: &B,
-    first: Option<Hand<L>>,
+    first: Option<Hand<A::Lane>>,
     second: Option<SecondLane<B::Lane>>,
     asked: &SealedJobs,
-) -> Option<Hand<MirrorLane<L, B::Lane>>>
+) -> Option<Hand<MirrorLane<A, B>>>
     requires within { HasPlacesOfJobs asked.now first }
+    requires told { TellPlaces A.lane_seen B.lane_seen asked.now first second }
     ensures joined { IsPlaceMended asked.now (B.disk store.now) B.lane_seen B.lane_faults first
         second result }
 {
@@ -172,10 +174,10 @@ fn join_place<L: Drop, B: Store>(
 }
 
 // Moves a hand out.
-fn part_at<L: Drop, M: Drop>(
-    hands: &mut [Option<Hand<MirrorLane<L, M>>>],
-    firsts: &mut [Option<Hand<L>>],
-    seconds: &mut [Option<SecondLane<M>>],
+fn part_at<A: Store, B: Store>(
+    hands: &mut [Option<Hand<MirrorLane<A, B>>>],
+    firsts: &mut [Option<Hand<A::Lane>>],
+    seconds: &mut [Option<SecondLane<B::Lane>>],
     i: usize,
 )
     requires hand { i < length hands.old }
@@ -185,6 +187,7 @@ fn part_at<L: Drop, M: Drop>(
     ensures many_firsts { length firsts.new ≡ length firsts.old }
     ensures many_seconds { length seconds.new ≡ length seconds.old }
     ensures parted { IsParted (hand_at hands.old i) (hand_at firsts.new i) (lane_at seconds.new i) }
+    ensures told { TellLanes A.lane_seen B.lane_seen (hand_at firsts.new i) (lane_at seconds.new i) }
     ensures hands { (j : ℕ) → j ≢ i → hand_at hands.new j ≡ hand_at hands.old j }
     ensures firsts { (j : ℕ) → j ≢ i → hand_at firsts.new j ≡ hand_at firsts.old j }
     ensures seconds { (j : ℕ) → j ≢ i → lane_at seconds.new j ≡ lane_at seconds.old j }
@@ -195,10 +198,10 @@ fn part_at<L: Drop, M: Drop>(
 }
 
 // Moves the hands out.
-fn part_all<L: Drop, M: Drop>(
-    hands: &mut [Option<Hand<MirrorLane<L, M>>>],
-    firsts: &mut [Option<Hand<L>>],
-    seconds: &mut [Option<SecondLane<M>>],
+fn part_all<A: Store, B: Store>(
+    hands: &mut [Option<Hand<MirrorLane<A, B>>>],
+    firsts: &mut [Option<Hand<A::Lane>>],
+    seconds: &mut [Option<SecondLane<B::Lane>>],
 )
     requires firsts { length firsts.old ≡ length hands.old }
     requires seconds { length hands.old ≤ length seconds.old }
@@ -207,6 +210,8 @@ fn part_all<L: Drop, M: Drop>(
     ensures many_seconds { length seconds.new ≡ length seconds.old }
     ensures parted { (i : ℕ) → i < length hands.old → IsParted (hand_at hands.old i)
         (hand_at firsts.new i) (lane_at seconds.new i) }
+    ensures told { (i : ℕ) → i < length hands.old → TellLanes A.lane_seen B.lane_seen
+        (hand_at firsts.new i) (lane_at seconds.new i) }
 {
     for i in 0..hands.len() {
         part_at(hands, firsts, seconds, i);
@@ -214,11 +219,11 @@ fn part_all<L: Drop, M: Drop>(
 }
 
 // Moves a hand back, what failed read again.
-fn join_at<L: Drop, B: Store>(
+fn join_at<A: Store, B: Store>(
     store: &B,
-    firsts: &mut [Option<Hand<L>>],
+    firsts: &mut [Option<Hand<A::Lane>>],
     seconds: &mut [Option<SecondLane<B::Lane>>],
-    hands: &mut [Option<Hand<MirrorLane<L, B::Lane>>>],
+    hands: &mut [Option<Hand<MirrorLane<A, B>>>],
     asked: &SealedJobs,
     i: usize,
 )
@@ -226,6 +231,8 @@ fn join_at<L: Drop, B: Store>(
     requires first { i < length firsts.old }
     requires second { i < length seconds.old }
     requires within { HasPlacesOfJobs asked.now (hand_at firsts.old i) }
+    requires told { TellPlaces A.lane_seen B.lane_seen asked.now (hand_at firsts.old i)
+        (lane_at seconds.old i) }
     ensures many { length hands.new ≡ length hands.old }
     ensures many_firsts { length firsts.new ≡ length firsts.old }
     ensures many_seconds { length seconds.new ≡ length seconds.old }
@@ -239,16 +246,18 @@ fn join_at<L: Drop, B: Store>(
 }
 
 // Moves them back.
-fn join_all<L: Drop, B: Store>(
+fn join_all<A: Store, B: Store>(
     store: &B,
-    firsts: &mut [Option<Hand<L>>],
+    firsts: &mut [Option<Hand<A::Lane>>],
     seconds: &mut [Option<SecondLane<B::Lane>>],
-    hands: &mut [Option<Hand<MirrorLane<L, B::Lane>>>],
+    hands: &mut [Option<Hand<MirrorLane<A, B>>>],
     asked: &SealedJobs,
 )
     requires firsts { length hands.old ≤ length firsts.old }
     requires seconds { length hands.old ≤ length seconds.old }
     requires within { (i : ℕ) → i < length hands.old → HasPlacesOfJobs asked.now (hand_at firsts.old i) }
+    requires told { (i : ℕ) → i < length hands.old → TellPlaces A.lane_seen B.lane_seen asked.now
+        (hand_at firsts.old i) (lane_at seconds.old i) }
     ensures many { length hands.new ≡ length hands.old }
     ensures joined { (i : ℕ) → i < length hands.old → IsPlaceMended asked.now (B.disk store.now)
         B.lane_seen B.lane_faults (hand_at firsts.old i) (lane_at seconds.old i)
@@ -266,7 +275,7 @@ pub fn read_both<A: Lanes, B: Store, R: Threads + Sync>(
     _places: &Places<A::Lane, B::Lane>,
     first: &A,
     second: &B,
-    hands: &mut [Option<Hand<MirrorLane<A::Lane, B::Lane>>>],
+    hands: &mut [Option<Hand<MirrorLane<A, B>>>],
     phase: &Phase,
 )
     requires few { length hands.old ≤ 16 }

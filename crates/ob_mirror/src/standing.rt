@@ -19,5 +19,5 @@ pub fn halves_stand<'a, A: Store, B: Store>(old: &Mirror<'a, A, B>, new: &Mirror
 /// From call to call of a mirror the second half was asked for the writes and syncs that the first
 /// was, in their order, and so for any calls one behind another.
 pub fn halves_follow<A: Store, B: Store>()
-    ensures { HalvesFollow A.disk B.disk A.lane_seen A.lane_faults B.lane_seen B.lane_faults }
+    ensures { HalvesFollow ⟦<A as Store>⟧ ⟦<B as Store>⟧ }
 {}

@@ -1,13 +1,20 @@
 use Rattle.std.proofs.Common.{subst, sym, ◌∙◌, below_more, arith}
 use Rattle.ob_lanes.specs.Hands.{hand_at}
 use Rattle.ob_mirror.specs.Reading.{IsPlaceMended, HasPlacesOfJobs, lane_at}
-use Rattle.ob_mirror.proofs.Parting.{mended_from}
+use Rattle.ob_mirror.proofs.Parting.{mended_from, told_still}
 use Rattle.ob_mirror.proofs.places.join_all.Goals as goal
 
 pub join_at-requires-clause-within : goal.join_at-requires-clause-within
 join_at-requires-clause-within g c =
     let i = c.loop-i.i in
     subst (HasPlacesOfJobs c.args.asked.now) (sym (c.loop-i.invariant.firsts i (omega arith))) (c.requires.within i (omega (arith, c.loop-i-test.true, c.loop-i.invariant.many)))
+
+pub join_at-requires-clause-told : goal.join_at-requires-clause-told
+join_at-requires-clause-told g c =
+    let i = c.loop-i.i in
+    let so_far = c.loop-i.invariant in
+    let lt = c.loop-i-test.true in
+    told_still g.A.Store.lane_seen g.B.Store.lane_seen c.args.asked.now _ _ _ _ (so_far.firsts i (omega arith)) (so_far.seconds i (omega arith)) (c.requires.told i (omega (arith, lt, so_far.many)))
 
 pub loop-i-preserved : goal.loop-i-preserved
 loop-i-preserved g c =

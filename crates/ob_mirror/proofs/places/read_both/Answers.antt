@@ -1,5 +1,5 @@
 use Rattle.std.proofs.Common.{arith}
-use Rattle.ob_mirror.proofs.Reread.{parted_ready, place_by, read_within}
+use Rattle.ob_mirror.proofs.Reread.{parted_ready, place_by, places_told, read_within}
 use Rattle.ob_mirror.proofs.places.read_both.Goals as goal
 
 pub read_parts-requires-clause-ready : goal.read_parts-requires-clause-ready
@@ -14,6 +14,14 @@ join_all-requires-clause-within g c = λ i lt.
     let out = c.part_all.ensures.many_firsts in
     let many = c.part_all.ensures.many in
     read_within phase.claims.now phase.round.now phase.asked.now (g.A.Store.disk c.args.first.now) g.A.Store.lane_seen g.A.Store.lane_faults _ _ (c.read_parts.ensures.each i (omega (arith, lt, out, many)))
+
+pub join_all-requires-clause-told : goal.join_all-requires-clause-told
+join_all-requires-clause-told g c = λ i lt.
+    let phase = c.args.phase.now in
+    let out = c.part_all.ensures.many_firsts in
+    let many = c.part_all.ensures.many in
+    places_told phase.claims.now phase.round.now phase.asked.now (g.A.Store.disk c.args.first.now) g.A.Store.lane_seen g.A.Store.lane_faults g.B.Store.lane_seen _ _ _ (c.part_all.ensures.told i (omega (arith, lt, many)))
+    (c.read_parts.ensures.each i (omega (arith, lt, out, many)))
 
 pub returns-clause-each : goal.returns-clause-each
 returns-clause-each g c = λ i lt.

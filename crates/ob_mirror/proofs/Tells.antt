@@ -1,0 +1,115 @@
+-- What the halves tell stays beside the mirror's log, call by call.
+use Rattle.std.proofs.Common.{◌≡◌, ℕ, List, [], ◌∷◌, ◌++◌, Option, Some, None, refl, sym, ◌∙◌, ap, subst}
+use Rattle.std.proofs.Math.Logic.{∥∥₁_map, ∥∥₁_map₂}
+use Rattle.std.proofs.lemmas.Grind.{merely}
+use Rattle.std.proofs.lemmas.List.{append-nil}
+use Rattle.ob_store.specs.declared.event.Event.{Event}
+use Rattle.ob_store.specs.declared.event.Event.TheVariants.{Read}
+use Rattle.ob_store.specs.Disk.{Disk}
+use Rattle.ob_store.specs.Calls.{GoesOn, IsFreshLane, Keeps, Notes, TellsNone}
+use Rattle.ob_store.proofs.Events.{joined, none_noted}
+use Rattle.ob_store.proofs.Lanes.{fresh_tells_none}
+use Rattle.ob_lanes.specs.declared.hand.Hand.{Hand}
+use Rattle.ob_lanes.specs.declared.hand.SealedJobs.{SealedJobs}
+use Rattle.ob_lanes.specs.declared.hand.Slot.{Slot}
+use Rattle.ob_lanes.specs.Hands.{reads_of, slot_places}
+use Rattle.ob_lanes.specs.JobReads.{cells_of}
+use Rattle.ob_mirror.specs.declared.lane.SecondLane.{SecondLane}
+use Rattle.ob_mirror.specs.Asked.{IsAbsorbed}
+use Rattle.ob_mirror.specs.Mirrored.{Agree}
+use Rattle.ob_mirror.specs.Reading.{LaneTellsPart, TellPlaces}
+use Rattle.ob_mirror.specs.Telling.{Follows, LaneTells, OnlyReads, TellsReads, changes}
+use Rattle.ob_mirror.proofs.Alone.{changes_join, follows_absorb, follows_then}
+
+-- ---- lanes
+
+same_on : (reads more now : List Event) (old new : Option (List Event)) → now ≡ reads ++ more → TellsReads reads old → Notes more old new → TellsReads now new
+same_on reads more now old None is tells noted = tt
+same_on reads more now (Some es) (Some fs) is tells noted = noted ∙ ap (λ (xs : List Event). xs ++ more) tells ∙ sym is
+same_on reads more now None (Some fs) is tells noted = absurd noted
+
+-- nothing but reads, and then nothing but reads
+none_join : (xs ys : List Event) → changes xs ≡ [] → changes ys ≡ [] → changes (xs ++ ys) ≡ []
+none_join xs ys one two = changes_join xs ys ∙ ap (λ (es : List Event). es ++ changes ys) one ∙ two
+
+only_on : (more : List Event) (old new : Option (List Event)) → changes more ≡ [] → OnlyReads old → Notes more old new → OnlyReads new
+only_on more old None none only noted = tt
+only_on more (Some es) (Some fs) none only noted = ap changes noted ∙ none_join es more only none
+only_on more None (Some fs) none only noted = absurd noted
+
+none_same : (lane : Option (List Event)) → TellsNone lane → TellsReads [] lane
+none_same (Some es) none = none
+none_same None none = tt
+
+none_only : (lane : Option (List Event)) → TellsNone lane → OnlyReads lane
+none_only (Some es) none = ap changes none
+none_only None none = tt
+
+-- new lanes
+pub lanes_new : (now : List Event) (a b first second : Option (List Event)) → now ≡ [] → IsFreshLane a first → IsFreshLane b second → ∥ LaneTells now first second ∥₁
+lanes_new now a b first second is one two = merely (record {
+  only = ap changes is;
+  same = subst (λ (es : List Event). TellsReads es first) (sym is) (none_same first (fresh_tells_none a first one));
+  again = none_only second (fresh_tells_none b second two);
+})
+
+-- a read more, of the first half alone or of both
+pub lanes_read : (cell : ℕ) (again reads now : List Event) (a c b d : Option (List Event)) → now ≡ reads ++ Read cell ∷ [] → changes again ≡ [] → ∥ LaneTells reads a b ∥₁ → Notes (Read cell ∷ []) a c → Notes again b d
+    → ∥ LaneTells now c d ∥₁
+lanes_read cell again reads now a c b d is none tells one two = ∥∥₁_map tells (λ t. record {
+  only = ap changes is ∙ none_join reads (Read cell ∷ []) t.only refl;
+  same = same_on reads (Read cell ∷ []) now a c is t.same one;
+  again = only_on again b d none t.again two;
+})
+
+reads_only : (asked : SealedJobs) (places : List ℕ) → changes (reads_of asked places) ≡ []
+reads_only asked [] = refl
+reads_only asked (x ∷ xs) = reads_only asked xs
+
+module _ {L M : Type 0} (seen_a : L → Option (List Event)) (seen_b : M → Option (List Event)) (asked : SealedJobs) where
+  -- The first half's lane has read the jobs of its part, of which it had none.
+  pub part_read : (out back : Hand L) (second : SecondLane M) → ∥ LaneTells second.reads.events (seen_a out.lane) (seen_b second.lane) ∥₁ → Notes (reads_of asked (slot_places back.part.items)) (seen_a out.lane) (seen_a back.lane) → ∥ LaneTellsPart seen_a seen_b asked back second ∥₁
+  part_read out back second tells noted = ∥∥₁_map tells (λ t. record {
+    only = t.only;
+    same = same_on second.reads.events (reads_of asked (slot_places back.part.items)) _ (seen_a out.lane) (seen_a back.lane) refl t.same noted;
+    again = t.again;
+  })
+
+  -- The second half's has these reads in its log too, and has read some of them itself.
+  part_joined : (back : Hand L) (second after : SecondLane M) (places : List ℕ) → ∥ LaneTellsPart seen_a seen_b asked back second ∥₁ → after.reads.events ≡ second.reads.events ++ reads_of asked (slot_places back.part.items) → Notes (reads_of asked places) (seen_b second.lane) (seen_b after.lane)
+      → ∥ LaneTells after.reads.events (seen_a back.lane) (seen_b after.lane) ∥₁
+  part_joined back second after places tells log noted = ∥∥₁_map tells (λ t. record {
+    only = ap changes log ∙ none_join second.reads.events _ t.only (reads_only asked (slot_places back.part.items));
+    same = subst (λ (es : List Event). TellsReads es (seen_a back.lane)) (sym log) t.same;
+    again = only_on (reads_of asked places) (seen_b second.lane) (seen_b after.lane) (reads_only asked places) t.again noted;
+  })
+
+  pub place_joined : (f : Option (Hand L)) (s : Option (SecondLane M)) (back : Hand L) (second after : SecondLane M) (slots : List Slot) (places : List ℕ) → f ≡ Some back → s ≡ Some second → slots ≡ back.part.items → TellPlaces seen_a seen_b asked f s
+      → after.reads.events ≡ second.reads.events ++ reads_of asked (slot_places slots) → Notes (reads_of asked places) (seen_b second.lane) (seen_b after.lane) → ∥ LaneTells after.reads.events (seen_a back.lane) (seen_b after.lane) ∥₁
+  place_joined f s back second after slots places first_is second_is slots_are told log noted =
+      part_joined back second after places
+      (subst (λ (y : Option (SecondLane M)). TellPlaces seen_a seen_b asked (Some back) y) second_is (subst (λ (x : Option (Hand L)). TellPlaces seen_a seen_b asked x s) first_is told))
+      (log ∙ ap (λ (l : List Slot). second.reads.events ++ reads_of asked (slot_places l)) slots_are) noted
+
+-- ---- the halves
+
+-- halves that agree, and each of which is as it was
+pub agree_still : (together : Type 0) (a c b d : Disk) → Agree together a b → GoesOn a c → Keeps a c → GoesOn b d → Keeps b d → Agree together c d
+agree_still together a c b d agree goes keeps goes' keeps' = λ is one two k.
+    let told = goes.told one in
+    let told' = goes'.told two in
+    keeps'.cells told' k ∙ agree is told told' k ∙ sym (keeps.cells told k)
+
+-- calls more
+pub follows_on : (made more now : List Event) (a c e b d f : Disk) → now ≡ made ++ more → ∥ Follows made a c b d ∥₁ → Follows more c e d f → ∥ Follows now a e b f ∥₁
+follows_on made more now a c e b d f is kept on = ∥∥₁_map kept (λ was. subst (λ (es : List Event). Follows es a e b f) (sym is) (follows_then made more a c e b d f was on))
+
+-- calls that none is told of
+pub follows_still : (made : List Event) (a c e b d f : Disk) → Notes [] c.seen e.seen → Notes [] d.seen f.seen → ∥ Follows made a c b d ∥₁ → ∥ Follows made a e b f ∥₁
+follows_still made a c e b d f one two kept = follows_on made [] made a c e b d f (sym (append-nil made)) kept (record { own = []; first = one; second = two; same = refl })
+
+-- lanes that are given back
+pub follows_back : {L M : Type 0} (seen_a : L → Option (List Event)) (faults_a : L → ℕ) (seen_b : M → Option (List Event)) (faults_b : M → ℕ) (reads made now : List Event) (first : L) (second : M) (a c e b d f : Disk) → now ≡ made ++ reads → ∥ Follows made a c b d ∥₁
+    → ∥ LaneTells reads (seen_a first) (seen_b second) ∥₁ → IsAbsorbed seen_a faults_a first c e → IsAbsorbed seen_b faults_b second d f → ∥ Follows now a e b f ∥₁
+follows_back seen_a faults_a seen_b faults_b reads made now first second a c e b d f is kept tells one two = ∥∥₁_map₂ kept tells (λ was t.
+    subst (λ (es : List Event). Follows es a e b f) (sym is) (follows_then made reads a c e b d f was (follows_absorb seen_a faults_a seen_b faults_b reads first second c e d f t.only t.same t.again one two)))

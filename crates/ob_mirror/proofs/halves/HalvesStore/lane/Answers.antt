@@ -1,0 +1,29 @@
+use Rattle.std.proofs.Common.{[]}
+use Rattle.ob_store.proofs.Events.{none_noted}
+use Rattle.ob_store.proofs.Lanes.{lane_noted}
+use Rattle.ob_mirror.proofs.Tells.{agree_still, follows_still, lanes_new}
+use Rattle.ob_mirror.proofs.halves.HalvesStore.lane.Goals as goal
+
+pub invariant_of-self-clause-follows : goal.invariant_of-self-clause-follows
+invariant_of-self-clause-follows g c =
+    follows_still c.args.self.now.made.events _ _ _ _ _ _ c.lane.ensures.seen (none_noted (g.B.Store.disk c.args.self.now.second.now).seen) c.args.self.now.follows
+
+pub invariant_of-self-in-Ok-lane-2 : goal.invariant_of-self-in-Ok-lane-2
+invariant_of-self-in-Ok-lane-2 g c =
+    let one = c.lane.ensures in
+    let two = c.lane-2.ensures in
+    record {
+      agree = agree_still _ _ _ _ _ c.args.self.now.agree one.goes one.keeps two.goes two.keeps;
+      follows = follows_still c.args.self.now.made.events _ _ _ _ _ _ one.seen two.seen c.args.self.now.follows;
+    }
+
+pub invariant_of-result : goal.invariant_of-result
+invariant_of-result g c = record { tells = lanes_new c.new.result.events _ _ _ _ c.new.ensures c.in-Ok.ensures.fresh_seen c.in-Ok-lane.ensures.fresh_seen }
+
+pub invariant_of-self-in-Err-lane-clause-follows : goal.invariant_of-self-in-Err-lane-clause-follows
+invariant_of-self-in-Err-lane-clause-follows g c =
+    let one = g.A.Store.disk in
+    let had = g.A.Store.lane_seen c.in-Ok.lane in
+    follows_still c.args.self.now.made.events _ _ _ _ _ _
+    (lane_noted [] (one c.args.self.now.first.now).seen (one c.lane.new.self).seen had had (one c.absorb.new.self).seen c.in-Ok.ensures.fresh_seen c.lane.ensures.seen (none_noted had) c.absorb.ensures.seen)
+    c.lane-2.ensures.seen c.args.self.now.follows
