@@ -1,5 +1,5 @@
 -- Each half of a mirror alone.
-use Rattle.std.proofs.Common.{◌≡◌, ◌<◌, inl, inr, ⊎_elim, ℕ, ◌+◌, ◌*◌, ◌/◌, ◌%◌, List, [], ◌∷◌, ◌++◌, Option, Some, None, Result, Ok, Err, refl, sym, ◌∙◌, ap, subst, arith}
+use Rattle.std.proofs.Common.{◌≡◌, ◌<◌, inl, inr, ⊎_elim, ℕ, Bool, ◌≤◌, ◌+◌, ◌*◌, ◌/◌, ◌%◌, List, [], ◌∷◌, ◌++◌, Option, Some, None, Result, Ok, Err, refl, sym, ◌∙◌, ap, subst, arith}
 use mathlib.Core.Path.{fun_ext}
 use Rattle.std.specs.Borrow.{GName}
 use Rattle.ob_base.specs.declared.fault.Failed.{Failed}
@@ -8,17 +8,18 @@ use Rattle.ob_store.specs.declared.event.Event.TheVariants.{Read, Write, Sync}
 use Rattle.ob_store.specs.declared.store.Store.{Ghosts}
 use Rattle.ob_store.specs.Disk.{Clock, Disk, Image}
 use Rattle.ob_store.specs.Images.{LeavesOnly}
-use Rattle.ob_store.specs.Calls.{Notes, NotesLane}
+use Rattle.ob_store.specs.Calls.{GoesOn, Notes, NotesLane, TellsOn}
 use Rattle.ob_store.proofs.Events.{joined, none_noted}
 use Rattle.ob_store.proofs.Lanes.{lane_noted}
-use Rattle.ob_mirror.specs.Mirrored.{even_moments, odd_moments, woven_moments, Agree, mirrored}
+use Rattle.ob_store.proofs.Serving.{goes_same, goes_then}
+use Rattle.ob_mirror.specs.Mirrored.{even_moments, odd_moments, woven_moments, Agree, Together, mirrored}
 use Rattle.ob_mirror.specs.declared.lane.MirrorLane.{MirrorLane}
 use Rattle.ob_mirror.specs.Asked.{IsAbsorbed, IsMadeSure, IsCellWritten}
 use Rattle.ob_mirror.specs.Both.{AreAsked}
 use Rattle.ob_mirror.specs.Joins.{IsCopy}
 use Rattle.ob_mirror.specs.Lanes.{AreLanesMade}
 use Rattle.ob_mirror.specs.Standing.{EachStands}
-use Rattle.ob_mirror.specs.Telling.{Follows, OnlyReads, TellsReads, changes}
+use Rattle.ob_mirror.specs.Telling.{Follows, OnlyReads, TellsReads, TellsStill, changes}
 
 woven_even : (a b : Clock) (part : ℕ) → part % 2 ≡ 0 → woven_moments a b part ≡ a (part / 2)
 woven_even a b part is = rw is refl
@@ -44,8 +45,8 @@ evens_woven a b = fun_ext (λ part. at_even a b part)
 odds_woven : (a b : Clock) → odd_moments (woven_moments a b) ≡ b
 odds_woven a b = fun_ext (λ part. at_odd a b part)
 
-module _ (x y v w : GName) (was is : Type 0) (made now : List Event) (failed still : ℕ) (a c b d : Disk) where
-  pub each_stands : Agree is c d → EachStands a c b d (mirrored x y was made failed a b) (mirrored v w is now still c d)
+module _ (x y v w : GName) (was : Bool) (a0 b0 : Disk) (is : Bool) (c0 d0 : Disk) (made now : List Event) (failed still : ℕ) (a c b d : Disk) where
+  pub each_stands : Agree (Together is c0 d0) c d → EachStands a c b d (mirrored x y was a0 b0 made failed a b) (mirrored v w is c0 d0 now still c d)
   each_stands agree = record {
     first = λ image left. inl left;
     second = λ image left. inr left;
@@ -59,7 +60,7 @@ module _ (x y v w : GName) (was is : Type 0) (made now : List Event) (failed sti
   }
 
   -- what is proved of the mirror's images is true of those of either half
-  pub half_leaves : (P : Image → Type 0) → LeavesOnly (mirrored x y was made failed a b) (mirrored v w is now still c d) P → ((image : Image) → c.left_since a.moment image → P image) × ((image : Image) → d.left_since b.moment image → P image)
+  pub half_leaves : (P : Image → Type 0) → LeavesOnly (mirrored x y was a0 b0 made failed a b) (mirrored v w is c0 d0 now still c d) P → ((image : Image) → c.left_since a.moment image → P image) × ((image : Image) → d.left_since b.moment image → P image)
   half_leaves P leaves = (
     (λ image left. leaves.each image (inl (subst (λ (t : Clock). c.left_since t image) (sym (evens_woven a.moment b.moment)) left))),
     (λ image left. leaves.each image (inr (subst (λ (t : Clock). d.left_since t image) (sym (odds_woven a.moment b.moment)) left))),
@@ -77,8 +78,27 @@ changes_join (Read cell ∷ xs) ys = changes_join xs ys
 changes_join (Write cell ∷ xs) ys = ap (λ (es : List Event). Write cell ∷ es) (changes_join xs ys)
 changes_join (Sync ∷ xs) ys = ap (λ (es : List Event). Sync ∷ es) (changes_join xs ys)
 
+-- a half tells still
+pub still_by : (a b : Disk) → GoesOn a b → TellsStill a b
+still_by a b goes = record { faults = goes.faults; seen = goes.seen }
+
+pub still_same : (a : Disk) → TellsStill a a
+still_same a = still_by a a (goes_same a)
+
+on_then : (a b c : Option (List Event)) (l m n : ℕ) → l ≤ m → m ≤ n → TellsOn a b l m → TellsOn b c m n → TellsOn a c l n
+on_then (Some a) None None l m n le me p q = omega arith
+on_then (Some a) (Some b) None l m n le me p q = omega arith
+on_then (Some a) (Some b) (Some c) l m n le me p q = tt
+on_then (Some a) None (Some c) l m n le me p q = absurd q
+on_then None None None l m n le me p q = tt
+on_then None None (Some c) l m n le me p q = absurd q
+on_then None (Some b) c l m n le me p q = absurd p
+
+still_then : (a b c : Disk) → TellsStill a b → TellsStill b c → TellsStill a c
+still_then a b c p q = record { faults = (let one = p.faults in let two = q.faults in omega (arith, one, two)); seen = on_then a.seen b.seen c.seen a.faults b.faults c.faults p.faults q.faults p.seen q.seen }
+
 pub follows_none : (a b : Disk) → Follows [] a a b b
-follows_none a b = record { own = []; first = none_noted a.seen; second = none_noted b.seen; same = refl }
+follows_none a b = record { own = []; first = none_noted a.seen; second = none_noted b.seen; same = refl; first_still = still_same a; second_still = still_same b }
 
 pub follows_then : (made more : List Event) (a c e b d f : Disk) → Follows made a c b d → Follows more c e d f → Follows (made ++ more) a e b f
 follows_then made more a c e b d f p q = record {
@@ -86,6 +106,8 @@ follows_then made more a c e b d f p q = record {
   first = joined made more a.seen c.seen e.seen p.first q.first;
   second = joined p.own q.own b.seen d.seen f.seen p.second q.second;
   same = changes_join p.own q.own ∙ ap (λ (es : List Event). es ++ changes q.own) p.same ∙ ap (λ (es : List Event). changes made ++ es) q.same ∙ sym (changes_join made more);
+  first_still = still_then a c e p.first_still q.first_still;
+  second_still = still_then b d f p.second_still q.second_still;
 }
 
 -- a lane's events were noted, and are none but reads
@@ -103,25 +125,29 @@ module _ {L M : Type 0} (seen_a : L → Option (List Event)) (faults_a : L → �
   pub follows_absorb : (reads : List Event) (first : L) (second : M) (a c b d : Disk) → changes reads ≡ [] → TellsReads reads (seen_a first) → OnlyReads (seen_b second) → IsAbsorbed seen_a faults_a first a c → IsAbsorbed seen_b faults_b second b d → Follows reads a c b d
   follows_absorb reads first second a c b d none one two back again =
       let s = lane_row (seen_b second) b.seen d.seen two again.seen in
-      record { own = s.0; first = lane_reads reads (seen_a first) a.seen c.seen one back.seen; second = s.1; same = s.2 ∙ sym none }
+      record { own = s.0; first = lane_reads reads (seen_a first) a.seen c.seen one back.seen; second = s.1; same = s.2 ∙ sym none; first_still = still_by a c back.goes; second_still = still_by b d again.goes }
 
   pub follows_lane : {S T : Type 0} {ga : Ghosts S L} {gb : Ghosts T M} (one : S → Disk) (two : T → Disk) (a c : S) (b d : T) (result : Result (MirrorLane S T L M ga gb) Failed) → AreLanesMade seen_a faults_a seen_b faults_b one two a c b d result → Follows [] (one a) (one c) (two b) (two d)
-  follows_lane one two a c b d (Ok lane) made = record { own = []; first = made.0.seen; second = made.1.seen; same = refl }
+  follows_lane one two a c b d (Ok lane) made = record { own = []; first = made.0.seen; second = made.1.seen; same = refl; first_still = still_by (one a) (one c) made.0.goes; second_still = still_by (two b) (two d) made.1.goes }
   follows_lane one two a c b d (Err e) (inl refused) = record {
     own = [];
     first = refused.0.seen;
     second = subst (λ (t : _). Notes [] (two b).seen (two t).seen) (sym refused.1) (none_noted (two b).seen);
     same = refl;
+    first_still = still_by (one a) (one c) refused.0.goes;
+    second_still = subst (λ (t : _). TellsStill (two b) (two t)) (sym refused.1) (still_same (two b));
   }
   follows_lane one two a c b d (Err e) (inr had) = record {
     own = [];
     first = lane_noted [] (one a).seen (one had.0).seen (seen_a had.1) (seen_a had.1) (one c).seen had.2.fresh_seen had.2.seen (none_noted (seen_a had.1)) had.3.seen;
     second = had.4.seen;
     same = refl;
+    first_still = still_by (one a) (one c) (goes_then (one a) (one had.0) (one c) had.2.goes had.3.goes);
+    second_still = still_by (two b) (two d) had.4.goes;
   }
 
 pub follows_write : (cell : ℕ) (bytes : List ℕ) (result : Result (Unit {0}) Failed) (a c b d : Disk) → AreAsked (IsCellWritten cell bytes) a c b d result → Follows (Write cell ∷ []) a c b d
-follows_write cell bytes result a c b d asked = record { own = Write cell ∷ []; first = asked.first.seen; second = asked.second.seen; same = refl }
+follows_write cell bytes result a c b d asked = record { own = Write cell ∷ []; first = asked.first.seen; second = asked.second.seen; same = refl; first_still = still_by a c asked.first.serves.goes; second_still = still_by b d asked.second.serves.goes }
 
 pub follows_sync : (result : Result (Unit {0}) Failed) (a c b d : Disk) → AreAsked IsMadeSure a c b d result → Follows (Sync ∷ []) a c b d
-follows_sync result a c b d asked = record { own = Sync ∷ []; first = asked.first.seen; second = asked.second.seen; same = refl }
+follows_sync result a c b d asked = record { own = Sync ∷ []; first = asked.first.seen; second = asked.second.seen; same = refl; first_still = still_by a c asked.first.serves.goes; second_still = still_by b d asked.second.serves.goes }

@@ -26,7 +26,7 @@ use Rattle.ob_lanes.specs.Shares.{RiseFrom}
 use Rattle.ob_mirror.specs.declared.lane.MirrorLane.{MirrorLane}
 use Rattle.ob_mirror.specs.declared.lane.SecondLane.{SecondLane}
 use Rattle.ob_mirror.specs.Both.{saturating_sum}
-use Rattle.ob_mirror.specs.Mirrored.{Agree, mirrored}
+use Rattle.ob_mirror.specs.Mirrored.{Agree, Together, mirrored}
 use Rattle.ob_mirror.specs.Reading.{AreMended, IsHandReadOfEither, IsMended, IsParted, IsPlaceMended, IsPlaceReadOfEither, HasPlacesOfJobs, TellLanes, TellPlaces, is_refused, with_refusals}
 use Rattle.ob_mirror.proofs.Tells.{part_read}
 
@@ -89,9 +89,9 @@ same_places (x ∷ xs) [] many each = absurd (omega (arith, many))
 same_places (x ∷ xs) (y ∷ ys) many each =
     ap (λ (p : ℕ). p ∷ slot_places ys) (each zero (omega arith)) ∙ ap (λ (ps : List ℕ). x.place ∷ ps) (same_places xs ys (omega (arith, many)) (λ i lt. each (suc i) (omega (arith, lt))))
 
-module _ (x y : GName) (together : Type 0) (made : List Event) (failed : ℕ) (a b : Disk) (agree : Agree together a b) where
+module _ (x y : GName) (apart : Bool) (a0 b0 : Disk) (made : List Event) (failed : ℕ) (a b : Disk) (agree : Agree (Together apart a0 b0) a b) where
   abbrev both_halves : Disk
-  both_halves = mirrored x y together made failed a b
+  both_halves = mirrored x y apart a0 b0 made failed a b
 
   -- what the second half gave of a job is what the mirror's cells give, and so what the first gave
   second_value : (keys : Keys) (before now : ℕ) (job : Job) (slot : Slot) → IsSlotRead keys b before now job slot → both_halves.tells → IsJobRead keys a.cells job slot.outcome

@@ -7,7 +7,6 @@ use Rattle.ob_store.specs.declared.event.Event.{Event}
 use Rattle.ob_store.specs.declared.event.Event.TheVariants.{Read}
 use Rattle.ob_store.specs.Disk.{Disk}
 use Rattle.ob_store.specs.Calls.{GoesOn, IsFreshLane, Keeps, Notes, TellsNone}
-use Rattle.ob_store.proofs.Events.{joined, none_noted}
 use Rattle.ob_store.proofs.Lanes.{fresh_tells_none}
 use Rattle.ob_lanes.specs.declared.hand.Hand.{Hand}
 use Rattle.ob_lanes.specs.declared.hand.SealedJobs.{SealedJobs}
@@ -18,8 +17,8 @@ use Rattle.ob_mirror.specs.declared.lane.SecondLane.{SecondLane}
 use Rattle.ob_mirror.specs.Asked.{IsAbsorbed}
 use Rattle.ob_mirror.specs.Mirrored.{Agree}
 use Rattle.ob_mirror.specs.Reading.{LaneTellsPart, TellPlaces}
-use Rattle.ob_mirror.specs.Telling.{Follows, LaneTells, OnlyReads, TellsReads, changes}
-use Rattle.ob_mirror.proofs.Alone.{changes_join, follows_absorb, follows_then}
+use Rattle.ob_mirror.specs.Telling.{Follows, LaneTells, OnlyReads, TellsReads, TellsStill, changes}
+use Rattle.ob_mirror.proofs.Alone.{changes_join, follows_absorb, follows_none, follows_then}
 
 -- ---- lanes
 
@@ -100,13 +99,19 @@ agree_still together a c b d agree goes keeps goes' keeps' = λ is one two k.
     let told' = goes'.told two in
     keeps'.cells told' k ∙ agree is told told' k ∙ sym (keeps.cells told k)
 
+-- no call so far
+pub follows_begun : {A B : Type 0} (one : A → Disk) (two : B → Disk) (now : List Event) (then a : A) (then' b : B) → now ≡ [] → then ≡ a → then' ≡ b → ∥ Follows now (one then) (one a) (two then') (two b) ∥₁
+follows_begun one two now then a then' b is first second = merely (
+    subst (λ (es : List Event). Follows es (one then) (one a) (two then') (two b)) (sym is)
+    (subst (λ (x : _). Follows [] (one x) (one a) (two then') (two b)) (sym first) (subst (λ (y : _). Follows [] (one a) (one a) (two y) (two b)) (sym second) (follows_none (one a) (two b)))))
+
 -- calls more
 pub follows_on : (made more now : List Event) (a c e b d f : Disk) → now ≡ made ++ more → ∥ Follows made a c b d ∥₁ → Follows more c e d f → ∥ Follows now a e b f ∥₁
 follows_on made more now a c e b d f is kept on = ∥∥₁_map kept (λ was. subst (λ (es : List Event). Follows es a e b f) (sym is) (follows_then made more a c e b d f was on))
 
 -- calls that none is told of
-pub follows_still : (made : List Event) (a c e b d f : Disk) → Notes [] c.seen e.seen → Notes [] d.seen f.seen → ∥ Follows made a c b d ∥₁ → ∥ Follows made a e b f ∥₁
-follows_still made a c e b d f one two kept = follows_on made [] made a c e b d f (sym (append-nil made)) kept (record { own = []; first = one; second = two; same = refl })
+pub follows_still : (made : List Event) (a c e b d f : Disk) → Notes [] c.seen e.seen → TellsStill c e → Notes [] d.seen f.seen → TellsStill d f → ∥ Follows made a c b d ∥₁ → ∥ Follows made a e b f ∥₁
+follows_still made a c e b d f one still two still' kept = follows_on made [] made a c e b d f (sym (append-nil made)) kept (record { own = []; first = one; second = two; same = refl; first_still = still; second_still = still' })
 
 -- lanes that are given back
 pub follows_back : {L M : Type 0} (seen_a : L → Option (List Event)) (faults_a : L → ℕ) (seen_b : M → Option (List Event)) (faults_b : M → ℕ) (reads made now : List Event) (first : L) (second : M) (a c e b d f : Disk) → now ≡ made ++ reads → ∥ Follows made a c b d ∥₁

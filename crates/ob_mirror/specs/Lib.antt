@@ -1,5 +1,6 @@
 pub mod Mirrored
 pub mod Telling
+pub mod Begun
 pub mod Laws
 pub mod Asked
 pub mod Both

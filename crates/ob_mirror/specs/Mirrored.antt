@@ -3,6 +3,7 @@ use Rattle.std.specs.Prelude.{◌≡◌, ◌⊎◌, ℕ, ◌+◌, ◌-◌, ◌*�
 use Rattle.std.specs.Borrow.{GName}
 use Rattle.ob_store.specs.declared.event.Event.{Event}
 use Rattle.ob_store.specs.Disk.{Clock, Disk}
+use Rattle.ob_mirror.specs.Begun.{half_before}
 
 -- the second half reads as the first
 abbrev pub Alike : Disk → Disk → Type 0
@@ -28,10 +29,11 @@ odd_moments t part = t (2 * part + 1)
 
 -- Cells are told where both halves tell them and are together; what a crash leaves is what it leaves of either; the moments are
 -- those of both. The calls are the mirror's own, whatever its halves tell of theirs, and its faults are those calls that it refused:
--- a read that the first half refused and the second served is none.
-abbrev pub mirrored : GName → GName → Type 0 → (made : List Event) → (failed : ℕ) → Disk → Disk → Disk
-mirrored x y together made failed a b = record {
-  tells = together × a.tells × b.tells;
+-- a read that the first half refused and the second served is none. Beside the references of both stands what they had told of their
+-- calls when they were put together, so that who made the mirror knows that again too.
+abbrev pub mirrored : GName → GName → Bool → (first second : Disk) → (made : List Event) → (failed : ℕ) → Disk → Disk → Disk
+mirrored x y apart first second made failed a b = record {
+  tells = Together apart first second × a.tells × b.tells;
   cells = a.cells;
   leaves = a.leaves × b.leaves;
   may_leave = λ c. a.may_leave c ⊎ b.may_leave c;
@@ -40,5 +42,5 @@ mirrored x y together made failed a b = record {
   seen = Some made;
   out = a.out + (b.out - a.out);
   faults = failed;
-  anchors = x ∷ y ∷ (a.anchors ++ b.anchors);
+  anchors = x ∷ y ∷ half_before first (half_before second (a.anchors ++ b.anchors));
 }

@@ -128,7 +128,7 @@ impl<'a, A: Store, B: Store> Halves<'a, A, B> {
 impl<'a, A: Store, B: Store> Store for Halves<'a, A, B> {
     type Lane = MirrorLane<A, B>;
 
-    ghost disk = { λ m. mirrored m.first.ghost_name m.second.ghost_name (Together m.apart (A.disk m.first_then.value) (B.disk m.second_then.value)) m.made.events m.failed (A.disk m.first.now) (B.disk m.second.now) };
+    ghost disk = { λ m. mirrored m.first.ghost_name m.second.ghost_name m.apart (A.disk m.first_then.value) (B.disk m.second_then.value) m.made.events m.failed (A.disk m.first.now) (B.disk m.second.now) };
 
     ghost lane_faults = { λ lane. lane.second.failed };
 

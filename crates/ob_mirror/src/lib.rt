@@ -17,4 +17,4 @@ pub use log::Log;
 pub use mirror::Mirror;
 pub use places::Places;
 pub use reading::read_cells;
-pub use standing::{halves_follow, halves_stand};
+pub use standing::{halves_are_asked, halves_follow, halves_stand};

@@ -1,6 +1,7 @@
 //! The laws of a mirror: each half stands alone.
 
 ghost use Rattle.ob_mirror.specs.Standing.{EachStands, HalvesFollow};
+ghost use Rattle.ob_mirror.specs.Telling.{Follows};
 
 use crate::mirror::Mirror;
 use ob_store::Store;
@@ -14,6 +15,17 @@ pub fn halves_stand<'a, A: Store, B: Store>(old: &Mirror<'a, A, B>, new: &Mirror
 {
     let _ = old;
     let _ = new;
+}
+
+/// Of any mirror, from when its halves were put together on: the first was asked for just what the
+/// mirror's log has, and the second to write and to sync what the first was, in the same order, and
+/// for reads beside. Neither's count of faults has fallen.
+pub fn halves_are_asked<'a, A: Store, B: Store>(mirror: &Mirror<'a, A, B>)
+    ensures { Follows mirror.now.halves.made.events (A.disk mirror.now.halves.first_then.value)
+        (A.disk mirror.now.halves.first.now) (B.disk mirror.now.halves.second_then.value)
+        (B.disk mirror.now.halves.second.now) }
+{
+    let _ = mirror;
 }
 
 /// From call to call of a mirror the second half was asked for the writes and syncs that the first

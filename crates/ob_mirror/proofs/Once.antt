@@ -1,0 +1,130 @@
+-- What is merely known of the halves' events is known of them: it can be so in one way.
+use Rattle.std.proofs.Common.{◌≡◌, ◌≤◌, ℕ, zero, suc, List, [], ◌∷◌, ◌++◌, Option, Some, None, Bool, length, drop, refl, sym, ◌∙◌, ap, subst}
+use Rattle.std.specs.Coded.{Coded, Coded-set, code_by, coded×, coded_list, coded_ℕ, le_prop, Unit-prop}
+use Rattle.std.proofs.Math.Logic.{∥∥₁_elim, ∥∥₁_map}
+use Rattle.std.proofs.Math.Seq.{drop-append_seam}
+use Rattle.ob_store.specs.declared.event.Event.{Event}
+use Rattle.ob_store.specs.declared.event.Event.TheVariants.{Read, Write, Sync}
+use Rattle.ob_store.specs.Disk.{Disk}
+use Rattle.ob_store.specs.Calls.{Notes, TellsOn}
+use Rattle.ob_mirror.specs.Begun.{cell_of, events_before, half_before, kind_of, told_before}
+use Rattle.ob_mirror.specs.Telling.{Follows, TellsStill, changes}
+
+-- ---- events as numbers
+
+abbrev event_of : ℕ × ℕ → Event
+event_of (suc zero, cell) = Read cell
+event_of (suc (suc zero), cell) = Write cell
+event_of (kind, cell) = Sync
+
+of_event : (event : Event) → event_of (kind_of event, cell_of event) ≡ event
+of_event (Read cell) = refl
+of_event (Write cell) = refl
+of_event Sync = refl
+
+events_code : Coded (List Event)
+events_code = coded_list (code_by (ℕ × ℕ) (coded× coded_ℕ coded_ℕ) (λ event. (kind_of event, cell_of event)) event_of of_event)
+
+same_event : (x y : Event) → kind_of x ≡ kind_of y → cell_of x ≡ cell_of y → x ≡ y
+same_event x y kind cell = sym (of_event x) ∙ ap (λ (k : ℕ). event_of (k, cell_of x)) kind ∙ ap (λ (c : ℕ). event_of (kind_of y, c)) cell ∙ of_event y
+
+heads : {A : Type 0} (x y : A) (xs ys : List A) → x ∷ xs ≡ y ∷ ys → x ≡ y
+heads x y xs ys is = cc is
+
+tails : {A : Type 0} (x y : A) (xs ys : List A) → x ∷ xs ≡ y ∷ ys → xs ≡ ys
+tails x y xs ys is = cc is
+
+no_kind : (event : Event) → 0 ≡ kind_of event → ⊥
+no_kind (Read cell) is = cc is
+no_kind (Write cell) is = cc is
+no_kind Sync is = cc is
+
+events_are : (xs ys : List Event) (s t : List ℕ) → events_before xs s ≡ events_before ys t → (xs ≡ ys) × (s ≡ t)
+events_are [] [] s t is = (refl, tails 0 0 s t is)
+events_are [] (y ∷ ys) s t is = absurd (no_kind y (heads 0 (kind_of y) s (cell_of y ∷ events_before ys t) is))
+events_are (x ∷ xs) [] s t is = absurd (no_kind x (sym (heads (kind_of x) 0 (cell_of x ∷ events_before xs s) t is)))
+events_are (x ∷ xs) (y ∷ ys) s t is =
+    let kind = heads (kind_of x) (kind_of y) (cell_of x ∷ events_before xs s) (cell_of y ∷ events_before ys t) is in
+    let more = tails (kind_of x) (kind_of y) (cell_of x ∷ events_before xs s) (cell_of y ∷ events_before ys t) is in
+    let cell = heads (cell_of x) (cell_of y) (events_before xs s) (events_before ys t) more in
+    let rest = events_are xs ys s t (tails (cell_of x) (cell_of y) (events_before xs s) (events_before ys t) more) in
+    (ap (λ (e : Event). e ∷ xs) (same_event x y kind cell) ∙ ap (λ (es : List Event). y ∷ es) rest.0, rest.1)
+
+told_are : (a b : Option (List Event)) (s t : List ℕ) → told_before a s ≡ told_before b t → (a ≡ b) × (s ≡ t)
+told_are None None s t is = (refl, tails 0 0 s t is)
+told_are None (Some b) s t is = absurd (let wrong : 0 ≡ 1 = heads 0 1 s (events_before b t) is in cc wrong)
+told_are (Some a) None s t is = absurd (let wrong : 1 ≡ 0 = heads 1 0 (events_before a s) t is in cc wrong)
+told_are (Some a) (Some b) s t is =
+    let both = events_are a b s t (tails 1 1 (events_before a s) (events_before b t) is) in
+    (ap (λ (es : List Event). Some es) both.0, both.1)
+
+pub half_is : (a b : Disk) (s t : List ℕ) → half_before a s ≡ half_before b t → (a.faults ≡ b.faults) × (a.seen ≡ b.seen) × (s ≡ t)
+half_is a b s t is =
+    let told = told_are a.seen b.seen s t (tails a.faults b.faults (told_before a.seen s) (told_before b.seen t) is) in
+    (heads a.faults b.faults (told_before a.seen s) (told_before b.seen t) is, told.0, told.1)
+
+-- ---- what is merely known
+
+still_once : (a b : Disk) → ∥ TellsStill a b ∥₁ → TellsStill a b
+still_once a b kept = record { faults = ∥∥₁_elim kept le_prop (λ k. k.faults); seen = ∥∥₁_elim kept (on_once a.seen b.seen a.faults b.faults) (λ k. k.seen) }
+  where
+    on_once : (s n : Option (List Event)) (k l : ℕ) → IsProp (TellsOn s n k l)
+    on_once (Some s) None k l = le_prop
+    on_once (Some s) (Some n) k l = Unit-prop
+    on_once None None k l = Unit-prop
+    on_once None (Some n) k l = λ x y. absurd x
+
+notes_once : (events : List Event) (old new : Option (List Event)) → IsProp (Notes events old new)
+notes_once events old None = Unit-prop
+notes_once events (Some old) (Some new) = Coded-set events_code new (old ++ events)
+notes_once events None (Some new) = λ x y. absurd x
+
+record Own (made : List Event) (old new : Option (List Event)) : Type 0 where
+  own : List Event
+  noted : Notes own old new
+  same : changes own ≡ changes made
+
+own_once : (made : List Event) (old new : Option (List Event)) → ∥ Own made old new ∥₁ → Own made old new
+own_once made old None kept = record { own = made; noted = tt; same = refl }
+own_once made (Some old) (Some new) kept =
+    let behind = drop (length old) new in
+    let is : (k : Own made (Some old) (Some new)) → behind ≡ k.own = (λ k. ap (drop (length old)) k.noted ∙ drop-append_seam old k.own) in
+    record {
+      own = behind;
+      noted = ∥∥₁_elim kept (Coded-set events_code new (old ++ behind)) (λ k. k.noted ∙ ap (λ (es : List Event). old ++ es) (sym (is k)));
+      same = ∥∥₁_elim kept (Coded-set events_code (changes behind) (changes made)) (λ k. ap changes (is k) ∙ k.same);
+    }
+own_once made None (Some new) kept = absurd (∥∥₁_elim kept (λ x y. absurd x) (λ k. k.noted))
+
+pub follows_once : (made : List Event) (a c b d : Disk) → ∥ Follows made a c b d ∥₁ → Follows made a c b d
+follows_once made a c b d kept =
+    let own = own_once made b.seen d.seen (∥∥₁_map kept (λ k. record { own = k.own; noted = k.second; same = k.same })) in
+    record {
+      own = own.own;
+      first = ∥∥₁_elim kept (notes_once made a.seen c.seen) (λ k. k.first);
+      second = own.noted;
+      same = own.same;
+      first_still = still_once a c (∥∥₁_map kept (λ k. k.first_still));
+      second_still = still_once b d (∥∥₁_map kept (λ k. k.second_still));
+    }
+
+-- ---- halves that had told as much when they were put together
+
+still_from : (a e c : Disk) → a.faults ≡ e.faults → a.seen ≡ e.seen → TellsStill a c → TellsStill e c
+still_from a e c faults seen still = record {
+  faults = subst (λ (n : ℕ). n ≤ c.faults) faults still.faults;
+  seen = subst (λ (s : Option (List Event)). TellsOn s c.seen e.faults c.faults) seen (subst (λ (n : ℕ). TellsOn a.seen c.seen n c.faults) faults still.seen);
+}
+
+pub follows_from : (made : List Event) (a e c b f d : Disk) (s t : List ℕ) → half_before a (half_before b s) ≡ half_before e (half_before f t) → Follows made a c b d → Follows made e c f d
+follows_from made a e c b f d s t is follows =
+    let one = half_is a e (half_before b s) (half_before f t) is in
+    let two = half_is b f s t one.2 in
+    record {
+      own = follows.own;
+      first = subst (λ (x : Option (List Event)). Notes made x c.seen) one.1 follows.first;
+      second = subst (λ (x : Option (List Event)). Notes follows.own x d.seen) two.1 follows.second;
+      same = follows.same;
+      first_still = still_from a e c one.0 one.1 follows.first_still;
+      second_still = still_from b f d two.0 two.1 follows.second_still;
+    }
