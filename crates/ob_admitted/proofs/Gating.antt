@@ -56,7 +56,7 @@ use Rattle.ob_admitted.specs.Wholes.{found_of_life}
 abbrev pub IsPlace : ℕ → Type 0
 IsPlace m = (m ≡ 0) ⊎ (m ≡ 1)
 
-two_places : (n : ℕ) → IsPlace (n % 2)
+pub two_places : (n : ℕ) → IsPlace (n % 2)
 two_places n = ⊎_elim (λ e. inl e) (λ ne. inr (omega arith)) (cases_eq (n % 2) 0)
 
 or_false : (b : Bool) → (b || false) ≡ b
@@ -72,11 +72,11 @@ marked_epoch gates m (inl is) = subst (λ (n : ℕ). gates_open gates (5 + 2 * n
 marked_epoch gates m (inr is) = subst (λ (n : ℕ). gates_open gates (5 + 2 * n + 1) ≡ is_marked gates.epoch n) (sym is) refl
 
 -- it is known to be open just where it is
-marked_open : (known : Open) (first : ℕ) (image : Image) (m : ℕ) → IsPlace m → GatesAre known first image → is_marked known m ≡ true → IsOpen first image m
+pub marked_open : (known : Open) (first : ℕ) (image : Image) (m : ℕ) → IsPlace m → GatesAre known first image → is_marked known m ≡ true → IsOpen first image m
 marked_open known first image m (inl is) are = subst (λ (n : ℕ). is_marked known n ≡ true → IsOpen first image n) (sym is) (are.zero).0
 marked_open known first image m (inr is) are = subst (λ (n : ℕ). is_marked known n ≡ true → IsOpen first image n) (sym is) (are.one).0
 
-open_marked : (known : Open) (first : ℕ) (image : Image) (m : ℕ) → IsPlace m → GatesAre known first image → IsOpen first image m → is_marked known m ≡ true
+pub open_marked : (known : Open) (first : ℕ) (image : Image) (m : ℕ) → IsPlace m → GatesAre known first image → IsOpen first image m → is_marked known m ≡ true
 open_marked known first image m (inl is) are = subst (λ (n : ℕ). IsOpen first image n → is_marked known n ≡ true) (sym is) (are.zero).1
 open_marked known first image m (inr is) are = subst (λ (n : ℕ). IsOpen first image n → is_marked known n ≡ true) (sym is) (are.one).1
 
@@ -104,19 +104,19 @@ number_plain n tag small =
     ∙ ap (λ (l : List ℕ). from_le_bytes w64 l) (take_at (to_le_bytes w64 n) (replicate 104 0 ++ tag) 8 refl)
     ∙ from_le_bytes-to_le_bytes_8 n (omega arith)
 
-module _ (tag : Tagging) (e : ℕ) (cells image : Image) (stood : StandsAt tag 5 cells e) where
+module _ (tag : Tagging) (first e : ℕ) (cells image : Image) (stood : StandsAt tag first cells e) where
   -- where the image stands at the number before, the gate isn't open over the next one's body
-  shut_over : StandsAt tag 5 image e → image (body_at 5 (suc e % 2)) ≡ body_of tag (body_at 5 (suc e % 2)) (suc e) → IsOpen 5 image (suc e % 2) → ⊥
+  shut_over : StandsAt tag first image e → image (body_at first (suc e % 2)) ≡ body_of tag (body_at first (suc e % 2)) (suc e) → IsOpen first image (suc e % 2) → ⊥
   shut_over stands body opened =
       let small = stood.small in
       let place : (e + 1) % 2 ≡ suc e % 2 = omega arith in
-      let under = subst (λ (m : ℕ). IsOpen 5 image m → number_at 5 image m ≤ e) place (λ now. (stands.other now).1) opened in
-      let is : number_at 5 image (suc e % 2) ≡ suc e = ap number_of body ∙ number_plain (suc e) (tag (body_at 5 (suc e % 2)) (plain_of (suc e))) (omega (arith, small)) in
+      let under = subst (λ (m : ℕ). IsOpen first image m → number_at first image m ≤ e) place (λ now. (stands.other now).1) opened in
+      let is : number_at first image (suc e % 2) ≡ suc e = ap number_of body ∙ number_plain (suc e) (tag (body_at first (suc e % 2)) (plain_of (suc e))) (omega (arith, small)) in
       omega (arith, under, is)
 
   -- the gate of the end's place, by how many of its notes lack
-  place_found : (lacking : ℕ) (was found : Bool) → 0 < lacking → (was ≡ true → IsOpen 5 cells (suc e % 2)) → (IsOpen 5 cells (suc e % 2) → was ≡ true) → (found ≡ true → IsOpen 5 image (suc e % 2)) → (IsOpen 5 image (suc e % 2) → found ≡ true)
-      → StandsAt tag 5 image e → IsPlaceLeft tag 5 (suc e) cells lacking image → IsGateLeft was lacking found
+  pub place_found : (lacking : ℕ) (was found : Bool) → 0 < lacking → (was ≡ true → IsOpen first cells (suc e % 2)) → (IsOpen first cells (suc e % 2) → was ≡ true) → (found ≡ true → IsOpen first image (suc e % 2)) → (IsOpen first image (suc e % 2) → found ≡ true)
+      → StandsAt tag first image e → IsPlaceLeft tag first (suc e) cells lacking image → IsGateLeft was lacking found
   place_found zero was found some a b x y stands left = absurd (omega (arith, some))
   place_found (suc zero) was found some a b x y stands left = not_true found (λ opened. shut_over stands left (x opened))
   place_found (suc (suc zero)) was found some a b x y stands left = not_true found (λ opened. left (x opened))
@@ -192,7 +192,7 @@ module _ {V S : Type 0} (k : Kind V) (disk : S → Disk) (runs : V → Running S
           let before : (e + 1) % 2 ≡ suc e % 2 = omega arith in
           let own : gates_open gates (gate_cell p EpochTwin (s.epoch + 1)) ≡ is_marked gates.epoch (suc e % 2) = epoch_is ∙ ap (λ (x : ℕ). is_marked gates.epoch x) then in
           let was : q.known.gates (gate_cell p EpochTwin (e + 1)) ≡ is_marked (run.gates).epoch (suc e % 2) = was_is ∙ ap (λ (x : ℕ). is_marked (run.gates).epoch x) before in
-          place_found (tagging (run.sealer).keys) e cells image stood lacking (q.known.gates (gate_cell p EpochTwin (e + 1))) (gates_open gates (gate_cell p EpochTwin (s.epoch + 1))) some
+          place_found (tagging (run.sealer).keys) 5 e cells image stood lacking (q.known.gates (gate_cell p EpochTwin (e + 1))) (gates_open gates (gate_cell p EpochTwin (s.epoch + 1))) some
           (λ is. marked_open (run.gates).epoch 5 cells (suc e % 2) (two_places (suc e)) knows.epoch (sym was ∙ is)) (λ opened. was ∙ open_marked (run.gates).epoch 5 cells (suc e % 2) (two_places (suc e)) knows.epoch opened)
           (λ is. marked_open gates.epoch 5 image (suc e % 2) (two_places (suc e)) found.epoch (sym own ∙ is)) (λ opened. own ∙ open_marked gates.epoch 5 image (suc e % 2) (two_places (suc e)) found.epoch opened)
           here_at left.place

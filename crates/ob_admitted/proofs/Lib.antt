@@ -21,3 +21,7 @@ pub mod Walks
 pub mod Openings
 pub mod Noting
 pub mod Gating
+pub mod Stopped
+pub mod Going
+pub mod Begun
+pub mod Along

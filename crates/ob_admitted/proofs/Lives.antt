@@ -29,7 +29,7 @@ use Rattle.ob_admitted.proofs.Serving.{served}
 use Rattle.ob_admitted.proofs.Stopping.{openings_leave, repeats_leave}
 use Rattle.ob_admitted.proofs.Wholes.{runs_show}
 
-take_front : {X : Type 0} (n : ℕ) (xs ys : List X) → n ≤ length xs → take n (xs ++ ys) ≡ take n xs
+pub take_front : {X : Type 0} (n : ℕ) (xs ys : List X) → n ≤ length xs → take n (xs ++ ys) ≡ take n xs
 take_front zero xs ys few = refl
 take_front (suc n) [] ys few = absurd (omega (arith, few))
 take_front {X} (suc n) (x ∷ xs) ys few = ap (λ (zs : List X). x ∷ zs) (take_front n xs ys (omega (arith, few)))
@@ -84,7 +84,7 @@ module _ (p : Params) (word_of : WordId → ℕ) (slot : ℕ → ℕ → ℕ) (f
   At before = reached p word_of (formatted_life slot) before
 
   -- a run's notes are shown, and whatever may be found behind it is left
-  abbrev Shown : (before : List LifeAct) (found : ℕ → Bool) (notes : List Note) → (Left : List LifeAct → (ℕ → Bool) → Type 0) → Type 0
+  abbrev pub Shown : (before : List LifeAct) (found : ℕ → Bool) (notes : List Note) → (Left : List LifeAct → (ℕ → Bool) → Type 0) → Type 0
   Shown before found notes Left = (one : IsRunShown p f (At before) found notes) × ((acts : List LifeAct) (next : ℕ → Bool) → Left acts next → LeavesFound p f one.run (found_of_life p (reached p word_of (At before) acts) next))
 
   by_settled : (b : Bool) (run : HistoryRun) (x y : RunFound) → (IsOpeningFoundAsShown p f x run.shown y → MayFind p f (Some run) y) → cond b (IsOpeningFoundAsShown p f x run.shown y) (y ≡ x) → cond b (MayFind p f (Some run) y) (y ≡ x)
@@ -150,7 +150,7 @@ module _ (p : Params) (word_of : WordId → ℕ) (slot : ℕ → ℕ → ℕ) (f
     again : Shown before found notes Left
     again = (let front = by_length (front_cases is.count opening turns) in within front.0 front.1)
 
-  one_run : (before : List LifeAct) (found : ℕ → Bool) (notes : List Note) → IsLifeFilled p word_of slot f before → (run : IsRunInRow p word_of f (At before) found notes) → Shown before found notes (λ acts next. IsLeftInRow p word_of f (At before) found notes run acts next)
+  pub one_run : (before : List LifeAct) (found : ℕ → Bool) (notes : List Note) → IsLifeFilled p word_of slot f before → (run : IsRunInRow p word_of f (At before) found notes) → Shown before found notes (λ acts next. IsLeftInRow p word_of f (At before) found notes run acts next)
   one_run before found notes here (inl is) = served p word_of slot before f ranked here.life here.ends here.whole here.filled found notes is
   one_run before found notes here (inr (inl is)) = stopped before found notes here is
   one_run before found notes here (inr (inr is)) = again before found notes here is

@@ -19,7 +19,7 @@ use Rattle.ob_stand.specs.Stands.{RingStanding}
 use Rattle.ob_recover.proofs.Living.{lives_show_fills}
 use Rattle.ob_recover.specs.Calls.{repeated}
 use Rattle.ob_recover.specs.Known.{fills_of, gates_open, public_of_kept}
-use Rattle.ob_recover.specs.Life.{WordId, LabelFill, LifeBatch, LifeState, SlotFill, Open, ShowBatch, lift_slots, life_step, log_slots, planned_labels, planned_slots, reached, table_now}
+use Rattle.ob_recover.specs.Life.{WordId, LabelFill, LifeBatch, LifeState, SlotFill, Open, ShowBatch, lift_slots, life_slots, life_step, log_slots, planned_labels, planned_slots, reached, table_now}
 use Rattle.ob_recover.specs.LifePublic.{public_in}
 use Rattle.ob_recover.specs.Lives.{LifeShowsFills, life_batch}
 use Rattle.ob_opening.specs.OpeningActs.{notes_of_opening}
@@ -28,6 +28,7 @@ use Rattle.ob_vault.proofs.OpenedLife.{repeats_leaves, repeats_live, repeats_slo
 use Rattle.ob_histories.specs.Fills.{AllFills}
 use Rattle.ob_histories.specs.Runs.{opening_step}
 use Rattle.ob_admitted.specs.Fills.{FillsAll}
+use Rattle.ob_admitted.specs.Repeats.{begin_acts}
 use Rattle.ob_admitted.specs.Lives.{IsRepeatedRun, IsStoppedRun}
 use Rattle.ob_admitted.specs.Openings.{IsOpeningShown, OpeningsAreRuns}
 use Rattle.ob_admitted.specs.Wholes.{AreGatesKept, IsRunFilled, found_of_life, notes_of_run}
@@ -40,10 +41,10 @@ module _ (keys : Keys) (p : Params) (word_of : WordId → ℕ) (f : AllFills) (s
   abbrev begun : LifeState
   begun = life_step p word_of s (Open (suc s.generation))
 
-  abbrev found : ℕ → Bool
+  abbrev pub found : ℕ → Bool
   found = gates_open is.gates
 
-  abbrev fills : Fills
+  abbrev pub fills : Fills
   fills = fills_of p st.content st.records
 
   fit : RecordsFit p st.records
@@ -63,7 +64,7 @@ module _ (keys : Keys) (p : Params) (word_of : WordId → ℕ) (f : AllFills) (s
       (λ i u. sym (ap (λ (t : FlatTable). reads p t u) ((is.here).life).table ∙ reads_are_marks p st.content u (((is.here).stands).holds).obeys) i) (sym (ap (λ (t : FlatTable). t.counter) ((is.here).life).table))
       (ap suc (is.here).generation) (sym log_many)
 
-  all_notes : notes ≡ take is.count (notes_of_run p word_of s fills found found [])
+  pub all_notes : notes ≡ take is.count (notes_of_run p word_of s fills found found [])
   all_notes = is.notes_are ∙ (λ i. take is.count (head_notes ++ opening_is i)) ∙ ap (λ (ns : List Note). take is.count ns) (sym (append-nil (head_notes ++ open_notes p (public_in p word_of s found) fills found (suc s.generation) (length s.log))))
 
   -- ---- the gates, which are known as they are found
@@ -73,7 +74,7 @@ module _ (keys : Keys) (p : Params) (word_of : WordId → ℕ) (f : AllFills) (s
       marked is.gates (s.epoch % 2) (two_places s.epoch)
       ∙ open_marked (is.gates).epoch image (is.are).epoch (s.epoch % 2) (two_places s.epoch) (subst (λ (n : ℕ). IsOpen 5 image (n % 2)) (is.here).epoch (((is.here).stands).epoch).open_at)
 
-  kept : AreGatesKept p s.epoch found found
+  pub kept : AreGatesKept p s.epoch found found
   kept = record { durable = durable; next = refl }
 
   -- ---- its fills
@@ -88,8 +89,12 @@ module _ (keys : Keys) (p : Params) (word_of : WordId → ℕ) (f : AllFills) (s
       has_right s.past_slots (log_slots p word_of (s.epoch + 1) s.content (s.content).table s.log ++ cond s.lifting (lift_slots p word_of (s.epoch + 1) s.content (table_now p word_of s)) []) x
       (has_left (log_slots p word_of (s.epoch + 1) s.content (s.content).table s.log) (cond s.lifting (lift_slots p word_of (s.epoch + 1) s.content (table_now p word_of s)) []) x h)
 
-  module _ (filled : FillsAll p word_of f (planned_labels p word_of s) (planned_slots p word_of s)) where
-    run_filled : IsRunFilled p word_of f s fills [] [] []
+  -- so what is planned fills the opening
+  again_filled : FillsAll p word_of f (planned_labels p word_of s) (planned_slots p word_of s) → FillsAll p word_of f (planned_labels p word_of s) (life_slots p word_of s (begin_acts s (suc s.generation)))
+  again_filled filled = record { leaves = filled.leaves; slots_are = λ x h. filled.slots_are x (in_plan x (repeats_slots p word_of begun (length s.log) x h)) }
+
+  module _ (filled : FillsAll p word_of f (planned_labels p word_of s) (life_slots p word_of s (begin_acts s (suc s.generation)))) where
+    pub run_filled : IsRunFilled p word_of f s fills [] [] []
     run_filled = record {
       begins = (omega arith, repeats_live p word_of begun (length s.log) (omega arith));
       life = tt;
@@ -98,7 +103,7 @@ module _ (keys : Keys) (p : Params) (word_of : WordId → ℕ) (f : AllFills) (s
         labels = repeats_leaves p word_of fills begun (length s.log) (λ b lt. shows.labels b (let many = log_many in omega (arith, lt, many)));
         slots = λ x has. shows.slots x (repeats_slots p word_of begun (length s.log) x has);
       };
-      opening_slots = record { leaves = λ l h. absurd h; slots_are = λ x h. filled.slots_are x (in_plan x (repeats_slots p word_of begun (length s.log) x h)) };
+      opening_slots = record { leaves = λ l h. absurd h; slots_are = filled.slots_are };
       steps_are = tt;
       shown = refl;
       fills = record { leaves = λ l h. filled.leaves l (subst (λ (ls : List LabelFill). Has ls l) (planned_again begun (length s.log)) h); slots_are = λ x h. absurd h };
@@ -112,4 +117,4 @@ module _ (keys : Keys) (p : Params) (word_of : WordId → ℕ) (f : AllFills) (s
     opening_is_run = by_length (cases_lt is.count (length (opening_step p f false (found_of_life p s found))))
 
 pub openings_are : OpeningsAreRuns
-openings_are keys p word_of f s image notes is filled = opening_is_run keys p word_of f s image notes is filled
+openings_are keys p word_of f s image notes is filled = opening_is_run keys p word_of f s image notes is (again_filled keys p word_of f s image notes is filled)

@@ -2,7 +2,7 @@
 use Rattle.std.specs.Prelude.{◌≡◌, ◌⊎◌, ◌||◌, ◌≤◌, ℕ, ◌+◌, ◌*◌, ◌-◌, ◌%◌, Bool, true, false, List, [], ◌∷◌, ◌++◌, length, Option, None, Some}
 use Rattle.std.specs.List.{flat_map}
 use Rattle.std.specs.Ordering.{nat_cmp}
-use Rattle.std.proofs.Common.{suc, add-one, arith, length-append, refl, sym, ap, ◌∙◌, subst, inl, inr, ⊎_elim}
+use Rattle.std.proofs.Common.{suc, add-one, append_assoc, arith, length-append, refl, sym, ap, ◌∙◌, subst, inl, inr, ⊎_elim}
 use Rattle.std.proofs.lemmas.Bool.{cases_eq}
 use Rattle.std.proofs.lemmas.List.{append-nil, length-map}
 use Rattle.ob_base.specs.Layout.{EpochTwin}
@@ -50,7 +50,7 @@ use Rattle.ob_admitted.specs.Fills.{FillsAll}
 use Rattle.ob_admitted.specs.Gates.{IsGateFoundBy, LeavesGates, notes_lacking}
 use Rattle.ob_admitted.specs.Lives.{IsLifeFilled}
 use Rattle.ob_admitted.specs.Parts.{IsLeftAsShown, IsRefusedShown, IsServedShown, PartsAreRuns}
-use Rattle.ob_admitted.specs.Served.{IsRecordAlone, IsRefusedFilled, IsServedThen, notes_of_refused}
+use Rattle.ob_admitted.specs.Served.{IsRecordAlone, IsRefusedFilled, IsServedLeft, IsServedRun, IsServedThen, notes_of_refused}
 use Rattle.ob_admitted.specs.Told.{AreGatesLeft, AreGatesShown, IsRunNoted, record_row}
 use Rattle.ob_admitted.specs.Wholes.{AreGatesKept, IsRunFilled, found_of_life, notes_of_run}
 use Rattle.ob_admitted.proofs.Acts.{Sound, acts_left, batch_whole, calls_sound, slots_first, slots_last}
@@ -130,6 +130,27 @@ shown_behind p word_of (End writes ∷ calls) (step ∷ steps) q s acts same ste
     ∙ shown_behind p word_of calls steps (ring_next p q Ends step.1) e2 rest refl steps_are.1 behind
     ∙ ap (λ (xs : List LifeAct). length (reached p word_of s xs).log) (sym are)
 
+-- these fills are those that the acts show, and all that the epoch's attempts may label
+abbrev pub Filled : Params → (WordId → ℕ) → AllFills → LifeState → List LifeAct → Type 0
+Filled p word_of f s acts = FillsAll p word_of f (planned_labels p word_of (reached p word_of s acts)) (life_slots p word_of s acts)
+
+-- so it is of the first ones, and of the last
+pub filled_first : (p : Params) (word_of : WordId → ℕ) (f : AllFills) (s : LifeState) (xs ys : List LifeAct) → Filled p word_of f s (xs ++ ys) → Filled p word_of f s xs
+filled_first p word_of f s xs ys is = record {
+  leaves = λ l h. is.leaves l (subst (λ (u : LifeState). Has (planned_labels p word_of u) l) (sym (reached_join p word_of s xs ys)) (planned_lasts p word_of (reached p word_of s xs) ys l h));
+  slots_are = λ x h. is.slots_are x (slots_first p word_of s xs ys x h);
+}
+
+pub filled_last : (p : Params) (word_of : WordId → ℕ) (f : AllFills) (s : LifeState) (xs ys : List LifeAct) → Filled p word_of f s (xs ++ ys) → Filled p word_of f (reached p word_of s xs) ys
+filled_last p word_of f s xs ys is = record {
+  leaves = λ l h. is.leaves l (subst (λ (u : LifeState). Has (planned_labels p word_of u) l) (sym (reached_join p word_of s xs ys)) h);
+  slots_are = λ x h. is.slots_are x (slots_last p word_of s xs ys x h);
+}
+
+-- and without what was found behind them
+pub filled_made : (p : Params) (word_of : WordId → ℕ) (f : AllFills) (s : LifeState) (serves made rest acts : List LifeAct) → acts ≡ serves ++ (made ++ rest) → Filled p word_of f s acts → Filled p word_of f s (serves ++ made)
+filled_made p word_of f s serves made rest acts are filled = filled_first p word_of f s (serves ++ made) rest (subst (λ (xs : List LifeAct). Filled p word_of f s xs) (are ∙ sym (append_assoc serves made rest)) filled)
+
 module _ {S : Type 0} (disk : S → Disk) (keys : Keys) (p : Params) (word_of : WordId → ℕ) (slot : ℕ → ℕ → ℕ) (f : AllFills) (before : List LifeAct) (ranked : (u : ℕ) → IsRanking (width p) (slot u)) (here : IsLifeFilled p word_of slot f before)
     (most : ℕ) (old : S) (found : RingFound) (opened : S) (calls : List VaultCall) (steps : List (Shape × Fills)) (behind : RingHidden) (refused : Option VaultCall) (words : List ℕ) (seen : List Event) (new : S) where
   abbrev s : LifeState
@@ -183,7 +204,7 @@ module _ {S : Type 0} (disk : S → Disk) (keys : Keys) (p : Params) (word_of : 
         ∙ open_marked (((shown.found_in).found).gates).epoch (disk old).cells ((shown.found_in).found_in).epoch_gates (s.epoch % 2) (two_places s.epoch)
         (subst (λ (n : ℕ). IsOpen 5 (disk old).cells (n % 2)) stands.epoch ((stands.stands).epoch).open_at)
 
-    kept : AreGatesKept p s.epoch gates known
+    pub kept : AreGatesKept p s.epoch gates known
     kept = record { durable = durable; next = epoch_same (s.epoch + 1) }
 
     -- ---- the refused call's notes
@@ -202,13 +223,13 @@ module _ {S : Type 0} (disk : S → Disk) (keys : Keys) (p : Params) (word_of : 
     abbrev drawn : Fills
     drawn = drawn_of refused shown.refused_shown
 
-    all_notes : notes ≡ notes_of_run p word_of s (fills_of p found.content found.records) gates known steps ++ notes_of_refused p (public_of_calls p word_of s known steps) refused drawn (length shown.more)
+    pub all_notes : notes ≡ notes_of_run p word_of s (fills_of p found.content found.records) gates known steps ++ notes_of_refused p (public_of_calls p word_of s known steps) refused drawn (length shown.more)
     all_notes =
         shown.notes_are
         ∙ (λ i. (head_notes ++ opening_is i ++ steps_notes ring_kind p (public_is i) steps) ++ (notes_refused refused shown.refused_shown ∙ ap (λ (r : RingPublic). notes_of_refused p (public_behind ring_kind p r steps) refused drawn (length shown.more)) public_is) i)
 
-    module _ (run : Run) (m : Map nat_cmp) (is : IsRingMap keys p (disk opened) found m) (rest acts : List LifeAct) (finds : Finds ((run.goes).left m is).in_flight rest)
-        (acts_are : acts ≡ (opening_acts s ++ (run.goes).acts) ++ (((run.goes).left m is).made ++ rest)) (filled : FillsAll p word_of f (planned_labels p word_of (reached p word_of s acts)) (life_slots p word_of s acts)) where
+    module _ (run : Run) (m : Map nat_cmp) (is : IsRingMap keys p (disk opened) found m)
+        (filled : Filled p word_of f s ((opening_acts s ++ (run.goes).acts) ++ ((run.goes).left m is).made)) where
       abbrev t : LifeState
       t = life_behind_calls p word_of s (run.goes).acts
 
@@ -220,10 +241,11 @@ module _ {S : Type 0} (disk : S → Disk) (keys : Keys) (p : Params) (word_of : 
       there : (xs : List LifeAct) → reached p word_of s ((opening_acts s ++ (run.goes).acts) ++ xs) ≡ reached p word_of t xs
       there xs = reached_join p word_of s (opening_acts s ++ (run.goes).acts) xs ∙ ap (λ (u : LifeState). reached p word_of u xs) (reached_join p word_of s (opening_acts s) (run.goes).acts)
 
-      cut_fills : (first tail : List LifeAct) → ((run.goes).left m is).made ++ rest ≡ first ++ tail → FillsAll p word_of f (planned_labels p word_of (reached p word_of t first)) (life_slots p word_of t first)
+      cut_fills : (first tail : List LifeAct) → ((run.goes).left m is).made ≡ first ++ tail → Filled p word_of f t first
       cut_fills first tail split =
-          let all : acts ≡ (opening_acts s ++ (run.goes).acts) ++ (first ++ tail) = acts_are ∙ ap (λ (xs : List LifeAct). (opening_acts s ++ (run.goes).acts) ++ xs) split in
-          let end : reached p word_of s acts ≡ reached p word_of (reached p word_of t first) tail = ap (λ (xs : List LifeAct). reached p word_of s xs) all ∙ there (first ++ tail) ∙ reached_join p word_of t first tail in
+          let all : (opening_acts s ++ (run.goes).acts) ++ ((run.goes).left m is).made ≡ (opening_acts s ++ (run.goes).acts) ++ (first ++ tail) = ap (λ (xs : List LifeAct). (opening_acts s ++ (run.goes).acts) ++ xs) split in
+          let end : reached p word_of s ((opening_acts s ++ (run.goes).acts) ++ ((run.goes).left m is).made) ≡ reached p word_of (reached p word_of t first) tail =
+          ap (λ (xs : List LifeAct). reached p word_of s xs) all ∙ there (first ++ tail) ∙ reached_join p word_of t first tail in
           record {
             leaves = λ l h. filled.leaves l (subst (λ (u : LifeState). Has (planned_labels p word_of u) l) (sym end) (planned_lasts p word_of (reached p word_of t first) tail l h));
             slots_are = λ x h. filled.slots_are x (subst (λ (xs : List LifeAct). Has (life_slots p word_of s xs) x) (sym all)
@@ -231,13 +253,13 @@ module _ {S : Type 0} (disk : S → Disk) (keys : Keys) (p : Params) (word_of : 
                 (subst (λ (u : LifeState). Has (life_slots p word_of u (first ++ tail)) x) (sym (reached_join p word_of s (opening_acts s) (run.goes).acts)) (slots_first p word_of t first tail x h))));
           }
 
-      slots_before : (x : SlotFill) → Has (life_slots p word_of s (opening_acts s ++ (run.goes).acts)) x → Has (life_slots p word_of s acts) x
-      slots_before x h = subst (λ (xs : List LifeAct). Has (life_slots p word_of s xs) x) (sym acts_are) (slots_first p word_of s (opening_acts s ++ (run.goes).acts) (((run.goes).left m is).made ++ rest) x h)
+      slots_before : (x : SlotFill) → Has (life_slots p word_of s (opening_acts s ++ (run.goes).acts)) x → Has (life_slots p word_of s ((opening_acts s ++ (run.goes).acts) ++ ((run.goes).left m is).made)) x
+      slots_before x h = slots_first p word_of s (opening_acts s ++ (run.goes).acts) ((run.goes).left m is).made x h
 
       calls_are : Sound p word_of began (run.goes).acts
       calls_are = calls_sound p word_of calls steps began (run.goes).acts (o.then).begun (run.goes).shown
 
-      run_filled : IsRunFilled p word_of f s (fills_of p found.content found.records) calls steps (run.goes).acts
+      pub run_filled : IsRunFilled p word_of f s (fills_of p found.content found.records) calls steps (run.goes).acts
       run_filled = record {
         begins = o.is_life;
         life = (run.goes).is_life;
@@ -247,21 +269,24 @@ module _ {S : Type 0} (disk : S → Disk) (keys : Keys) (p : Params) (word_of : 
         steps_are = shown.steps_are;
         shown = (run.goes).shown;
         fills = record {
-          leaves = (cut_fills [] (((run.goes).left m is).made ++ rest) refl).leaves;
+          leaves = (cut_fills [] ((run.goes).left m is).made refl).leaves;
           slots_are = λ x h. filled.slots_are x (slots_before x (slots_last p word_of s (opening_acts s) (run.goes).acts x h));
         };
       }
 
       -- ---- the refused call's fills
 
-      module _ (alone : (asks : List (Option ℕ)) → refused ≡ Some (Fetch asks) → ((run.goes).left m is).made ≡ [] → IsRecordAlone p t (Fetch asks) (length shown.more)) where
+      abbrev pub IsAlone : Type 0
+      IsAlone = (asks : List (Option ℕ)) → refused ≡ Some (Fetch asks) → ((run.goes).left m is).made ≡ [] → IsRecordAlone p t (Fetch asks) (length shown.more)
+
+      module _ (alone : IsAlone) where
         batch_cut : (asks : List (Option ℕ)) (b : LifeBatch) (c : Fills) → b.asks ≡ asks → ((run.goes).left m is).made ≡ Append b ∷ ShowBatch ∷ [] → AreFilledBy p word_of t ((run.goes).left m is).made (Fetch asks) c → IsCutFilled p word_of f t (Fetch asks) c
         batch_cut asks b c asked made fills =
             let own : AreFilledBy p word_of t (Append b ∷ ShowBatch ∷ []) (Fetch asks) c = subst (λ (xs : List LifeAct). AreFilledBy p word_of t xs (Fetch asks) c) made fills in
             record {
               cut = record { acts = Append b ∷ ShowBatch ∷ []; shows = (b, asked, refl); is_life = subst (λ (xs : List LifeAct). IsLife p word_of t xs) made ((run.goes).left m is).is_life; filled = own };
               whole = (batch_whole p word_of t b asks c ((run.goes).then).begun own, tt);
-              fills = cut_fills (Append b ∷ ShowBatch ∷ []) rest (ap (λ (xs : List LifeAct). xs ++ rest) made);
+              fills = cut_fills (Append b ∷ ShowBatch ∷ []) [] made;
             }
 
         end_cut : (writes : List (ℕ × Option (List ℕ))) (tail : List LifeAct) (c : Fills) → ((run.goes).left m is).made ≡ ShowLifts ∷ tail → AreFilledBy p word_of t ((run.goes).left m is).made (End writes) c → IsCutFilled p word_of f t (End writes) c
@@ -273,7 +298,7 @@ module _ {S : Type 0} (disk : S → Disk) (keys : Keys) (p : Params) (word_of : 
             filled = record { labels = refl; slots = λ x h. fills.slots x (subst (λ (xs : List LifeAct). Has (life_slots p word_of t xs) x) (sym made) (slots_first p word_of t (ShowLifts ∷ []) tail x h)) };
           };
           whole = tt;
-          fills = cut_fills (ShowLifts ∷ []) (tail ++ rest) (ap (λ (xs : List LifeAct). xs ++ rest) made);
+          fills = cut_fills (ShowLifts ∷ []) tail made;
         }
 
         none_more : (asks : List (Option ℕ)) (b : LifeBatch) → ((run.goes).left m is).made ≡ Append b ∷ ShowBatch ∷ [] → shown.more ≡ [] → IsRecordAlone p t (Fetch asks) (length shown.more)
@@ -304,14 +329,14 @@ module _ {S : Type 0} (disk : S → Disk) (keys : Keys) (p : Params) (word_of : 
         end_by writes is_shown (inl (inr are, fills)) = end_cut writes [] is_shown.0 are (fills is_shown.0 (is_shown.2).0)
         end_by writes is_shown (inr (none, barely)) = absurd barely
 
-        refused_filled : (r : Option VaultCall) → refused ≡ r → (is_shown : IsRefusedShown most p q behind r words seen shown.more) → IsRefusedFilled p word_of f t r (drawn_of r is_shown) (length shown.more)
+        pub refused_filled : (r : Option VaultCall) → refused ≡ r → (is_shown : IsRefusedShown most p q behind r words seen shown.more) → IsRefusedFilled p word_of f t r (drawn_of r is_shown) (length shown.more)
         refused_filled None e is_shown = ap (λ (ns : List Note). length ns) is_shown
         refused_filled (Some (Fetch asks)) e is_shown = batch_by asks e is_shown (((run.goes).left m is).shown (Fetch asks) e)
         refused_filled (Some (End writes)) e is_shown = inl (end_by writes is_shown (((run.goes).left m is).shown (End writes) e))
 
-      pub part_is_run : (next : Option (ℕ → Bool)) → IsLeftAsShown p word_of f s t gates steps refused ((run.goes).left m is).made acts (length shown.more) next → IsServedThen p word_of f s gates next notes acts
-      part_is_run next told = (
-        record {
+        -- the run, whatever the next one finds
+        abbrev pub served_run : IsServedRun p word_of f s gates notes
+        served_run = record {
           opening = fills_of p found.content found.records;
           gates = known;
           calls = calls;
@@ -322,211 +347,218 @@ module _ {S : Type 0} (disk : S → Disk) (keys : Keys) (p : Params) (word_of : 
           count = length shown.more;
           kept = kept;
           filled = run_filled;
-          cut = refused_filled told.alone refused refl shown.refused_shown;
+          cut = refused_filled refused refl shown.refused_shown;
           shown = all_notes;
-        },
-        λ found_then is_next. record {
+        }
+
+      module _ (rest acts : List LifeAct) (finds : Finds ((run.goes).left m is).in_flight rest) (acts_are : acts ≡ (opening_acts s ++ (run.goes).acts) ++ (((run.goes).left m is).made ++ rest)) where
+        -- what it leaves to be found, with what the next one found of the act in flight
+        pub left_so : (alone : IsAlone) (next : Option (ℕ → Bool)) → IsLeftAsShown p word_of f s t gates steps refused ((run.goes).left m is).made acts (length shown.more) next
+            → (found_then : ℕ → Bool) → next ≡ Some found_then → IsServedLeft p word_of f s gates notes (served_run alone) acts found_then
+        left_so alone next told found_then is_next = record {
           more = ((run.goes).left m is).made ++ rest;
           left = acts_left refused ((run.goes).left m is).made rest ((run.goes).left m is).in_flight ((run.goes).left m is).first finds;
           acts_are = acts_are;
           stays = told.stays found_then is_next;
           as_shown = told.as_shown found_then is_next;
-        },
-      )
+        }
 
-      -- ---- by what its notes tell
+        pub part_is_run : (next : Option (ℕ → Bool)) → IsLeftAsShown p word_of f s t gates steps refused ((run.goes).left m is).made acts (length shown.more) next → IsServedThen p word_of f s gates next notes acts
+        part_is_run next told = (served_run told.alone, left_so told.alone next told)
 
-      abbrev made : List LifeAct
-      made = ((run.goes).left m is).made
+        -- ---- by what its notes tell
 
-      abbrev flies : Option LifeAct
-      flies = ((run.goes).left m is).in_flight
+        abbrev made : List LifeAct
+        made = ((run.goes).left m is).made
 
-      abbrev count : ℕ
-      count = length shown.more
+        abbrev flies : Option LifeAct
+        flies = ((run.goes).left m is).in_flight
 
-      abbrev Noted : (r : Option VaultCall) → IsRefusedShown most p q behind r words seen shown.more → Type 0
-      Noted r is_shown = IsRunNoted most p q behind r words seen shown.more is_shown made flies
+        abbrev count : ℕ
+        count = length shown.more
 
-      abbrev turn : HistoryTurn
-      turn = turn_of_run p s gates steps
+        abbrev Noted : (r : Option VaultCall) → IsRefusedShown most p q behind r words seen shown.more → Type 0
+        Noted r is_shown = IsRunNoted most p q behind r words seen shown.more is_shown made flies
 
-      at_end : IsTurnOf p turn t
-      at_end = (turn_at_end p word_of f s gates calls steps (run.goes).acts ((goes_along p word_of f (let one = p.in_range.some_dummies in omega (arith, one)) (formatted_life slot) before here.life here.ends here.whole (open_formatted p word_of (let one = p.in_range.some_dummies in omega (arith, one)) slot ranked)
-          (formatted_goes p word_of f slot) (here.filled).leaves).room) (run.goes).is_life (run.goes).shown).0
+        abbrev turn : HistoryTurn
+        turn = turn_of_run p s gates steps
 
-      log_shown : q.shown ≡ length t.log
-      log_shown = shown_behind p word_of calls steps (ring_public p found) began (run.goes).acts log_began shown.steps_are (run.goes).shown
+        at_end : IsTurnOf p turn t
+        at_end = (turn_at_end p word_of f s gates calls steps (run.goes).acts ((goes_along p word_of f (let one = p.in_range.some_dummies in omega (arith, one)) (formatted_life slot) before here.life here.ends here.whole (open_formatted p word_of (let one = p.in_range.some_dummies in omega (arith, one)) slot ranked)
+            (formatted_goes p word_of f slot) (here.filled).leaves).room) (run.goes).is_life (run.goes).shown).0
 
-      row_many : (b : ℕ) → length (record_row p q) ≡ length (record_notes p 0 b)
-      row_many b = record_many p (((q.known).epoch + 1) % 2) q.shown ∙ sym (record_many p 0 b)
+        log_shown : q.shown ≡ length t.log
+        log_shown = shown_behind p word_of calls steps (ring_public p found) began (run.goes).acts log_began shown.steps_are (run.goes).shown
 
-      whole_by : (r : Option VaultCall) (is_shown : IsRefusedShown most p q behind r words seen shown.more) → Noted r is_shown → (asks : List (Option ℕ)) → r ≡ Some (Fetch asks) → length asks ≡ p.places
-      whole_by None is_shown noted asks same = absurd (cc same)
-      whole_by (Some (Fetch a)) is_shown noted asks same = subst (λ (xs : List (Option ℕ)). length xs ≡ p.places) (same_asks a asks same) (noted.0).1
-      whole_by (Some (End ws)) is_shown noted asks same = absurd (no_fetch ws asks same)
+        row_many : (b : ℕ) → length (record_row p q) ≡ length (record_notes p 0 b)
+        row_many b = record_many p (((q.known).epoch + 1) % 2) q.shown ∙ sym (record_many p 0 b)
 
-      pub whole_of : Noted refused shown.refused_shown → (asks : List (Option ℕ)) → refused ≡ Some (Fetch asks) → length asks ≡ p.places
-      whole_of noted asks same = whole_by refused shown.refused_shown noted asks same
+        whole_by : (r : Option VaultCall) (is_shown : IsRefusedShown most p q behind r words seen shown.more) → Noted r is_shown → (asks : List (Option ℕ)) → r ≡ Some (Fetch asks) → length asks ≡ p.places
+        whole_by None is_shown noted asks same = absurd (cc same)
+        whole_by (Some (Fetch a)) is_shown noted asks same = subst (λ (xs : List (Option ℕ)). length xs ≡ p.places) (same_asks a asks same) (noted.0).1
+        whole_by (Some (End ws)) is_shown noted asks same = absurd (no_fetch ws asks same)
 
-      alone_by : (r : Option VaultCall) (is_shown : IsRefusedShown most p q behind r words seen shown.more) → Noted r is_shown → (asks : List (Option ℕ)) → r ≡ Some (Fetch asks) → made ≡ [] → IsRecordAlone p t (Fetch asks) count
-      alone_by None is_shown noted asks same none = absurd (cc same)
-      alone_by (Some (Fetch a)) is_shown ((room, asked), inl (inl (nothing, idle, short))) asks same none = (let many = row_many (length t.log) in let log = log_shown in (omega (arith, room, log), omega (arith, short, many)))
-      alone_by (Some (Fetch a)) is_shown ((room, asked), inl (inr (nothing, one))) asks same none = (let many = row_many (length t.log) in let log = log_shown in (omega (arith, room, log), omega (arith, one, many)))
-      alone_by (Some (Fetch a)) is_shown ((room, asked), inr (batch, all)) asks same none = absurd (no_acts (Append batch.0) (ShowBatch ∷ []) (sym none ∙ batch.2))
-      alone_by (Some (End ws)) is_shown noted asks same none = absurd (no_fetch ws asks same)
+        pub whole_of : Noted refused shown.refused_shown → (asks : List (Option ℕ)) → refused ≡ Some (Fetch asks) → length asks ≡ p.places
+        whole_of noted asks same = whole_by refused shown.refused_shown noted asks same
 
-      -- the acts that are found
-      there_found : reached p word_of s acts ≡ reached p word_of t (made ++ rest)
-      there_found = ap (λ (xs : List LifeAct). reached p word_of s xs) acts_are ∙ there (made ++ rest)
+        alone_by : (r : Option VaultCall) (is_shown : IsRefusedShown most p q behind r words seen shown.more) → Noted r is_shown → (asks : List (Option ℕ)) → r ≡ Some (Fetch asks) → made ≡ [] → IsRecordAlone p t (Fetch asks) count
+        alone_by None is_shown noted asks same none = absurd (cc same)
+        alone_by (Some (Fetch a)) is_shown ((room, asked), inl (inl (nothing, idle, short))) asks same none = (let many = row_many (length t.log) in let log = log_shown in (omega (arith, room, log), omega (arith, short, many)))
+        alone_by (Some (Fetch a)) is_shown ((room, asked), inl (inr (nothing, one))) asks same none = (let many = row_many (length t.log) in let log = log_shown in (omega (arith, room, log), omega (arith, one, many)))
+        alone_by (Some (Fetch a)) is_shown ((room, asked), inr (batch, all)) asks same none = absurd (no_acts (Append batch.0) (ShowBatch ∷ []) (sym none ∙ batch.2))
+        alone_by (Some (End ws)) is_shown noted asks same none = absurd (no_fetch ws asks same)
 
-      idle_found : flies ≡ None → (first : List LifeAct) → made ≡ first → reached p word_of s acts ≡ reached p word_of t first
-      idle_found idle first is_made =
-          let none : rest ≡ [] = nothing_found rest (subst (λ (a : Option LifeAct). Finds a rest) idle finds) in
-          there_found ∙ ap (λ (xs : List LifeAct). reached p word_of t xs) (ap (λ (xs : List LifeAct). made ++ xs) none ∙ append-nil made ∙ is_made)
+        -- the acts that are found
+        there_found : reached p word_of s acts ≡ reached p word_of t (made ++ rest)
+        there_found = ap (λ (xs : List LifeAct). reached p word_of s xs) acts_are ∙ there (made ++ rest)
 
-      -- a batch whose acts were made
-      batch_found : (asks : List (Option ℕ)) → refused ≡ Some (Fetch asks) → AreActsOf (Fetch asks) made → length (reached p word_of s acts).log ≡ suc (length t.log)
-      batch_found asks e batch =
-          let first : AreFirstActs (Some (Fetch asks)) made flies = subst (λ (r : Option VaultCall). AreFirstActs r made flies) e ((run.goes).left m is).first in
-          go (acts_left (Some (Fetch asks)) made rest flies first finds)
-        where
-          many : length (made ++ rest) ≡ 2 + length rest
-          many = (let all = length-append made rest in let two : length made ≡ 2 = ap (λ (xs : List LifeAct). length xs) batch.2 in omega (arith, all, two))
+        idle_found : flies ≡ None → (first : List LifeAct) → made ≡ first → reached p word_of s acts ≡ reached p word_of t first
+        idle_found idle first is_made =
+            let none : rest ≡ [] = nothing_found rest (subst (λ (a : Option LifeAct). Finds a rest) idle finds) in
+            there_found ∙ ap (λ (xs : List LifeAct). reached p word_of t xs) (ap (λ (xs : List LifeAct). made ++ xs) none ∙ append-nil made ∙ is_made)
 
-          go : AreActsLeft (Some (Fetch asks)) (made ++ rest) → length (reached p word_of s acts).log ≡ suc (length t.log)
-          go (inl none) = (let few : length (made ++ rest) ≡ 0 = ap (λ (xs : List LifeAct). length xs) none in absurd (omega (arith, many, few)))
-          go (inr (r, inl one)) = (let few : length (made ++ rest) ≡ 1 = ap (λ (xs : List LifeAct). length xs) one in absurd (omega (arith, many, few)))
-          go (inr (r, inr both)) =
-              ap (λ (u : LifeState). length u.log) (there_found ∙ ap (λ (xs : List LifeAct). reached p word_of t xs) both) ∙ length-append t.log (r ∷ []) ∙ add-one (length t.log)
+        -- a batch whose acts were made
+        batch_found : (asks : List (Option ℕ)) → refused ≡ Some (Fetch asks) → AreActsOf (Fetch asks) made → length (reached p word_of s acts).log ≡ suc (length t.log)
+        batch_found asks e batch =
+            let first : AreFirstActs (Some (Fetch asks)) made flies = subst (λ (r : Option VaultCall). AreFirstActs r made flies) e ((run.goes).left m is).first in
+            go (acts_left (Some (Fetch asks)) made rest flies first finds)
+          where
+            many : length (made ++ rest) ≡ 2 + length rest
+            many = (let all = length-append made rest in let two : length made ≡ 2 = ap (λ (xs : List LifeAct). length xs) batch.2 in omega (arith, all, two))
 
-      end_row_many : (writes : List (ℕ × Option (List ℕ))) (c : Fills) → IsCutFilled p word_of f t (End writes) c → length (ring_notes p q Ends c) ≡ length (notes_of_turn p f turn)
-      end_row_many writes c cut =
-          ap (λ (r : RingPublic). length (ring_notes p (public_behind ring_kind p r steps) Ends c)) public_is
-          ∙ rows_many p word_of slot before f ranked here.life here.ends here.whole here.filled (fills_of p found.content found.records) gates known calls steps (run.goes).acts kept run_filled (End writes) c cut
+            go : AreActsLeft (Some (Fetch asks)) (made ++ rest) → length (reached p word_of s acts).log ≡ suc (length t.log)
+            go (inl none) = (let few : length (made ++ rest) ≡ 0 = ap (λ (xs : List LifeAct). length xs) none in absurd (omega (arith, many, few)))
+            go (inr (r, inl one)) = (let few : length (made ++ rest) ≡ 1 = ap (λ (xs : List LifeAct). length xs) one in absurd (omega (arith, many, few)))
+            go (inr (r, inr both)) =
+                ap (λ (u : LifeState). length u.log) (there_found ∙ ap (λ (xs : List LifeAct). reached p word_of t xs) both) ∙ length-append t.log (r ∷ []) ∙ add-one (length t.log)
 
-      module _ (next : ℕ → Bool) where
-        abbrev Next : RunFound
-        Next = found_of_life p (reached p word_of s acts) next
+        end_row_many : (writes : List (ℕ × Option (List ℕ))) (c : Fills) → IsCutFilled p word_of f t (End writes) c → length (ring_notes p q Ends c) ≡ length (notes_of_turn p f turn)
+        end_row_many writes c cut =
+            ap (λ (r : RingPublic). length (ring_notes p (public_behind ring_kind p r steps) Ends c)) public_is
+            ∙ rows_many p word_of slot before f ranked here.life here.ends here.whole here.filled (fills_of p found.content found.records) gates known calls steps (run.goes).acts kept run_filled (End writes) c cut
 
-        found_by : (r : Option VaultCall) → refused ≡ r → (is_shown : IsRefusedShown most p q behind r words seen shown.more) → Noted r is_shown → IsRefusedFilled p word_of f t r (drawn_of r is_shown) count → AreGatesShown p f turn r count Next → IsFoundAsShown p f turn r count Next
-        found_by None e is_shown noted filled_so gated = (ap (λ (ns : List Note). length ns) is_shown, gated)
-        found_by (Some (Fetch asks)) e is_shown (room, inl (inl (nothing, idle, short))) filled_so gated =
-            let many = row_many turn.batch in
-            let log : Next.records ≡ turn.batch = ap (λ (u : LifeState). length u.log) (idle_found idle [] nothing) ∙ sym at_end.batch in
-            (λ more. absurd (omega (arith, more, log)), λ all. absurd (omega (arith, all, many, short)), gated)
-        found_by (Some (Fetch asks)) e is_shown (room, inl (inr (nothing, one))) filled_so gated =
-            let many = row_many turn.batch in
-            (λ more. omega (arith, one, many), λ all. absurd (omega (arith, all, many, one)), gated)
-        found_by (Some (Fetch asks)) e is_shown (room, inr (batch, whole)) filled_so gated =
-            let many = row_many turn.batch in
-            let log : Next.records ≡ suc turn.batch = batch_found asks e batch ∙ ap suc (sym at_end.batch) in
-            (λ more. omega (arith, whole, many), λ all. log, gated)
-        found_by (Some (End writes)) e is_shown noted (inr alone) gated = absurd alone
-        found_by (Some (End writes)) e is_shown (lifts, inl (idle, short)) (inl cut) gated =
-            let many = end_row_many writes is_shown.0 cut in
-            let still : Next.epoch ≡ turn.epoch = ap (λ (u : LifeState). u.epoch) (idle_found idle (ShowLifts ∷ []) lifts) ∙ sym at_end.epoch in
-            (λ ended. absurd (omega (arith, ended, still)), λ all. absurd (omega (arith, all, many, short)), gated.1)
-        found_by (Some (End writes)) e is_shown (lifts, inr one) (inl cut) gated =
-            let many = end_row_many writes is_shown.0 cut in
-            (λ ended. (omega (arith, one, many), gated.0 ended), λ all. absurd (omega (arith, all, many, one)), gated.1)
+        module _ (next : ℕ → Bool) where
+          abbrev Next : RunFound
+          Next = found_of_life p (reached p word_of s acts) next
 
-      pub left_as_shown : Noted refused shown.refused_shown → (next : Option (ℕ → Bool)) → AreGatesLeft p word_of f s gates steps refused acts count next → IsLeftAsShown p word_of f s t gates steps refused made acts count next
-      left_as_shown noted next gated =
-          let alone : (asks : List (Option ℕ)) → refused ≡ Some (Fetch asks) → made ≡ [] → IsRecordAlone p t (Fetch asks) count = λ asks same none. alone_by refused shown.refused_shown noted asks same none in
-          record {
-            whole = whole_of noted;
-            alone = alone;
-            stays = gated.stays;
-            as_shown = λ found_then is_next. found_by found_then refused refl shown.refused_shown noted (refused_filled alone refused refl shown.refused_shown) (gated.shown found_then is_next);
-          }
+          found_by : (r : Option VaultCall) → refused ≡ r → (is_shown : IsRefusedShown most p q behind r words seen shown.more) → Noted r is_shown → IsRefusedFilled p word_of f t r (drawn_of r is_shown) count → AreGatesShown p f turn r count Next → IsFoundAsShown p f turn r count Next
+          found_by None e is_shown noted filled_so gated = (ap (λ (ns : List Note). length ns) is_shown, gated)
+          found_by (Some (Fetch asks)) e is_shown (room, inl (inl (nothing, idle, short))) filled_so gated =
+              let many = row_many turn.batch in
+              let log : Next.records ≡ turn.batch = ap (λ (u : LifeState). length u.log) (idle_found idle [] nothing) ∙ sym at_end.batch in
+              (λ more. absurd (omega (arith, more, log)), λ all. absurd (omega (arith, all, many, short)), gated)
+          found_by (Some (Fetch asks)) e is_shown (room, inl (inr (nothing, one))) filled_so gated =
+              let many = row_many turn.batch in
+              (λ more. omega (arith, one, many), λ all. absurd (omega (arith, all, many, one)), gated)
+          found_by (Some (Fetch asks)) e is_shown (room, inr (batch, whole)) filled_so gated =
+              let many = row_many turn.batch in
+              let log : Next.records ≡ suc turn.batch = batch_found asks e batch ∙ ap suc (sym at_end.batch) in
+              (λ more. omega (arith, whole, many), λ all. log, gated)
+          found_by (Some (End writes)) e is_shown noted (inr alone) gated = absurd alone
+          found_by (Some (End writes)) e is_shown (lifts, inl (idle, short)) (inl cut) gated =
+              let many = end_row_many writes is_shown.0 cut in
+              let still : Next.epoch ≡ turn.epoch = ap (λ (u : LifeState). u.epoch) (idle_found idle (ShowLifts ∷ []) lifts) ∙ sym at_end.epoch in
+              (λ ended. absurd (omega (arith, ended, still)), λ all. absurd (omega (arith, all, many, short)), gated.1)
+          found_by (Some (End writes)) e is_shown (lifts, inr one) (inl cut) gated =
+              let many = end_row_many writes is_shown.0 cut in
+              (λ ended. (omega (arith, one, many), gated.0 ended), λ all. absurd (omega (arith, all, many, one)), gated.1)
 
-      -- ---- by what the run says of the gates
+        pub left_as_shown : Noted refused shown.refused_shown → (next : Option (ℕ → Bool)) → AreGatesLeft p word_of f s gates steps refused acts count next → IsLeftAsShown p word_of f s t gates steps refused made acts count next
+        left_as_shown noted next gated =
+            let alone : (asks : List (Option ℕ)) → refused ≡ Some (Fetch asks) → made ≡ [] → IsRecordAlone p t (Fetch asks) count = λ asks same none. alone_by refused shown.refused_shown noted asks same none in
+            record {
+              whole = whole_of noted;
+              alone = alone;
+              stays = gated.stays;
+              as_shown = λ found_then is_next. found_by found_then refused refl shown.refused_shown noted (refused_filled alone refused refl shown.refused_shown) (gated.shown found_then is_next);
+            }
 
-      room : length s.log ≤ p.batches
-      room = (goes_along p word_of f (let one = p.in_range.some_dummies in omega (arith, one)) (formatted_life slot) before here.life here.ends here.whole (open_formatted p word_of (let one = p.in_range.some_dummies in omega (arith, one)) slot ranked)
-          (formatted_goes p word_of f slot) (here.filled).leaves).room
+        -- ---- by what the run says of the gates
 
-      found_epoch : (found.run).epoch ≡ s.epoch
-      found_epoch = sym (o.then).epoch ∙ on.epoch
+        room : length s.log ≤ p.batches
+        room = (goes_along p word_of f (let one = p.in_range.some_dummies in omega (arith, one)) (formatted_life slot) before here.life here.ends here.whole (open_formatted p word_of (let one = p.in_range.some_dummies in omega (arith, one)) slot ranked)
+            (formatted_goes p word_of f slot) (here.filled).leaves).room
 
-      abbrev turn_first : HistoryTurn
-      turn_first = turn_at p f s.epoch (length s.log) (found_of_life p s gates).epoch_gate (length s.log)
+        found_epoch : (found.run).epoch ≡ s.epoch
+        found_epoch = sym (o.then).epoch ∙ on.epoch
 
-      has_first : HasGateOf p turn_first began (ring_public p found)
-      has_first = record {
-        epoch = sym (o.then).epoch;
-        gate = sym kept.next ∙ ap (λ (e : ℕ). known (gate_cell p EpochTwin (e + 1))) (sym found_epoch);
-        durable = ap (λ (e : ℕ). known (gate_cell p EpochTwin e)) found_epoch ∙ kept.durable;
-      }
+        abbrev turn_first : HistoryTurn
+        turn_first = turn_at p f s.epoch (length s.log) (found_of_life p s gates).epoch_gate (length s.log)
 
-      has_gate : HasGateOf p turn t q
-      has_gate = subst (λ (u : HistoryTurn). HasGateOf p u t q) (sym (turn_from p f s gates steps room))
-          (gates_lead p word_of calls steps (ring_public p found) began turn_first (run.goes).acts (turn_begun p word_of f s (found_of_life p s gates).epoch_gate room) has_first (run.goes).is_life shown.steps_are (run.goes).shown)
+        has_first : HasGateOf p turn_first began (ring_public p found)
+        has_first = record {
+          epoch = sym (o.then).epoch;
+          gate = sym kept.next ∙ ap (λ (e : ℕ). known (gate_cell p EpochTwin (e + 1))) (sym found_epoch);
+          durable = ap (λ (e : ℕ). known (gate_cell p EpochTwin e)) found_epoch ∙ kept.durable;
+        }
 
-      hidden_epoch : behind.epoch ≡ t.epoch
-      hidden_epoch = sym ((run.goes).then).epoch
+        has_gate : HasGateOf p turn t q
+        has_gate = subst (λ (u : HistoryTurn). HasGateOf p u t q) (sym (turn_from p f s gates steps room))
+            (gates_lead p word_of calls steps (ring_public p found) began turn_first (run.goes).acts (turn_begun p word_of f s (found_of_life p s gates).epoch_gate room) has_first (run.goes).is_life shown.steps_are (run.goes).shown)
 
-      turn_epoch : turn.epoch ≡ behind.epoch
-      turn_epoch = at_end.epoch ∙ sym hidden_epoch
+        hidden_epoch : behind.epoch ≡ t.epoch
+        hidden_epoch = sym ((run.goes).then).epoch
 
-      turn_gate : turn.gate ≡ (q.known).gates (gate_cell p EpochTwin (behind.epoch + 1))
-      turn_gate = has_gate.gate ∙ ap (λ (e : ℕ). (q.known).gates (gate_cell p EpochTwin (e + 1))) (has_gate.epoch ∙ sym hidden_epoch)
+        turn_epoch : turn.epoch ≡ behind.epoch
+        turn_epoch = at_end.epoch ∙ sym hidden_epoch
 
-      -- no act of a call begins a generation, and but for an end's none ends an epoch
-      generation_stays : (r : Option VaultCall) (more : List LifeAct) → AreActsLeft r more → (reached p word_of t more).generation ≡ t.generation
-      generation_stays None more is = ap (λ (xs : List LifeAct). (reached p word_of t xs).generation) is
-      generation_stays (Some (Fetch asks)) more (inl none) = ap (λ (xs : List LifeAct). (reached p word_of t xs).generation) none
-      generation_stays (Some (Fetch asks)) more (inr (r, inl one)) = ap (λ (xs : List LifeAct). (reached p word_of t xs).generation) one
-      generation_stays (Some (Fetch asks)) more (inr (r, inr both)) = ap (λ (xs : List LifeAct). (reached p word_of t xs).generation) both
-      generation_stays (Some (End writes)) more (inl (inl none)) = ap (λ (xs : List LifeAct). (reached p word_of t xs).generation) none
-      generation_stays (Some (End writes)) more (inl (inr lifts)) = ap (λ (xs : List LifeAct). (reached p word_of t xs).generation) lifts
-      generation_stays (Some (End writes)) more (inr (ws, drawn_by, slots, all)) = ap (λ (xs : List LifeAct). (reached p word_of t xs).generation) all
+        turn_gate : turn.gate ≡ (q.known).gates (gate_cell p EpochTwin (behind.epoch + 1))
+        turn_gate = has_gate.gate ∙ ap (λ (e : ℕ). (q.known).gates (gate_cell p EpochTwin (e + 1))) (has_gate.epoch ∙ sym hidden_epoch)
 
-      fetch_stays : (asks : List (Option ℕ)) (more : List LifeAct) → AreActsLeft (Some (Fetch asks)) more → (reached p word_of t more).epoch ≡ t.epoch
-      fetch_stays asks more (inl none) = ap (λ (xs : List LifeAct). (reached p word_of t xs).epoch) none
-      fetch_stays asks more (inr (r, inl one)) = ap (λ (xs : List LifeAct). (reached p word_of t xs).epoch) one
-      fetch_stays asks more (inr (r, inr both)) = ap (λ (xs : List LifeAct). (reached p word_of t xs).epoch) both
+        -- no act of a call begins a generation, and but for an end's none ends an epoch
+        generation_stays : (r : Option VaultCall) (more : List LifeAct) → AreActsLeft r more → (reached p word_of t more).generation ≡ t.generation
+        generation_stays None more is = ap (λ (xs : List LifeAct). (reached p word_of t xs).generation) is
+        generation_stays (Some (Fetch asks)) more (inl none) = ap (λ (xs : List LifeAct). (reached p word_of t xs).generation) none
+        generation_stays (Some (Fetch asks)) more (inr (r, inl one)) = ap (λ (xs : List LifeAct). (reached p word_of t xs).generation) one
+        generation_stays (Some (Fetch asks)) more (inr (r, inr both)) = ap (λ (xs : List LifeAct). (reached p word_of t xs).generation) both
+        generation_stays (Some (End writes)) more (inl (inl none)) = ap (λ (xs : List LifeAct). (reached p word_of t xs).generation) none
+        generation_stays (Some (End writes)) more (inl (inr lifts)) = ap (λ (xs : List LifeAct). (reached p word_of t xs).generation) lifts
+        generation_stays (Some (End writes)) more (inr (ws, drawn_by, slots, all)) = ap (λ (xs : List LifeAct). (reached p word_of t xs).generation) all
 
-      all_left : (r : Option VaultCall) → refused ≡ r → AreActsLeft r (made ++ rest)
-      all_left r e = acts_left r made rest flies (subst (λ (x : Option VaultCall). AreFirstActs x made flies) e ((run.goes).left m is).first) finds
+        fetch_stays : (asks : List (Option ℕ)) (more : List LifeAct) → AreActsLeft (Some (Fetch asks)) more → (reached p word_of t more).epoch ≡ t.epoch
+        fetch_stays asks more (inl none) = ap (λ (xs : List LifeAct). (reached p word_of t xs).epoch) none
+        fetch_stays asks more (inr (r, inl one)) = ap (λ (xs : List LifeAct). (reached p word_of t xs).epoch) one
+        fetch_stays asks more (inr (r, inr both)) = ap (λ (xs : List LifeAct). (reached p word_of t xs).epoch) both
 
-      abbrev GateFound : (r : Option VaultCall) → IsRefusedShown most p q behind r words seen shown.more → (ℕ → Bool) → Type 0
-      GateFound r is_shown next = IsGateFoundBy behind.epoch ((q.known).gates (gate_cell p EpochTwin (behind.epoch + 1))) r (notes_lacking most p q behind r words seen shown.more is_shown) (Next next)
+        all_left : (r : Option VaultCall) → refused ≡ r → AreActsLeft r (made ++ rest)
+        all_left r e = acts_left r made rest flies (subst (λ (x : Option VaultCall). AreFirstActs x made flies) e ((run.goes).left m is).first) finds
 
-      shown_by : (next : ℕ → Bool) (r : Option VaultCall) → refused ≡ r → (is_shown : IsRefusedShown most p q behind r words seen shown.more) → IsRefusedFilled p word_of f t r (drawn_of r is_shown) count → GateFound r is_shown next → AreGatesShown p f turn r count (Next next)
-      shown_by next None e is_shown filled_so gated =
-          gated (ap (λ (u : LifeState). u.epoch) (there_found ∙ ap (λ (xs : List LifeAct). reached p word_of t xs) (all_left None e)) ∙ sym hidden_epoch) ∙ sym turn_gate
-      shown_by next (Some (Fetch asks)) e is_shown filled_so gated =
-          gated (ap (λ (u : LifeState). u.epoch) there_found ∙ fetch_stays asks (made ++ rest) (all_left (Some (Fetch asks)) e) ∙ sym hidden_epoch) ∙ sym turn_gate
-      shown_by next (Some (End writes)) e is_shown (inr alone) gated = absurd alone
-      shown_by next (Some (End writes)) e is_shown (inl cut) gated =
-          let many : length (ring_notes p q Ends is_shown.0) - count ≡ length (notes_of_turn p f turn) - count = ap (λ (n : ℕ). n - count) (end_row_many writes is_shown.0 cut) in (
-            λ ended. gated.0 (ended ∙ ap suc turn_epoch),
-            λ stays. subst (λ (b : Bool). IsGateLeft b (length (notes_of_turn p f turn) - count) (Next next).epoch_gate) (sym turn_gate)
-                (subst (λ (n : ℕ). IsGateLeft ((q.known).gates (gate_cell p EpochTwin (behind.epoch + 1))) n (Next next).epoch_gate) many (gated.1 (stays ∙ turn_epoch))),
-          )
+        abbrev GateFound : (r : Option VaultCall) → IsRefusedShown most p q behind r words seen shown.more → (ℕ → Bool) → Type 0
+        GateFound r is_shown next = IsGateFoundBy behind.epoch ((q.known).gates (gate_cell p EpochTwin (behind.epoch + 1))) r (notes_lacking most p q behind r words seen shown.more is_shown) (Next next)
 
-      -- the next run begins at such an image
-      abbrev pub BeginsAt : (ℕ → Bool) → Type 0
-      BeginsAt next = (g : Gates) × (next ≡ gates_open g) × (image : Image) × (disk new).may_leave image × StandsInLife keys p word_of (reached p word_of s acts) image × AreGatesIn g image
+        shown_by : (next : ℕ → Bool) (r : Option VaultCall) → refused ≡ r → (is_shown : IsRefusedShown most p q behind r words seen shown.more) → IsRefusedFilled p word_of f t r (drawn_of r is_shown) count → GateFound r is_shown next → AreGatesShown p f turn r count (Next next)
+        shown_by next None e is_shown filled_so gated =
+            gated (ap (λ (u : LifeState). u.epoch) (there_found ∙ ap (λ (xs : List LifeAct). reached p word_of t xs) (all_left None e)) ∙ sym hidden_epoch) ∙ sym turn_gate
+        shown_by next (Some (Fetch asks)) e is_shown filled_so gated =
+            gated (ap (λ (u : LifeState). u.epoch) there_found ∙ fetch_stays asks (made ++ rest) (all_left (Some (Fetch asks)) e) ∙ sym hidden_epoch) ∙ sym turn_gate
+        shown_by next (Some (End writes)) e is_shown (inr alone) gated = absurd alone
+        shown_by next (Some (End writes)) e is_shown (inl cut) gated =
+            let many : length (ring_notes p q Ends is_shown.0) - count ≡ length (notes_of_turn p f turn) - count = ap (λ (n : ℕ). n - count) (end_row_many writes is_shown.0 cut) in (
+              λ ended. gated.0 (ended ∙ ap suc turn_epoch),
+              λ stays. subst (λ (b : Bool). IsGateLeft b (length (notes_of_turn p f turn) - count) (Next next).epoch_gate) (sym turn_gate)
+                  (subst (λ (n : ℕ). IsGateLeft ((q.known).gates (gate_cell p EpochTwin (behind.epoch + 1))) n (Next next).epoch_gate) many (gated.1 (stays ∙ turn_epoch))),
+            )
 
-      pub gates_left : Noted refused shown.refused_shown → LeavesGates keys p q behind refused (notes_lacking most p q behind refused words seen shown.more shown.refused_shown) (disk new).may_leave
-          → (next : Option (ℕ → Bool)) → ((found_then : ℕ → Bool) → next ≡ Some found_then → BeginsAt found_then) → AreGatesLeft p word_of f s gates steps refused acts count next
-      gates_left noted leaves next begins =
-          let alone : (asks : List (Option ℕ)) → refused ≡ Some (Fetch asks) → made ≡ [] → IsRecordAlone p t (Fetch asks) count = λ asks same none. alone_by refused shown.refused_shown noted asks same none in
-          let generation_is : (reached p word_of s acts).generation ≡ behind.generation =
-          ap (λ (u : LifeState). u.generation) there_found ∙ generation_stays refused (made ++ rest) (all_left refused refl) ∙ ((run.goes).then).generation in
-          record {
-            stays = λ found_then is_next.
-                let (g, is_g, image, may, stands_then, are) = begins found_then is_next in
-                subst (λ (x : ℕ → Bool). (found_of_life p (reached p word_of s acts) x).generation_gate ≡ true) (sym is_g) ((leaves word_of (reached p word_of s acts) image g may stands_then are).0 generation_is);
-            shown = λ found_then is_next.
-                let (g, is_g, image, may, stands_then, are) = begins found_then is_next in
-                subst (λ (x : ℕ → Bool). AreGatesShown p f turn refused count (Next x)) (sym is_g)
-                (shown_by (gates_open g) refused refl shown.refused_shown (refused_filled alone refused refl shown.refused_shown) (leaves word_of (reached p word_of s acts) image g may stands_then are).1);
-          }
+        -- the next run begins at such an image
+        abbrev pub BeginsAt : (ℕ → Bool) → Type 0
+        BeginsAt next = (g : Gates) × (next ≡ gates_open g) × (image : Image) × (disk new).may_leave image × StandsInLife keys p word_of (reached p word_of s acts) image × AreGatesIn g image
+
+        pub gates_left : Noted refused shown.refused_shown → LeavesGates keys p q behind refused (notes_lacking most p q behind refused words seen shown.more shown.refused_shown) (disk new).may_leave
+            → (next : Option (ℕ → Bool)) → ((found_then : ℕ → Bool) → next ≡ Some found_then → BeginsAt found_then) → AreGatesLeft p word_of f s gates steps refused acts count next
+        gates_left noted leaves next begins =
+            let alone : (asks : List (Option ℕ)) → refused ≡ Some (Fetch asks) → made ≡ [] → IsRecordAlone p t (Fetch asks) count = λ asks same none. alone_by refused shown.refused_shown noted asks same none in
+            let generation_is : (reached p word_of s acts).generation ≡ behind.generation =
+            ap (λ (u : LifeState). u.generation) there_found ∙ generation_stays refused (made ++ rest) (all_left refused refl) ∙ ((run.goes).then).generation in
+            record {
+              stays = λ found_then is_next.
+                  let (g, is_g, image, may, stands_then, are) = begins found_then is_next in
+                  subst (λ (x : ℕ → Bool). (found_of_life p (reached p word_of s acts) x).generation_gate ≡ true) (sym is_g) ((leaves word_of (reached p word_of s acts) image g may stands_then are).0 generation_is);
+              shown = λ found_then is_next.
+                  let (g, is_g, image, may, stands_then, are) = begins found_then is_next in
+                  subst (λ (x : ℕ → Bool). AreGatesShown p f turn refused count (Next x)) (sym is_g)
+                  (shown_by (gates_open g) refused refl shown.refused_shown (refused_filled alone refused refl shown.refused_shown) (leaves word_of (reached p word_of s acts) image g may stands_then are).1);
+            }
 
 pub parts_are : {S : Type 0} (disk : S → Disk) → PartsAreRuns disk
 parts_are disk keys p word_of slot f before ranked here most old found opened calls steps behind refused words seen new stands small begins run m is rest acts finds acts_are filled notes shown next told =
-    part_is_run disk keys p word_of slot f before ranked here most old found opened calls steps behind refused words seen new stands (begins word_of (reached p word_of (formatted_life slot) before) stands small) notes shown run m is rest acts finds acts_are filled next told
+    part_is_run disk keys p word_of slot f before ranked here most old found opened calls steps behind refused words seen new stands (begins word_of (reached p word_of (formatted_life slot) before) stands small) notes shown run m is (filled_made p word_of f (reached p word_of (formatted_life slot) before) (opening_acts (reached p word_of (formatted_life slot) before) ++ (run.goes).acts) ((run.goes).left m is).made rest acts acts_are filled) rest acts finds acts_are next told

@@ -45,11 +45,11 @@ use Rattle.ob_admitted.proofs.Acts.{LeftSound, Sound, calls_sound, ends_join, le
 use Rattle.ob_admitted.proofs.Gating.{both_marked, marked_epoch, marked_generation}
 use Rattle.ob_admitted.proofs.Lives.{lives_are}
 use Rattle.ob_admitted.proofs.Living.{lives_are_filled}
-use Rattle.ob_admitted.proofs.Parts.{gates_left, left_as_shown, parts_are, whole_of}
+use Rattle.ob_admitted.proofs.Parts.{filled_first, filled_last, filled_made, gates_left, left_as_shown, parts_are, whole_of}
 use Rattle.ob_admitted.proofs.Walking.{AreLeftAsNoted, row_lives, row_noted}
 use Rattle.ob_admitted.proofs.Wholes.{repeats_ended, repeats_whole}
 
-same_found : (a b : ℕ → Bool) → ◌≡◌ {A = Option (ℕ → Bool)} (Some a) (Some b) → a ≡ b
+pub same_found : (a b : ℕ → Bool) → ◌≡◌ {A = Option (ℕ → Bool)} (Some a) (Some b) → a ≡ b
 same_found a b e = cc e
 
 module _ {S : Type 0} (disk : S → Disk) (keys : Keys) (p : Params) (word_of : WordId → ℕ) (slot : ℕ → ℕ → ℕ) (f : AllFills) (ranked : (u : ℕ) → IsRanking (width p) (slot u)) where
@@ -58,18 +58,6 @@ module _ {S : Type 0} (disk : S → Disk) (keys : Keys) (p : Params) (word_of : 
 
   abbrev Filled : LifeState → List LifeAct → Type 0
   Filled s acts = FillsAll p word_of f (planned_labels p word_of (reached p word_of s acts)) (life_slots p word_of s acts)
-
-  filled_first : (s : LifeState) (xs ys : List LifeAct) → Filled s (xs ++ ys) → Filled s xs
-  filled_first s xs ys is = record {
-    leaves = λ l h. is.leaves l (subst (λ (u : LifeState). Has (planned_labels p word_of u) l) (sym (reached_join p word_of s xs ys)) (planned_lasts p word_of (reached p word_of s xs) ys l h));
-    slots_are = λ x h. is.slots_are x (slots_first p word_of s xs ys x h);
-  }
-
-  filled_last : (s : LifeState) (xs ys : List LifeAct) → Filled s (xs ++ ys) → Filled (reached p word_of s xs) ys
-  filled_last s xs ys is = record {
-    leaves = λ l h. is.leaves l (subst (λ (u : LifeState). Has (planned_labels p word_of u) l) (sym (reached_join p word_of s xs ys)) h);
-    slots_are = λ x h. is.slots_are x (slots_last p word_of s xs ys x h);
-  }
 
   -- the gates that are found first, whatever these are where no run is
   abbrev found_first : (parts : List (RunPart S)) (rows : List (List Note)) → AreRunsTold disk keys p parts rows → ℕ → Bool
@@ -171,7 +159,7 @@ module _ {S : Type 0} (disk : S → Disk) (keys : Keys) (p : Params) (word_of : 
       let life_all : IsLife p word_of u (first ++ later) = subst (λ (xs : List LifeAct). IsLife p word_of u xs) split life in
       let filled_all : Filled u (first ++ later) = subst (λ (xs : List LifeAct). Filled u xs) split filled in
       let life_here : IsLife p word_of (At before) first = subst (λ (v : LifeState). IsLife p word_of v first) (sym same) (life_first p word_of u first later life_all) in
-      let filled_here : Filled (At before) first = subst (λ (v : LifeState). Filled v first) (sym same) (filled_first u first later filled_all) in
+      let filled_here : Filled (At before) first = subst (λ (v : LifeState). Filled v first) (sym same) (filled_first p word_of f u first later filled_all) in
       let next : Option (ℕ → Bool) = first_gates disk keys p parts rows more in
       let part : PartAt most old found opened calls steps behind refused words seen new notes one first next (At before) =
       subst (λ (v : LifeState). PartAt most old found opened calls steps behind refused words seen new notes one first next v) (sym same) (is, leaves.0) in
@@ -179,7 +167,7 @@ module _ {S : Type 0} (disk : S → Disk) (keys : Keys) (p : Params) (word_of : 
       part_goes most old found opened calls steps behind refused words seen new notes one first next from.1.0 before here life_here filled_here part in
       let there : At (before ++ first) ≡ reached p word_of u first = reached_join p word_of (formatted_life slot) before first ∙ ap (λ (v : LifeState). reached p word_of v first) same in
       let on : AreRunsInLife p word_of slot f (before ++ first) (found_first parts rows more) (single rows) =
-      row_goes parts rows more (disk new).may_leave (before ++ first) (reached p word_of u first) later there from.2 rest run.1 (life_last p word_of u first later life_all) (filled_last u first later filled_all) leaves.1 in
+      row_goes parts rows more (disk new).may_leave (before ++ first) (reached p word_of u first) later there from.2 rest run.1 (life_last p word_of u first later life_all) (filled_last p word_of f u first later filled_all) leaves.1 in
       let left_then : List LifeAct → (ℕ → Bool) → Type 0 = (λ xs gates. IsServedLeft p word_of f (At before) (gates_open ((one.found_in).found).gates) notes (run.0).0 xs gates) in
       (here, inl (run.0).0, tt, row_behind before first left_then parts rows more (run.0).1 on)
 
@@ -200,13 +188,13 @@ module _ {S : Type 0} (disk : S → Disk) (keys : Keys) (p : Params) (word_of : 
       → IsLeftAsShown p word_of f v (life_behind_calls p word_of v ((x.run).goes).acts) (gates_open ((one.found_in).found).gates) steps refused (((x.run).goes).left x.map x.is_map).made first (length one.more) next
       × IsLifeFilled p word_of slot f (before ++ first)) in
       let here_told : Told (At before) = (λ x so gates_so life_so filled_so. (
-        left_as_shown disk keys p word_of slot f before ranked here most old found opened calls steps behind refused words seen new x.stands ((from.1).0 word_of (At before) x.stands x.small) notes one x.run x.map x.is_map x.rest first x.finds x.are filled_so so next gates_so,
+        left_as_shown disk keys p word_of slot f before ranked here most old found opened calls steps behind refused words seen new x.stands ((from.1).0 word_of (At before) x.stands x.small) notes one x.run x.map x.is_map (filled_made p word_of f (At before) (opening_acts (At before) ++ ((x.run).goes).acts) (((x.run).goes).left x.map x.is_map).made x.rest first x.are filled_so) x.rest first x.finds x.are so next gates_so,
         behind_part most old found opened calls steps behind refused words seen new (from.1).0 notes one before first x
-            (whole_of disk keys p word_of slot f before ranked here most old found opened calls steps behind refused words seen new x.stands ((from.1).0 word_of (At before) x.stands x.small) notes one x.run x.map x.is_map x.rest first x.finds x.are filled_so so) life_so here filled_so,
+            (whole_of disk keys p word_of slot f before ranked here most old found opened calls steps behind refused words seen new x.stands ((from.1).0 word_of (At before) x.stands x.small) notes one x.run x.map x.is_map (filled_made p word_of f (At before) (opening_acts (At before) ++ ((x.run).goes).acts) (((x.run).goes).left x.map x.is_map).made x.rest first x.are filled_so) x.rest first x.finds x.are so) life_so here filled_so,
       )) in
-      let part = subst Told same here_told is noted.0 gated.0 (life_first p word_of u first later life_all) (filled_first u first later filled_all) in
+      let part = subst Told same here_told is noted.0 gated.0 (life_first p word_of u first later life_all) (filled_first p word_of f u first later filled_all) in
       let there : At (before ++ first) ≡ reached p word_of u first = reached_join p word_of (formatted_life slot) before first ∙ ap (λ (v : LifeState). reached p word_of v first) same in
-      (part.0, row_told parts rows more (disk new).may_leave (before ++ first) (reached p word_of u first) later there from.2 rest part.1 (life_last p word_of u first later life_all) (filled_last u first later filled_all) noted.1 gated.1)
+      (part.0, row_told parts rows more (disk new).may_leave (before ++ first) (reached p word_of u first) later there from.2 rest part.1 (life_last p word_of u first later life_all) (filled_last p word_of f u first later filled_all) noted.1 gated.1)
 
   -- the next run begins at an image that may be left, and finds the gates that this has
   abbrev BeginsNext : (Image → Type 0) → LifeState → (ℕ → Bool) → Type 0
@@ -244,13 +232,13 @@ module _ {S : Type 0} (disk : S → Disk) (keys : Keys) (p : Params) (word_of : 
       → ((found_then : ℕ → Bool) → next ≡ Some found_then → BeginsNext (disk new).may_leave (reached p word_of v first) found_then) → IsLife p word_of v first → Filled v first
       → AreGatesLeft p word_of f v (gates_open ((one.found_in).found).gates) steps refused first (length one.more) next × IsLifeFilled p word_of slot f (before ++ first)) in
       let here_gated : Gated (At before) = (λ x so leaves begins life_so filled_so. (
-        gates_left disk keys p word_of slot f before ranked here most old found opened calls steps behind refused words seen new x.stands ((from.1).0 word_of (At before) x.stands x.small) notes one x.run x.map x.is_map x.rest first x.finds x.are filled_so so leaves next begins,
+        gates_left disk keys p word_of slot f before ranked here most old found opened calls steps behind refused words seen new x.stands ((from.1).0 word_of (At before) x.stands x.small) notes one x.run x.map x.is_map (filled_made p word_of f (At before) (opening_acts (At before) ++ ((x.run).goes).acts) (((x.run).goes).left x.map x.is_map).made x.rest first x.are filled_so) x.rest first x.finds x.are so leaves next begins,
         behind_part most old found opened calls steps behind refused words seen new (from.1).0 notes one before first x
-            (whole_of disk keys p word_of slot f before ranked here most old found opened calls steps behind refused words seen new x.stands ((from.1).0 word_of (At before) x.stands x.small) notes one x.run x.map x.is_map x.rest first x.finds x.are filled_so so) life_so here filled_so,
+            (whole_of disk keys p word_of slot f before ranked here most old found opened calls steps behind refused words seen new x.stands ((from.1).0 word_of (At before) x.stands x.small) notes one x.run x.map x.is_map (filled_made p word_of f (At before) (opening_acts (At before) ++ ((x.run).goes).acts) (((x.run).goes).left x.map x.is_map).made x.rest first x.are filled_so) x.rest first x.finds x.are so) life_so here filled_so,
       )) in
-      let part = subst Gated same here_gated is noted.0 gated.0 (next_begins parts rows more (disk new).may_leave (reached p word_of u first) later from.2 rest) (life_first p word_of u first later life_all) (filled_first u first later filled_all) in
+      let part = subst Gated same here_gated is noted.0 gated.0 (next_begins parts rows more (disk new).may_leave (reached p word_of u first) later from.2 rest) (life_first p word_of u first later life_all) (filled_first p word_of f u first later filled_all) in
       let there : At (before ++ first) ≡ reached p word_of u first = reached_join p word_of (formatted_life slot) before first ∙ ap (λ (v : LifeState). reached p word_of v first) same in
-      (part.0, row_gated parts rows more (disk new).may_leave (before ++ first) (reached p word_of u first) later there from.2 rest part.1 (life_last p word_of u first later life_all) (filled_last u first later filled_all) noted.1 gated.1)
+      (part.0, row_gated parts rows more (disk new).may_leave (before ++ first) (reached p word_of u first) later there from.2 rest part.1 (life_last p word_of u first later life_all) (filled_last p word_of f u first later filled_all) noted.1 gated.1)
 
   first_closed : (parts : List (RunPart S)) (rows : List (List Note)) (told : AreRunsTold disk keys p parts rows) (P : (ℕ → Bool) → Type 0) → P (λ cell. false) → ((gates : ℕ → Bool) → first_gates disk keys p parts rows told ≡ Some gates → P gates) → P (found_first parts rows told)
   first_closed [] rows told P none some = none
@@ -306,7 +294,7 @@ noted_runs disk keys p drawn made parts rows formatted from told noted word_of g
     )
 
 -- a format's gates are found closed where those that are set next lie
-first_shut : {S : Type 0} (disk : S → Disk) (keys : Keys) (p : Params) (word_of : WordId → ℕ) (slot : ℕ → ℕ → ℕ) (may_leave : Image → Type 0) → ((c : Image) → may_leave c → AreGatesIn format_gates c) → (next : ℕ → Bool)
+pub first_shut : {S : Type 0} (disk : S → Disk) (keys : Keys) (p : Params) (word_of : WordId → ℕ) (slot : ℕ → ℕ → ℕ) (may_leave : Image → Type 0) → ((c : Image) → may_leave c → AreGatesIn format_gates c) → (next : ℕ → Bool)
     → (g : Gates) × (next ≡ gates_open g) × (image : Image) × may_leave image × StandsInLife keys p word_of (formatted_life slot) image × AreGatesIn g image
     → ((found_of_life p (formatted_life slot) next).generation_gate ≡ false) × ((found_of_life p (formatted_life slot) next).epoch_gate ≡ false)
 first_shut disk keys p word_of slot may_leave formatted next (g, is_g, image, may, stands, are) =

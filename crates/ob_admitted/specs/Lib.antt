@@ -15,3 +15,4 @@ pub mod Walks
 pub mod Openings
 pub mod Told
 pub mod Gates
+pub mod Stopped

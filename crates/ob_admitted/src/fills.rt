@@ -24,6 +24,7 @@ ghost use Rattle.ob_admitted.specs.Publics.{LivesGoByFills};
 ghost use Rattle.ob_admitted.specs.Repeats.{OpeningsGoByFills};
 ghost use Rattle.ob_admitted.specs.Rows.{RowsAreAdmitted};
 ghost use Rattle.ob_admitted.specs.Served.{ServedRunsAreShown};
+ghost use Rattle.ob_admitted.specs.Stopped.{StoppedRunsAreAdmitted};
 ghost use Rattle.ob_admitted.specs.Told.{CallsLeaveAsNoted, NotedRunsAreAdmitted, StagesLeaveAsNoted};
 ghost use Rattle.ob_admitted.specs.Walks.{RowsOfRunsAreAdmitted};
 ghost use Rattle.ob_admitted.specs.Wholes.{RunsShowHistories};
@@ -197,4 +198,18 @@ pub fn noted_stages_are_admitted<S: Store>()
 /// and its stage say.
 pub fn gated_stages_are_admitted<S: Store>()
     ensures { GatedRunsAreAdmitted (span (λ store. S.disk store)) }
+{}
+
+/// So are rows in which openings stopped, between two runs that served or one behind the other, where
+/// each showed, and left, what its notes tell: its images as they might have been where it came to its
+/// reads; else all cells as they were, but those of the generations' register by how many notes lack.
+/// But for one case: an opening's last note is the write that opens its generation's gate, and the next
+/// run that shows its first sync found that generation.
+pub fn stopped_runs_are_admitted<S: Store>()
+    ensures { StoppedRunsAreAdmitted (λ store. S.disk store) }
+{}
+
+/// And rows of runs that were cut off in stages, with such openings among them.
+pub fn stopped_stages_are_admitted<S: Store>()
+    ensures { StoppedRunsAreAdmitted (span (λ store. S.disk store)) }
 {}

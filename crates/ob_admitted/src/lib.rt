@@ -10,4 +10,5 @@ pub use fills::{
     noted_stages_are_admitted, openings_are_runs, openings_go_by_fills, openings_leave_histories,
     parts_are_runs, repeats_leave_histories, rows_are_admitted, rows_of_runs_are_admitted,
     runs_leave_histories, runs_show_histories, served_runs_are_shown, stages_leave_as_noted,
+    stopped_runs_are_admitted, stopped_stages_are_admitted,
 };
