@@ -25,3 +25,4 @@ pub mod Stopped
 pub mod Going
 pub mod Begun
 pub mod Along
+pub mod Bridging

@@ -19,7 +19,7 @@ use Rattle.ob_vault.specs.Shapes.{Ends, Fetches, shape_of}
 abbrev pub IsFront : List Note → List Note → Type 0
 IsFront row shown = (rest : List Note) × (row ≡ shown ++ rest)
 
-cut_front : (row made shown : List Note) → IsCut row made shown → IsFront row shown
+pub cut_front : (row made shown : List Note) → IsCut row made shown → IsFront row shown
 cut_front row made shown cut = go cut.shown_are
   where
     whole : row ≡ made ++ drop cut.count row
@@ -29,7 +29,7 @@ cut_front row made shown cut = go cut.shown_are
     go (inl all) = (drop cut.count row, whole ∙ ap (λ (xs : List Note). xs ++ drop cut.count row) (sym all))
     go (inr failed) = (Sync ∷ drop cut.count row, whole ∙ ap (λ (xs : List Note). xs ++ drop cut.count row) failed ∙ append_assoc shown (Sync ∷ []) (drop cut.count row))
 
-front_more : (row more shown : List Note) → IsFront row shown → IsFront (row ++ more) shown
+pub front_more : (row more shown : List Note) → IsFront row shown → IsFront (row ++ more) shown
 front_more row more shown is = (is.0 ++ more, ap (λ (xs : List Note). xs ++ more) is.1 ∙ append_assoc shown is.0 more)
 
 front_within : (n : ℕ) (row shown : List Note) → IsFront (take n row) shown → IsFront row shown

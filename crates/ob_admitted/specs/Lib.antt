@@ -16,3 +16,4 @@ pub mod Openings
 pub mod Told
 pub mod Gates
 pub mod Stopped
+pub mod Refused

@@ -21,6 +21,7 @@ ghost use Rattle.ob_admitted.specs.Notes.{CallsGoByFills};
 ghost use Rattle.ob_admitted.specs.Openings.{OpeningsAreRuns};
 ghost use Rattle.ob_admitted.specs.Parts.{PartsAreRuns};
 ghost use Rattle.ob_admitted.specs.Publics.{LivesGoByFills};
+ghost use Rattle.ob_admitted.specs.Refused.{RefusedOpeningsAreShown};
 ghost use Rattle.ob_admitted.specs.Repeats.{OpeningsGoByFills};
 ghost use Rattle.ob_admitted.specs.Rows.{RowsAreAdmitted};
 ghost use Rattle.ob_admitted.specs.Served.{ServedRunsAreShown};
@@ -212,4 +213,11 @@ pub fn stopped_runs_are_admitted<S: Store>()
 /// And rows of runs that were cut off in stages, with such openings among them.
 pub fn stopped_stages_are_admitted<S: Store>()
     ensures { StoppedRunsAreAdmitted (span (λ store. S.disk store)) }
+{}
+
+/// What an opening says that was refused, behind the head's read, is what such a row takes of it: which
+/// notes it showed, and what it left of cells and gates. Premise: where it showed its first sync, the
+/// generations' register stands in each image as the notes tell that lack.
+pub fn refused_openings_are_shown<S: Store>()
+    ensures { RefusedOpeningsAreShown (λ store. S.disk store) }
 {}
