@@ -24,4 +24,5 @@ pub mod SlotsAt
 pub mod SlotsKnown
 pub mod SlotsSteps
 pub mod SlotsLines
+pub mod Numbered
 pub mod Written

@@ -1,5 +1,5 @@
 -- A text that is written is its line's, and no other's.
-use Rattle.std.specs.Prelude.{◌≡◌, ◌<◌, ◌≤◌, ℕ, ◌+◌, ◌^◌, ◌==◌, Bool, true, false, cond, List, [], ◌∷◌, ◌++◌, length, decimal, Option, Some, None}
+use Rattle.std.specs.Prelude.{◌≡◌, ◌<◌, ◌≤◌, ◌⊎◌, ℕ, ◌+◌, ◌^◌, ◌==◌, Bool, true, false, cond, List, [], ◌∷◌, ◌++◌, length, decimal, Option, Some, None}
 use Rattle.std.specs.List.{flat_map}
 use Rattle.std.specs.Str.{all_ascii_digits}
 use Rattle.std.proofs.Common.{refl, sym, ap, ◌∙◌, subst, inl, inr, arith, append_assoc}
@@ -11,9 +11,13 @@ use Rattle.ob_base.specs.declared.params.Params.{Params}
 use Rattle.ob_store.specs.declared.watch.Note.TheVariants as N
 use Rattle.ob_schedule.specs.declared.line.Line.{Line}
 use Rattle.ob_schedule.specs.declared.line.Line.TheVariants as L
+use Rattle.ob_schedule.specs.declared.line.Wanted.{Wanted}
 use Rattle.ob_schedule.specs.Follow.{Follow, started}
+use Rattle.ob_schedule.proofs.Determined.{determined}
 use Rattle.ob_audit.specs.Spelling.{numbers_text, note_text, open_text, IsLineSpelled, IsLineInRange, IsNoteInRange, SpellsLine, IsLineOf}
-use Rattle.ob_audit.specs.Traces.{with_first, lines_in, TakesNext, Admitted}
+use Rattle.ob_audit.specs.declared.verdict.Audit.{Audit}
+use Rattle.ob_audit.specs.declared.verdict.Audit.TheVariants.{Fits, Breaks}
+use Rattle.ob_audit.specs.Traces.{with_first, lines_in, TakesFirst, TakesNext, RefusesNext, Admitted, FitsWhole, IsLineRefused, IsPast, IsVerdict}
 use Rattle.ob_audit.proofs.Cuts.{cut_number, some_inner}
 use Rattle.ob_audit.proofs.Lettered.{mirrored_line, start_only, label_only, read_only, write_only}
 use Rattle.ob_audit.proofs.Numerals.{own}
@@ -21,6 +25,7 @@ use Rattle.ob_audit.proofs.Ranges.{same_params, few_numbers}
 use Rattle.ob_audit.proofs.Written.{are_the_writers}
 use Rattle.ob_audit.specs.Reading.{cut_at}
 use Rattle.ob_histories.specs.Laws.{TakesLines, AreAdmitted}
+use Rattle.ob_histories.proofs.Numbered.{admitted_written}
 use Rattle.ob_histories.specs.Texts.{with_feed, HaveTexts, TakesAll, LinesAreAdmitted}
 
 -- ---- bytes without a line feed
@@ -216,8 +221,61 @@ start_takes (L.Open mirrored ∷ lines) are = absurd are
 start_takes (L.Note note ∷ lines) are = absurd are
 start_takes (L.Bad ∷ lines) are = absurd are
 
+-- ---- what fits is answered so
+
+spelled_is : (line : Line) (bytes : List ℕ) → IsLineSpelled line bytes → bytes ≡ text_of line
+spelled_is (L.Start p) bytes is = is
+spelled_is (L.Open mirrored) bytes is = is
+spelled_is (L.Note note) bytes is = is
+spelled_is L.Bad bytes is = absurd is
+
+spells_written : (line : Line) (bytes : List ℕ) → SpellsLine bytes line → IsWritten line
+spells_written (L.Start p) bytes is = tt
+spells_written (L.Open mirrored) bytes is = tt
+spells_written (L.Note note) bytes is = is.in_range
+spells_written L.Bad bytes is = absurd is.spelled
+
+one_line : (bytes : List ℕ) (a b : Line) → IsLineOf bytes a → IsLineOf bytes b → a ≡ b
+one_line bytes a b (inl spells) is = sym (line_alone a b (spells_written a bytes spells) (subst (λ (text : List ℕ). IsLineOf text b) (spelled_is a bytes spells.spelled) is))
+one_line bytes a b (inr (bad, none)) (inl spells) = absurd (none b spells)
+one_line bytes a b (inr (bad, none)) (inr (other, none_more)) = bad ∙ sym other
+
+first_once : (line : Line) (g h : Follow) → TakesFirst line g → TakesFirst line h → g ≡ h
+first_once (L.Start p) g h a b = a ∙ sym b
+first_once (L.Open mirrored) g h a b = absurd a
+first_once (L.Note note) g h a b = absurd a
+first_once L.Bad g h a b = absurd a
+
+next_once : (known : Option Follow) (line : Line) (g h : Follow) → TakesNext known line g → TakesNext known line h → g ≡ h
+next_once None line g h a b = first_once line g h a b
+next_once (Some known) line g h a b = determined known line g h a b
+
+never_next : (known : Option Follow) (line : Line) (wanted : Wanted) (next : Follow) → RefusesNext known line wanted → TakesNext known line next → ⊥
+never_next None line wanted next refused takes = refused.1 next takes
+never_next (Some known) line wanted next refused takes = refused.never (next, takes)
+
+-- a line that is refused behind admitted ones isn't admitted there
+refused_never : (from known last : Option Follow) (before : List (List ℕ)) (text : List ℕ) (rest : List (List ℕ)) (wanted : Wanted) (found : Line) → Admitted from before known → IsLineOf text found → RefusesNext known found wanted
+    → Admitted from (before ++ text ∷ rest) last → ⊥
+refused_never from known last [] text rest wanted found same of refused (line, is, (next, takes, more)) =
+    never_next from found wanted next (subst (λ (k : Option Follow). RefusesNext k found wanted) same refused) (subst (λ (l : Line). TakesNext from l next) (one_line text line found is of) takes)
+refused_never from known last (first ∷ before) text rest wanted found (line, is, (next, takes, more)) of refused (other, also, (then, took, whole)) =
+    let same : line ≡ other = one_line first line other is also in
+    let once : next ≡ then = next_once from other next then (subst (λ (l : Line). TakesNext from l next) same takes) took in
+    refused_never (Some next) known last before text rest wanted found more of refused (subst (λ (f : Follow). Admitted (Some f) (before ++ text ∷ rest) last) (sym once) whole)
+
+fits_alone : (limit : ℕ) (input : List ℕ) (audit : Audit) → FitsWhole limit input → IsVerdict limit input audit → audit ≡ Fits
+fits_alone limit input Fits fits is = refl
+fits_alone limit input (Breaks line wanted found) fits is = absurd (go is.breaks)
+  where
+    go : IsPast limit input is.rest wanted found ⊎ IsLineRefused limit input is.text is.rest is.known wanted found → ⊥
+    go (inl past) = omega (arith, past.past, fits.within)
+    go (inr refused) = refused_never None is.known fits.last is.before is.text is.rest wanted found is.admitted refused.is refused.refused (subst (λ (texts : List (List ℕ)). Admitted None texts fits.last) is.lines fits.admitted)
+
 pub lines_are : LinesAreAdmitted
 lines_are = record {
   texts = λ known last lines are. (admitted_takes known last lines are, takes_admitted known last lines are);
-  fits = λ lines are admitted few. (let takes = start_takes lines admitted in record { within = few; last = takes.0; admitted = takes_admitted None takes.0 lines are takes.1 });
+  written = admitted_written;
+  fits = λ lines admitted few. (let takes = start_takes lines admitted in record { within = few; last = takes.0; admitted = takes_admitted None takes.0 lines (admitted_written lines admitted) takes.1 });
+  alone = fits_alone;
 }

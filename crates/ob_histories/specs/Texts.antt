@@ -6,7 +6,9 @@ use Rattle.ob_schedule.specs.declared.line.Line.{Line}
 use Rattle.ob_schedule.specs.declared.line.Line.TheVariants as L
 use Rattle.ob_schedule.specs.Follow.{Follow}
 use Rattle.ob_audit.specs.Spelling.{IsNoteInRange}
-use Rattle.ob_audit.specs.Traces.{lines_in, TakesNext, Admitted, FitsWhole}
+use Rattle.ob_audit.specs.declared.verdict.Audit.{Audit}
+use Rattle.ob_audit.specs.declared.verdict.Audit.TheVariants.{Fits}
+use Rattle.ob_audit.specs.Traces.{lines_in, TakesNext, Admitted, FitsWhole, IsVerdict}
 use Rattle.ob_histories.specs.Laws.{AreAdmitted}
 
 -- a line's text and its line feed
@@ -29,7 +31,10 @@ abbrev pub TakesAll : Option Follow → List Line → Option Follow → Type 0
 TakesAll known [] last = last ≡ known
 TakesAll known (line ∷ lines) last = (next : Follow) × TakesNext known line next × TakesAll (Some next) lines last
 
--- An auditor admits the texts exactly where the lines are admitted; so it answers that they fit, as far as it looks at them all.
+-- An auditor admits the texts exactly where the lines are admitted. Lines that are admitted are written, and it answers that their texts fit, as far
+-- as it looks at them all; and to what fits it answers nothing else.
 pub record LinesAreAdmitted : Type 0 where
   pub texts : (known last : Option Follow) (lines : List Line) → HaveTexts lines → Admitted known (lines_in (flat_map with_feed lines)) last ↔ TakesAll known lines last
-  pub fits : (lines : List Line) → HaveTexts lines → AreAdmitted lines → length (flat_map with_feed lines) ≤ 2 ^ 32 → FitsWhole (2 ^ 32) (flat_map with_feed lines)
+  pub written : (lines : List Line) → AreAdmitted lines → HaveTexts lines
+  pub fits : (lines : List Line) → AreAdmitted lines → length (flat_map with_feed lines) ≤ 2 ^ 32 → FitsWhole (2 ^ 32) (flat_map with_feed lines)
+  pub alone : (limit : ℕ) (input : List ℕ) (audit : Audit) → FitsWhole limit input → IsVerdict limit input audit → audit ≡ Fits

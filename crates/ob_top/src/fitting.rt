@@ -1,0 +1,14 @@
+//! What an audit answers to the traces of runs behind each other.
+
+ghost use Rattle.ob_io.specs.Streams.{outflow};
+ghost use Rattle.ob_top.specs.Fitting.{TracesFit};
+
+use ob_io::Sink;
+use ob_store::Store;
+
+/// So of bytes: where runs over a store that a format made, as above, wrote their traces, and no
+/// trace failed, what stands in the format's and in theirs, one behind the other, fits: `audit`
+/// answers that wherever it comes in, if it has at most 2^32 bytes.
+pub fn traces_fit<S: Store, W: Sink>()
+    ensures { TracesFit (λ store. S.disk store) (λ sink. outflow W.Sink sink) }
+{}
