@@ -210,7 +210,7 @@ takes_admitted known last (line ∷ lines) are (next, took, more) =
     let parts = written_parts line lines are in
     subst (λ (texts : List (List ℕ)). Admitted known texts last) (sym (first_text line lines parts.0)) (line, inl (text_spells line parts.0), (next, took, takes_admitted (Some next) last lines parts.1 more))
 
-behind_takes : (known last : Follow) (lines : List Line) → TakesLines known lines last → TakesAll (Some known) lines (Some last)
+pub behind_takes : (known last : Follow) (lines : List Line) → TakesLines known lines last → TakesAll (Some known) lines (Some last)
 behind_takes known last [] is = ap {A = Follow} {B = Option Follow} (λ (f : Follow). Some f) is
 behind_takes known last (line ∷ lines) (next, took, more) = (next, took, behind_takes next last lines more)
 

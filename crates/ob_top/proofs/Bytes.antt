@@ -36,7 +36,7 @@ use Rattle.ob_top.specs.Rows.{AreRowsTold, TracedRun}
 abbrev run_text : List Note → List ℕ
 run_text notes = open_line false ++ lines_of notes
 
-notes_text : (notes : List Note) → flat_map with_feed (lines_of_notes notes) ≡ lines_of notes
+pub notes_text : (notes : List Note) → flat_map with_feed (lines_of_notes notes) ≡ lines_of notes
 notes_text [] = refl
 notes_text (note ∷ notes) = ap (λ (text : List ℕ). line_of note ++ text) (notes_text notes)
 

@@ -74,7 +74,7 @@ steps_of (call ∷ calls) [] is = absurd (cc is)
 -- ---- one run
 
 -- What a row of runs asks of one, at parameters of which the store's head told.
-record IsRowPart {S : Type 0} (disk : S → Disk) (keys : Keys) (p : Params) (r : TracedRun S) : Type 0 where
+pub record IsRowPart {S : Type 0} (disk : S → Disk) (keys : Keys) (p : Params) (r : TracedRun S) : Type 0 where
   pub found : RingFound
   pub opened : S
   pub calls : List VaultCall
@@ -162,7 +162,7 @@ module _ {S : Type 0} (disk : S → Disk) (keys : Keys) (r : TracedRun S) (ran :
 -- ---- the row
 
 module _ {S : Type 0} (disk : S → Disk) (keys : Keys) (p : Params) where
-  part : (may_leave : Image → Type 0) (r : TracedRun S) → IsRowRun disk keys p may_leave r → IsRowPart disk keys p r
+  pub part : (may_leave : Image → Type 0) (r : TracedRun S) → IsRowRun disk keys p may_leave r → IsRowPart disk keys p r
   part may_leave r one = subst (λ (q : Params). IsRowPart disk keys q r) one.params (part_of disk keys r one.ran one.head one.tells one.at (subst (λ (q : Params). Stands ring_kind keys q (disk r.old).cells one.at) (sym one.params) one.stood))
 
   record IsRow (may_leave : Image → Type 0) (runs : List (TracedRun S)) : Type 0 where

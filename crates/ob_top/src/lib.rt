@@ -4,6 +4,7 @@
 
 mod again;
 mod audit;
+mod auditors;
 mod drill;
 mod endings;
 mod fitting;
@@ -15,6 +16,7 @@ mod top;
 mod traces;
 
 pub use again::stood_again;
+pub use auditors::auditors_go_on;
 pub use drill::{Drilled, drill_on};
 pub use endings::{finish, finish_run, still_watched};
 pub use fitting::traces_fit;
