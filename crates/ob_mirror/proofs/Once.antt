@@ -1,13 +1,14 @@
 -- What is merely known of the halves' events is known of them: it can be so in one way.
 use Rattle.std.proofs.Common.{◌≡◌, ◌≤◌, ℕ, zero, suc, List, [], ◌∷◌, ◌++◌, Option, Some, None, Bool, length, drop, refl, sym, ◌∙◌, ap, subst}
 use Rattle.std.specs.Coded.{Coded, Coded-set, code_by, coded×, coded_list, coded_ℕ, le_prop, Unit-prop}
+use Rattle.std.specs.Borrow.{GName}
 use Rattle.std.proofs.Math.Logic.{∥∥₁_elim, ∥∥₁_map}
 use Rattle.std.proofs.Math.Seq.{drop-append_seam}
 use Rattle.ob_store.specs.declared.event.Event.{Event}
 use Rattle.ob_store.specs.declared.event.Event.TheVariants.{Read, Write, Sync}
 use Rattle.ob_store.specs.Disk.{Disk}
 use Rattle.ob_store.specs.Calls.{Notes, TellsOn}
-use Rattle.ob_mirror.specs.Begun.{cell_of, events_before, half_before, kind_of, told_before}
+use Rattle.ob_mirror.specs.Begun.{event_cell, events_before, half_before, event_kind, told_before}
 use Rattle.ob_mirror.specs.Telling.{Follows, TellsStill, changes}
 
 -- ---- events as numbers
@@ -17,16 +18,16 @@ event_of (suc zero, cell) = Read cell
 event_of (suc (suc zero), cell) = Write cell
 event_of (kind, cell) = Sync
 
-of_event : (event : Event) → event_of (kind_of event, cell_of event) ≡ event
+of_event : (event : Event) → event_of (event_kind event, event_cell event) ≡ event
 of_event (Read cell) = refl
 of_event (Write cell) = refl
 of_event Sync = refl
 
 events_code : Coded (List Event)
-events_code = coded_list (code_by (ℕ × ℕ) (coded× coded_ℕ coded_ℕ) (λ event. (kind_of event, cell_of event)) event_of of_event)
+events_code = coded_list (code_by (ℕ × ℕ) (coded× coded_ℕ coded_ℕ) (λ event. (event_kind event, event_cell event)) event_of of_event)
 
-same_event : (x y : Event) → kind_of x ≡ kind_of y → cell_of x ≡ cell_of y → x ≡ y
-same_event x y kind cell = sym (of_event x) ∙ ap (λ (k : ℕ). event_of (k, cell_of x)) kind ∙ ap (λ (c : ℕ). event_of (kind_of y, c)) cell ∙ of_event y
+same_event : (x y : Event) → event_kind x ≡ event_kind y → event_cell x ≡ event_cell y → x ≡ y
+same_event x y kind cell = sym (of_event x) ∙ ap (λ (k : ℕ). event_of (k, event_cell x)) kind ∙ ap (λ (c : ℕ). event_of (event_kind y, c)) cell ∙ of_event y
 
 heads : {A : Type 0} (x y : A) (xs ys : List A) → x ∷ xs ≡ y ∷ ys → x ≡ y
 heads x y xs ys is = cc is
@@ -34,20 +35,20 @@ heads x y xs ys is = cc is
 tails : {A : Type 0} (x y : A) (xs ys : List A) → x ∷ xs ≡ y ∷ ys → xs ≡ ys
 tails x y xs ys is = cc is
 
-no_kind : (event : Event) → 0 ≡ kind_of event → ⊥
+no_kind : (event : Event) → 0 ≡ event_kind event → ⊥
 no_kind (Read cell) is = cc is
 no_kind (Write cell) is = cc is
 no_kind Sync is = cc is
 
 events_are : (xs ys : List Event) (s t : List ℕ) → events_before xs s ≡ events_before ys t → (xs ≡ ys) × (s ≡ t)
 events_are [] [] s t is = (refl, tails 0 0 s t is)
-events_are [] (y ∷ ys) s t is = absurd (no_kind y (heads 0 (kind_of y) s (cell_of y ∷ events_before ys t) is))
-events_are (x ∷ xs) [] s t is = absurd (no_kind x (sym (heads (kind_of x) 0 (cell_of x ∷ events_before xs s) t is)))
+events_are [] (y ∷ ys) s t is = absurd (no_kind y (heads 0 (event_kind y) s (event_cell y ∷ events_before ys t) is))
+events_are (x ∷ xs) [] s t is = absurd (no_kind x (sym (heads (event_kind x) 0 (event_cell x ∷ events_before xs s) t is)))
 events_are (x ∷ xs) (y ∷ ys) s t is =
-    let kind = heads (kind_of x) (kind_of y) (cell_of x ∷ events_before xs s) (cell_of y ∷ events_before ys t) is in
-    let more = tails (kind_of x) (kind_of y) (cell_of x ∷ events_before xs s) (cell_of y ∷ events_before ys t) is in
-    let cell = heads (cell_of x) (cell_of y) (events_before xs s) (events_before ys t) more in
-    let rest = events_are xs ys s t (tails (cell_of x) (cell_of y) (events_before xs s) (events_before ys t) more) in
+    let kind = heads (event_kind x) (event_kind y) (event_cell x ∷ events_before xs s) (event_cell y ∷ events_before ys t) is in
+    let more = tails (event_kind x) (event_kind y) (event_cell x ∷ events_before xs s) (event_cell y ∷ events_before ys t) is in
+    let cell = heads (event_cell x) (event_cell y) (events_before xs s) (events_before ys t) more in
+    let rest = events_are xs ys s t (tails (event_cell x) (event_cell y) (events_before xs s) (events_before ys t) more) in
     (ap (λ (e : Event). e ∷ xs) (same_event x y kind cell) ∙ ap (λ (es : List Event). y ∷ es) rest.0, rest.1)
 
 told_are : (a b : Option (List Event)) (s t : List ℕ) → told_before a s ≡ told_before b t → (a ≡ b) × (s ≡ t)
@@ -96,7 +97,7 @@ own_once made (Some old) (Some new) kept =
     }
 own_once made None (Some new) kept = absurd (∥∥₁_elim kept (λ x y. absurd x) (λ k. k.noted))
 
-pub follows_once : (made : List Event) (a c b d : Disk) → ∥ Follows made a c b d ∥₁ → Follows made a c b d
+follows_once : (made : List Event) (a c b d : Disk) → ∥ Follows made a c b d ∥₁ → Follows made a c b d
 follows_once made a c b d kept =
     let own = own_once made b.seen d.seen (∥∥₁_map kept (λ k. record { own = k.own; noted = k.second; same = k.same })) in
     record {
@@ -116,7 +117,7 @@ still_from a e c faults seen still = record {
   seen = subst (λ (s : Option (List Event)). TellsOn s c.seen e.faults c.faults) seen (subst (λ (n : ℕ). TellsOn a.seen c.seen n c.faults) faults still.seen);
 }
 
-pub follows_from : (made : List Event) (a e c b f d : Disk) (s t : List ℕ) → half_before a (half_before b s) ≡ half_before e (half_before f t) → Follows made a c b d → Follows made e c f d
+follows_from : (made : List Event) (a e c b f d : Disk) (s t : List ℕ) → half_before a (half_before b s) ≡ half_before e (half_before f t) → Follows made a c b d → Follows made e c f d
 follows_from made a e c b f d s t is follows =
     let one = half_is a e (half_before b s) (half_before f t) is in
     let two = half_is b f s t one.2 in
@@ -128,3 +129,10 @@ follows_from made a e c b f d s t is follows =
       first_still = still_from a e c one.0 one.1 follows.first_still;
       second_still = still_from b f d two.0 two.1 follows.second_still;
     }
+
+behind_names : (x y v w : GName) (xs ys : List ℕ) → ◌≡◌ {A = List ℕ} (x ∷ y ∷ xs) (v ∷ w ∷ ys) → xs ≡ ys
+behind_names x y v w xs ys is = cc is
+
+-- Two states of one mirror: what its halves had told when they were put together, the earlier one has too.
+pub follows_of_one : (made : List Event) (x y v w : GName) (a e c b f d : Disk) (s t : List ℕ) → ◌≡◌ {A = List ℕ} (x ∷ y ∷ half_before a (half_before b s)) (v ∷ w ∷ half_before e (half_before f t)) → ∥ Follows made a c b d ∥₁ → Follows made e c f d
+follows_of_one made x y v w a e c b f d s t same kept = follows_from made a e c b f d s t (behind_names x y v w _ _ same) (follows_once made a c b d kept)

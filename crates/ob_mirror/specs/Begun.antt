@@ -5,20 +5,20 @@ use Rattle.ob_store.specs.declared.event.Event.TheVariants.{Read, Write, Sync}
 use Rattle.ob_store.specs.Disk.{Disk}
 
 -- a read is 1, a write 2, a sync 3
-abbrev pub kind_of : Event → ℕ
-kind_of (Read cell) = 1
-kind_of (Write cell) = 2
-kind_of Sync = 3
+abbrev pub event_kind : Event → ℕ
+event_kind (Read cell) = 1
+event_kind (Write cell) = 2
+event_kind Sync = 3
 
-abbrev pub cell_of : Event → ℕ
-cell_of (Read cell) = cell
-cell_of (Write cell) = cell
-cell_of Sync = 0
+abbrev pub event_cell : Event → ℕ
+event_cell (Read cell) = cell
+event_cell (Write cell) = cell
+event_cell Sync = 0
 
 -- events as numbers, with 0 behind them, in front of others
 abbrev pub events_before : List Event → List ℕ → List ℕ
 events_before [] rest = 0 ∷ rest
-events_before (event ∷ events) rest = kind_of event ∷ cell_of event ∷ events_before events rest
+events_before (event ∷ events) rest = event_kind event ∷ event_cell event ∷ events_before events rest
 
 abbrev pub told_before : Option (List Event) → List ℕ → List ℕ
 told_before None rest = 0 ∷ rest

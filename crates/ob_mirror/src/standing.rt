@@ -1,5 +1,6 @@
 //! The laws of a mirror: each half stands alone.
 
+ghost use Rattle.std.specs.Prelude.{◌≡◌};
 ghost use Rattle.ob_mirror.specs.Standing.{EachStands, HalvesFollow};
 ghost use Rattle.ob_mirror.specs.Telling.{Follows};
 
@@ -17,15 +18,19 @@ pub fn halves_stand<'a, A: Store, B: Store>(old: &Mirror<'a, A, B>, new: &Mirror
     let _ = new;
 }
 
-/// Of any mirror, from when its halves were put together on: the first was asked for just what the
-/// mirror's log has, and the second to write and to sync what the first was, in the same order, and
-/// for reads beside. Neither's count of faults has fallen.
-pub fn halves_are_asked<'a, A: Store, B: Store>(mirror: &Mirror<'a, A, B>)
-    ensures { Follows mirror.now.halves.made.events (A.disk mirror.now.halves.first_then.value)
-        (A.disk mirror.now.halves.first.now) (B.disk mirror.now.halves.second_then.value)
-        (B.disk mirror.now.halves.second.now) }
+/// Of any two states of one mirror: since its halves were put together the first was asked for just
+/// what the mirror's log has, and the second to write and to sync what the first was, in the same
+/// order, and for reads beside. Neither's count of faults has fallen. That it is one mirror is known
+/// by what it holds to from call to call, whatever code it was lent to.
+pub fn halves_are_asked<'a, A: Store, B: Store>(old: &Mirror<'a, A, B>, new: &Mirror<'a, A, B>)
+    ensures { (⟦<Mirror<'a, A, B> as Store>⟧.disk new.now).anchors
+        ≡ (⟦<Mirror<'a, A, B> as Store>⟧.disk old.now).anchors
+        → Follows new.now.halves.made.events (A.disk old.now.halves.first_then.value)
+        (A.disk new.now.halves.first.now) (B.disk old.now.halves.second_then.value)
+        (B.disk new.now.halves.second.now) }
 {
-    let _ = mirror;
+    let _ = old;
+    let _ = new;
 }
 
 /// From call to call of a mirror the second half was asked for the writes and syncs that the first

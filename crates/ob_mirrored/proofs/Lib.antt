@@ -5,3 +5,4 @@ mod Joining
 mod Copied
 mod Anchored
 mod Ending
+mod Following

@@ -11,6 +11,7 @@ use Rattle.ob_io.specs.Streams.{Flow}
 use Rattle.ob_mirror.specs.Joins.{IsCopy, IsOnlyRead, cell_writes, reads_from}
 use Rattle.ob_mirror.specs.Mirrored.{Alike}
 use Rattle.ob_mirror.specs.Standing.{EachStands}
+use Rattle.ob_mirror.specs.Telling.{Follows}
 use Rattle.ob_script.specs.Script.{Scripts}
 use Rattle.ob_seal.specs.declared.keys.Keys.{Keys}
 use Rattle.ob_serial.specs.Vaults.{Standing}
@@ -102,6 +103,9 @@ module _ {X A B : Type 0} (disk : X → Disk) (first_of : X → A) (second_of : 
     pub none_failed : (disk lent).faults ≡ 0
     pub made : List Event
     pub told : (disk left).seen ≡ Some made
+    -- The first half was asked for just these calls, and the second to write and to sync what the first was, in the same order, and for reads
+    -- beside: where each tells its calls, and it goes on to tell them unless its own count of faults rose. That doesn't fall.
+    pub follows : Follows made (one a) (one c) (two b) (two d)
     pub run : RunDone ring_kind ring_lives ring_audits disk (reading_head [] by) tape keys lent left before after t u status
     -- The store's fault is told only where a call of the mirror was refused: a read that the second half served is none.
     pub cause : (unsure : Option ℕ) → run.err ≡ Some (failed.Fault (StoreFault unsure)) → 0 < (disk left).faults

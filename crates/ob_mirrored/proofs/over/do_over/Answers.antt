@@ -1,12 +1,12 @@
 use Rattle.std.proofs.Common.{◌≡◌, ◌∙◌, Some, ap, refl, sym, subst}
 use Rattle.ob_mirror.specs.Laws.{includes_reads_of_first, only_now_of_either}
-use Rattle.ob_mirror.specs.Mirrored.{Together}
 use Rattle.ob_mirror.proofs.Alone.{each_stands}
 use Rattle.ob_mirrored.proofs.Doing.{both_in, each_in, mirror_tells, name_first, name_second}
 use Rattle.ob_vault.specs.RingKind.{ring_kind}
 use Rattle.ob_desk.specs.Beats.{beat_kind}
 use Rattle.ob_top.specs.Parts.{Manner, manner}
 use Rattle.ob_mirrored.proofs.Ending.{ended_cause, ended_complete, ended_headline, ended_run, refused_some}
+use Rattle.ob_mirrored.proofs.Following.{over_follows}
 use Rattle.ob_mirrored.proofs.OfHalves.{half_keeps, is_first, is_second}
 use Rattle.ob_mirrored.proofs.over.do_over.Goals as goal
 
@@ -62,16 +62,19 @@ returns-clause-done g c =
       none_failed = made.failed;
       made = ended.made.events;
       told = refl;
+      follows = over_follows one two ended.made.events begun.first.ghost_name begun.second.ghost_name ended.first.ghost_name ended.second.ghost_name begun.first_then.value ended.first_then.value ended.first.now begun.second_then.value ended.second_then.value ended.second.now _ _ _ _ _ _
+          does.goes.anchors ended.follows made.first_then made.second_then
+          (sym (c.first-1.given.1 names ∙ c.hand_back.ensures.first ∙ c.into_lent-first.ensures.first)) (sym (c.second-1.given.1 second_names ∙ c.hand_back.ensures.second ∙ c.into_lent-first.ensures.second));
       run = run;
       cause = λ unsure is. refused_some _ _ made.failed (ended_cause _ by _ c.args.keys.now c.over-mirror.result c.run_behind_head-ended.new.store _ _ _ _ _ _ c.finish_run.result run unsure is);
       headline = ended_headline _ by _ c.args.keys.now c.over-mirror.result c.run_behind_head-ended.new.store _ _ _ _ _ _ c.finish_run.result c.requires.whole run
           (λ m image left. only_now_of_either (one m.halves.first.now) (two m.halves.second.now) (g.met.S.Store.only_now m.halves.first.now) (g.met.M.Store.only_now m.halves.second.now) image left)
           (λ m tells leaves. includes_reads_of_first (one m.halves.first.now) (two m.halves.second.now) _ (g.met.S.Store.includes_reads m.halves.first.now) tells leaves) does.goes;
       complete = ended_complete _ by _ c.args.keys.now c.over-mirror.result c.run_behind_head-ended.new.store _ _ _ _ _ _ c.finish_run.result c.requires.whole run;
-      each = each_stands begun.first.ghost_name begun.second.ghost_name ended.first.ghost_name ended.second.ghost_name (Together begun.apart (one begun.first_then.value) (two begun.second_then.value)) (Together ended.apart (one ended.first_then.value) (two ended.second_then.value)) begun.made.events ended.made.events begun.failed ended.failed
+      each = each_stands begun.first.ghost_name begun.second.ghost_name ended.first.ghost_name ended.second.ghost_name begun.apart (one begun.first_then.value) (two begun.second_then.value) ended.apart (one ended.first_then.value) (two ended.second_then.value) begun.made.events ended.made.events begun.failed ended.failed
           (one begun.first.now) (one ended.first.now) (two begun.second.now) (two ended.second.now) ended.agree;
-      first_keeps = half_keeps _ _ (is_first _ (λ m. one m.halves.first.now) (λ m. two m.halves.second.now) (λ x y. each_stands x.halves.first.ghost_name x.halves.second.ghost_name y.halves.first.ghost_name y.halves.second.ghost_name (Together x.halves.apart (one x.halves.first_then.value) (two x.halves.second_then.value)) (Together y.halves.apart (one y.halves.first_then.value) (two y.halves.second_then.value)) x.halves.made.events y.halves.made.events x.halves.failed y.halves.failed
+      first_keeps = half_keeps _ _ (is_first _ (λ m. one m.halves.first.now) (λ m. two m.halves.second.now) (λ x y. each_stands x.halves.first.ghost_name x.halves.second.ghost_name y.halves.first.ghost_name y.halves.second.ghost_name x.halves.apart (one x.halves.first_then.value) (two x.halves.second_then.value) y.halves.apart (one y.halves.first_then.value) (two y.halves.second_then.value) x.halves.made.events y.halves.made.events x.halves.failed y.halves.failed
           (one x.halves.first.now) (one y.halves.first.now) (two x.halves.second.now) (two y.halves.second.now) y.halves.agree));
-      second_keeps = half_keeps _ _ (is_second _ (λ m. one m.halves.first.now) (λ m. two m.halves.second.now) (λ x y. each_stands x.halves.first.ghost_name x.halves.second.ghost_name y.halves.first.ghost_name y.halves.second.ghost_name (Together x.halves.apart (one x.halves.first_then.value) (two x.halves.second_then.value)) (Together y.halves.apart (one y.halves.first_then.value) (two y.halves.second_then.value)) x.halves.made.events y.halves.made.events x.halves.failed y.halves.failed
+      second_keeps = half_keeps _ _ (is_second _ (λ m. one m.halves.first.now) (λ m. two m.halves.second.now) (λ x y. each_stands x.halves.first.ghost_name x.halves.second.ghost_name y.halves.first.ghost_name y.halves.second.ghost_name x.halves.apart (one x.halves.first_then.value) (two x.halves.second_then.value) y.halves.apart (one y.halves.first_then.value) (two y.halves.second_then.value) x.halves.made.events y.halves.made.events x.halves.failed y.halves.failed
           (one x.halves.first.now) (one y.halves.first.now) (two x.halves.second.now) (two y.halves.second.now) y.halves.agree));
     }
