@@ -7,7 +7,7 @@ ghost use Rattle.ob_cells.specs.Windows.{AreRowsSealedAs, CanSealRows, IsRowSeal
 use crate::cell_run::CellRun;
 use crate::pieces::Pieces;
 use crate::window::Row;
-use ob_seal::Sealer;
+use ob_seal::{SealRun, Sealer};
 use std::thread::{Threads, join_mut};
 
 // How many cells a row has.
@@ -33,13 +33,14 @@ pub(crate) struct Start {
     pub(crate) number: u64,
 }
 
-// The cell of a piece, under this number.
-fn seal_piece<P: Pieces>(sealer: &Sealer, cell: u64, number: u64, pieces: &P, i: u64) -> [u8; 128]
-    requires { number < 2 ^ 62 }
-    ensures { IsSlotSealed sealer.now.keys cell sealer.now.generation number (P.plain pieces.now i)
-        result }
+// The cell of a piece, under the next number.
+fn seal_piece<P: Pieces>(seals: &mut SealRun, cell: u64, pieces: &P, i: u64) -> [u8; 128]
+    requires { seals.old.next < 2 ^ 62 }
+    ensures slot { IsSlotSealed seals.old.keys cell seals.old.generation seals.old.next
+        (P.plain pieces.now i) result }
+    ensures next { seals.new ≡ record seals.old { next = seals.old.next + 1 } }
 {
-    sealer.seal_at(cell, number, &pieces.piece(i))
+    seals.seal(cell, &pieces.piece(i))
 }
 
 // Seals a run's cells from one on, as far as it and the row go, under the numbers from its own on.
@@ -51,10 +52,10 @@ fn seal_row<P: Pieces>(sealer: &Sealer, run: &CellRun<'_, P>, start: Start, row:
         (P.plain run.now.pieces.now) run.now.many start.cell row.new }
 {
     let few = (run.many - start.cell).min(ROW) as usize;
+    let mut seals = sealer.run_from(start.number);
     for j in 0..few {
         let i = start.cell + j as u64;
-        let number = start.number + j as u64;
-        row[j] = seal_piece(sealer, run.base + i, number, run.pieces, i);
+        row[j] = seal_piece(&mut seals, run.base + i, run.pieces, i);
     }
 }
 

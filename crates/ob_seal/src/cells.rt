@@ -2,24 +2,42 @@
 
 // The parts of cells.
 
-ghost use Rattle.std.specs.Prelude.{◌≡◌, ◌+◌, ◌≤◌, ◌↔◌, ◌++◌, length, take, drop, IsTrue};
-ghost use Rattle.ob_seal.specs.Pads.{pad_of, xored};
+ghost use Rattle.std.specs.Prelude.{◌≡◌, ◌+◌, ◌≤◌, ◌↔◌, ◌++◌, ℕ, List, length, take, drop, IsTrue};
+ghost use Rattle.ob_seal.specs.Pads.{pad_of, before_pad, xored};
 ghost use Rattle.ob_seal.specs.Seals.{tag_of, identity_bytes};
 
 use rand_chacha::ChaCha20Rng;
 use rand_core::{SeedableRng, utils};
 use sha2::{Digest, Sha256};
 
-// The pad of a seal: 24 words of its generation's stream.
-pub(crate) fn pad_of(seal_key: &[u8; 32], generation: u64, number: u64) -> [u8; 96]
-    ensures { result ≡ pad_of seal_key.now generation number }
+// The generator whose next words are the pad of a seal.
+pub(crate) fn generator_at(seal_key: &[u8; 32], generation: u64, number: u64) -> ChaCha20Rng
+    ensures { result ≡ before_pad seal_key.now generation number }
 {
     let mut generator = ChaCha20Rng::from_seed(*seal_key);
     generator.set_stream(generation);
     generator.set_word_pos(24 * u128::from(number));
+    generator
+}
+
+// A generator's next 24 words: where it stands before a seal's pad they are that, and behind them it
+// stands before the next seal's.
+pub(crate) fn next_pad(generator: &mut ChaCha20Rng) -> [u8; 96]
+    ensures { (key : List ℕ) (generation number : ℕ)
+        → generator.old ≡ before_pad key generation number
+        → (result ≡ pad_of key generation number)
+        × (generator.new ≡ before_pad key generation (number + 1)) }
+{
     let mut pad = [0; 96];
-    utils::fill_bytes_via_u32(&mut generator, &mut pad);
+    utils::fill_bytes_via_u32(generator, &mut pad);
     pad
+}
+
+// The pad of a seal: 24 words of its generation's stream.
+pub(crate) fn pad_of(seal_key: &[u8; 32], generation: u64, number: u64) -> [u8; 96]
+    ensures { result ≡ pad_of seal_key.now generation number }
+{
+    next_pad(&mut generator_at(seal_key, generation, number))
 }
 
 // Each byte changed by the pad's.

@@ -5,12 +5,14 @@
 mod cells;
 mod keys;
 mod list_tape;
+mod seal_run;
 mod sealer;
 mod stream_tape;
 mod tape;
 
 pub use keys::Keys;
 pub use list_tape::ListTape;
+pub use seal_run::SealRun;
 pub use sealer::{Opened, Sealer};
 pub use stream_tape::ChaChaTape;
 pub use tape::Tape;

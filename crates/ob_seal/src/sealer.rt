@@ -1,10 +1,11 @@
 //! Sealing and opening cells.
 
 ghost use Rattle.std.specs.Prelude.{◌≡◌, ◌↔◌, ◌+◌, ◌≤◌, ◌<◌, ◌^◌, ℕ, List, length, IsErr, IfOk, OnOk, IfErr, OnErr, IfSome, IsSomeAnd, Ok};
+ghost use Rattle.ob_seal.specs.Pads.{pad_of};
 ghost use Rattle.ob_seal.specs.Seals.{sealed, sealed_front, stamped, identity_bytes};
 ghost use Rattle.ob_seal.specs.Damage.{IsExpected, IsDamage, IsOtherIdentity, IsWrongTag};
 
-use crate::{Keys, cells};
+use crate::{Keys, SealRun, cells};
 use ob_base::{Check, Damaged, NUMBER_LIMIT, Worn, u64_at};
 use std::marker::Model;
 
@@ -123,9 +124,36 @@ impl Sealer {
         ensures { result ≡ sealed self.now.keys cell self.now.generation number plain.now }
     {
         let pad = cells::pad_of(&self.keys.seal, self.generation, number);
+        self.seal_under(&pad, cell, number, plain)
+    }
+
+    // Seals plain bytes for a cell, with a given number, whose pad is at hand.
+    pub(crate) fn seal_under(
+        &self,
+        pad: &[u8; 96],
+        cell: u64,
+        number: u64,
+        plain: &[u8; 96],
+    ) -> [u8; 128]
+        requires { pad.now ≡ pad_of self.now.keys.seal self.now.generation number }
+        ensures { result ≡ sealed self.now.keys cell self.now.generation number plain.now }
+    {
         let identity = cells::identity_bytes(self.generation, number);
-        let front = cells::front_of(&identity, &cells::xored(plain, &pad));
+        let front = cells::front_of(&identity, &cells::xored(plain, pad));
         self.stamp(cell, &front)
+    }
+
+    /// What seals cells with the numbers from a given one on. It takes none: see `take`.
+    pub fn run_from(&self, number: u64) -> SealRun
+        requires { number ≤ 2 ^ 62 }
+        ensures { result ≡ record self.now { next = number } }
+    {
+        let sealer = Sealer {
+            keys: self.keys,
+            generation: self.generation,
+            next: number,
+        };
+        SealRun::new(sealer)
     }
 
     /// Takes the next number, which is then gone.

@@ -1,8 +1,10 @@
 //! Seals, stamps and pads against those made elsewhere, changed cells, and keys as text.
 
+ghost use Rattle.std.specs.Prelude.{◌≡◌, ◌+◌, ◌<◌, ◌^◌};
+
 use crate::shared::{damaged, is_damage, spelled, test_keys, test_sealer};
 use ob_base::{Check, Damaged, Fault};
-use ob_seal::{Keys, Opened, Sealer};
+use ob_seal::{Keys, Opened, SealRun, Sealer};
 
 // Plain bytes.
 #[derive(Clone, Copy)]
@@ -179,6 +181,26 @@ fn a_given_number_gives_its_bytes(rt: HostRuntime) {
     for row in SEALED {
         assert!(rt; seals_at(row));
     }
+}
+
+// Whether a cell gets these bytes, under a run's next number.
+fn runs_so(run: &mut SealRun, row: &Sealed) -> bool
+    requires { run.old.next < 2 ^ 62 }
+    ensures { run.new ≡ record run.old { next = run.old.next + 1 } }
+{
+    let Sealed(cell, _, _, plain, words) = row;
+    run.seal(*cell, &bytes_of(*plain)) == spelled(words)
+}
+
+#[test]
+fn a_run_of_seals_gives_the_bytes_of_each(rt: HostRuntime) {
+    let sealer = test_sealer(2);
+    let mut run = sealer.run_from(0);
+    assert!(rt; runs_so(&mut run, &SEALED[0]));
+    assert!(rt; runs_so(&mut run, &SEALED[1]));
+    // The third pad's words are made in two parts.
+    assert!(rt; run.seal(41, &[7; 96]) == sealer.seal_at(41, 2, &[7; 96]));
+    assert!(rt; sealer.next() == (2, 0));
 }
 
 #[test]
