@@ -1,5 +1,5 @@
 -- A row of runs over a formatted store, in which openings stop, is a history.
-use Rattle.std.specs.Prelude.{◌≡◌, ◌⊎◌, ℕ, ◌-◌, false, List, [], ◌∷◌, ◌++◌, length, Option, None}
+use Rattle.std.specs.Prelude.{◌≡◌, ℕ, ◌-◌, List, [], ◌∷◌, ◌++◌, length, None}
 use Rattle.std.proofs.Common.{zero, suc, arith, refl, sym, subst, inl, inr}
 use Rattle.ob_base.specs.Tree.{width}
 use Rattle.ob_base.specs.declared.params.Params.{Params}
@@ -12,7 +12,7 @@ use Rattle.ob_twin.specs.Register.{StandsAt}
 use Rattle.ob_twin.specs.declared.gates.Gates.{Gates}
 use Rattle.ob_recover.specs.Calls.{Finds}
 use Rattle.ob_recover.specs.Known.{format_gates, gates_open}
-use Rattle.ob_recover.specs.Life.{IsActAllowed, IsLife, LifeAct, LifeState, WordId, formatted_life, reached}
+use Rattle.ob_recover.specs.Life.{IsActAllowed, LifeAct, LifeState, WordId, formatted_life, reached}
 use Rattle.ob_opening.proofs.ActLaws.{FoundActs, found_acts}
 use Rattle.ob_opening.specs.OpeningActs.{AreGatesIn, IsLeftAt, StandsInLife}
 use Rattle.ob_vault.proofs.Fetching.{none_pending}
@@ -29,7 +29,7 @@ use Rattle.ob_admitted.proofs.Going as going
 use Rattle.ob_admitted.proofs.Living.{lives_are_filled}
 use Rattle.ob_admitted.proofs.Parts.{Filled}
 use Rattle.ob_admitted.proofs.Rowing.{row_is}
-use Rattle.ob_admitted.proofs.Stopped.{At, IsSound, Last, Leaves, Tail, found_life, gates_of, tail_none, tail_reads, tail_settled}
+use Rattle.ob_admitted.proofs.Stopped.{At, IsSound, Last, Tail, found_life, gates_of, tail_none, tail_reads, tail_settled}
 use Rattle.ob_admitted.proofs.Walking.{LeftWithin, SmallWithin}
 use Rattle.ob_admitted.proofs.Walks.{first_shut}
 

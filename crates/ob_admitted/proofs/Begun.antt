@@ -1,17 +1,15 @@
 -- An opening that showed its first sync and stopped, in a row of runs.
 use Rattle.std.specs.Prelude.{◌≡◌, ◌⊎◌, ◌<◌, ◌≤◌, ℕ, ◌+◌, ◌-◌, ◌%◌, Bool, true, false, cond, List, [], ◌∷◌, ◌++◌, length, take, Option, None, Some}
-use Rattle.std.proofs.Common.{zero, suc, append_assoc, arith, refl, sym, ap, ◌∙◌, subst, inl, inr}
+use Rattle.std.proofs.Common.{suc, arith, refl, sym, ap, ◌∙◌, subst, inl, inr}
 use Rattle.std.proofs.lemmas.Bool.{lt-ltb}
 use Rattle.std.proofs.lemmas.List.{append-nil}
 use Rattle.ob_base.specs.Layout.{EpochTwin, GenerationTwin}
-use Rattle.ob_base.specs.Repeats.{Has}
 use Rattle.ob_base.specs.Tree.{width}
 use Rattle.ob_base.specs.declared.params.Params.{Params}
 use Rattle.ob_store.specs.Disk.{Disk, Image}
 use Rattle.ob_store.specs.declared.watch.Note.{Note}
-use Rattle.ob_tables.specs.Content.{Content, content_of}
+use Rattle.ob_tables.specs.Content.{content_of}
 use Rattle.ob_tables.specs.Rank.{IsRanking}
-use Rattle.ob_log.specs.Logs.{BatchRecord}
 use Rattle.ob_schedule.specs.Schedule.{before_repeats, begun_public, gate_cell, head_notes, open_notes, repeats}
 use Rattle.ob_seal.specs.declared.keys.Keys.{Keys}
 use Rattle.ob_fresh.specs.PublicLives.{AreEndsShown}
@@ -20,19 +18,19 @@ use Rattle.ob_stand.proofs.OnceLaws.{register_once}
 use Rattle.ob_stand.proofs.OpenLaws.{open_begins}
 use Rattle.ob_stand.specs.Stands.{RingStanding, Stands, with_generation}
 use Rattle.ob_twin.specs.Keyed.{tagging}
-use Rattle.ob_twin.specs.Opening.{GatesAre, is_marked}
-use Rattle.ob_twin.specs.Register.{IsOpen, KeepsAt, SameOutside, StandsAt, gate_at, place_of}
+use Rattle.ob_twin.specs.Opening.{is_marked}
+use Rattle.ob_twin.specs.Register.{IsOpen, SameOutside, StandsAt, gate_at}
 use Rattle.ob_twin.specs.Stops.{IsPlaceLeft}
 use Rattle.ob_twin.specs.declared.gates.Gates.{Gates}
 use Rattle.ob_recover.proofs.Pads.{life_goes_on}
 use Rattle.ob_recover.proofs.LifeLabels.{planned_lasts}
-use Rattle.ob_recover.specs.Calls.{Finds, repeated}
+use Rattle.ob_recover.specs.Calls.{Finds}
 use Rattle.ob_recover.specs.Finds.{IsFoundOf}
 use Rattle.ob_recover.specs.Known.{fills_of, gates_open, public_of_kept}
 use Rattle.ob_recover.specs.Life.{IsActAllowed, IsLife, LifeAct, LifeState, Open, WordId, formatted_life, life_slots, life_step, planned_labels, reached}
 use Rattle.ob_recover.specs.Lives.{IsLifeAt}
 use Rattle.ob_recover.specs.declared.found.Found.{Found}
-use Rattle.ob_opening.specs.OpeningActs.{AreGatesIn, IsLeftAt, StandsInLife, notes_of_opening}
+use Rattle.ob_opening.specs.OpeningActs.{AreGatesIn, StandsInLife, notes_of_opening}
 use Rattle.ob_vault.proofs.Fetching.{none_pending, same_act}
 use Rattle.ob_vault.proofs.Founding.{found_is_standing}
 use Rattle.ob_vault.proofs.Joining.{none_found}
@@ -48,15 +46,15 @@ use Rattle.ob_admitted.specs.Fills.{FillsAll}
 use Rattle.ob_admitted.specs.Lives.{IsLifeFilled, IsRepeatedLeft, IsRepeatedRun}
 use Rattle.ob_admitted.specs.Openings.{IsOpeningShown}
 use Rattle.ob_admitted.specs.Repeats.{begin_acts}
-use Rattle.ob_admitted.specs.Rows.{IsRunShown, LeavesFound}
-use Rattle.ob_admitted.specs.Stopped.{IsBegunLeft, IsGenerationBy, StopsBegun, begun_row, opening_row, public_of_found, reads_at}
+use Rattle.ob_admitted.specs.Rows.{IsRunShown}
+use Rattle.ob_admitted.specs.Stopped.{IsBegunLeft, StopsBegun, begun_row, public_of_found, reads_at}
 use Rattle.ob_admitted.specs.Wholes.{found_of_life}
 use Rattle.ob_admitted.proofs.Gating.{both_marked, marked_epoch, marked_generation, marked_open, open_marked, place_found, two_places}
 use Rattle.ob_admitted.proofs.Lives.{Shown, one_run, take_front}
 use Rattle.ob_admitted.proofs.Openings as openings
 use Rattle.ob_admitted.proofs.Parts.{Filled, filled_first, filled_last}
 use Rattle.ob_admitted.proofs.Rowing.{Row, goes_on, run_one}
-use Rattle.ob_admitted.proofs.Stopped.{At, IsSound, Last, Leaves, Tail, filled_at, gates_of, sound_then}
+use Rattle.ob_admitted.proofs.Stopped.{At, IsSound, Last, Tail, filled_at, gates_of, sound_then}
 use Rattle.ob_admitted.proofs.Walking.{LeftWithin, SmallWithin}
 use Rattle.ob_admitted.proofs.Wholes.{repeats_ended, repeats_whole}
 

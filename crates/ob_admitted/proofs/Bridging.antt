@@ -1,6 +1,6 @@
 -- What an opening says that was refused is what a row takes of it.
-use Rattle.std.specs.Prelude.{◌≡◌, ◌⊎◌, ◌<◌, ◌≤◌, ℕ, ◌+◌, ◌-◌, ◌%◌, List, [], ◌∷◌, ◌++◌, length, take, Err}
-use Rattle.std.proofs.Common.{zero, suc, append_assoc, arith, length-append, refl, sym, ap, ◌∙◌, subst, inl, inr, ⊎_elim}
+use Rattle.std.specs.Prelude.{◌≡◌, ◌⊎◌, ◌<◌, ◌≤◌, ℕ, ◌+◌, ◌-◌, ◌%◌, List, [], ◌∷◌, ◌++◌, length, take}
+use Rattle.std.proofs.Common.{suc, append_assoc, arith, length-append, refl, sym, ap, ◌∙◌, subst, inl, inr}
 use Rattle.std.proofs.lemmas.Bool.{cases_lt}
 use Rattle.std.proofs.lemmas.List.{append-nil}
 use mathlib.Core.Path.{fun_ext}
@@ -12,16 +12,14 @@ use Rattle.ob_store.specs.Disk.{Disk, Image}
 use Rattle.ob_store.specs.Images.{Passes, Same, Shrinks}
 use Rattle.ob_store.specs.Lines.{Trace}
 use Rattle.ob_store.specs.declared.watch.Note.{Note}
-use Rattle.ob_store.specs.declared.watch.Note.TheVariants.{Sync}
 use Rattle.ob_log.specs.Logs.{BatchRecord, RecordsFit}
-use Rattle.ob_schedule.specs.Schedule.{Fills, Public, before_repeats, check_cells, head_notes, open_notes, reads_of, region_cells}
+use Rattle.ob_schedule.specs.Schedule.{Public, before_repeats, check_cells, head_notes, open_notes, reads_of, region_cells}
 use Rattle.ob_seal.specs.declared.keys.Keys.{Keys}
 use Rattle.ob_stand.specs.Stands.{RingStanding, Stands}
 use Rattle.ob_stand.specs.Table.{flat_of}
 use Rattle.ob_tables.specs.Content.{Content, Obeys, content_of}
 use Rattle.ob_twin.specs.Keyed.{tagging}
 use Rattle.ob_twin.specs.Register.{StandsAt}
-use Rattle.ob_twin.specs.Stops.{StopsShort}
 use Rattle.ob_start.specs.Beginning.{IsSyncedLeft}
 use Rattle.ob_start.specs.Orders.{registers_notes}
 use Rattle.ob_start.specs.Registers as start
@@ -34,11 +32,11 @@ use Rattle.ob_recover.specs.Repeats.{repeat_notes}
 use Rattle.ob_recover.specs.ShownOpenings.{OpeningIsScheduled}
 use Rattle.ob_recover.specs.declared.found.Found.{Found}
 use Rattle.ob_opening.specs.OpeningRuns.{ReadsFirst, begun_notes, next_notes}
-use Rattle.ob_opening.specs.OpeningStops.{IsLeftByOpening, OpeningStops, StopsAt, StopsBehind, StopsInRepeats, next_set}
+use Rattle.ob_opening.specs.OpeningStops.{IsLeftByOpening, OpeningStops, StopsAt, next_set}
 use Rattle.ob_vault.proofs.Ending.{records_fit_of}
 use Rattle.ob_vault.proofs.Founding.{found_is_standing}
 use Rattle.ob_admitted.specs.Refused.{IsNumberLeft, RefusedOpeningsAreShown, notes_at, notes_of_reads, notes_of_stop}
-use Rattle.ob_admitted.specs.Stopped.{IsBegunLeft, IsGenerationBy, IsStopShown, StopsBegun, StopsReading, begun_row, opening_row, public_of_found, reads_at}
+use Rattle.ob_admitted.specs.Stopped.{IsBegunLeft, IsGenerationBy, IsStopShown, begun_row, public_of_found, reads_at}
 use Rattle.ob_admitted.proofs.Shown.{IsFront, cut_front, front_more, front_take}
 
 -- the reads, as the schedule groups them

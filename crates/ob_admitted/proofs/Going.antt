@@ -1,7 +1,7 @@
 -- A run that served, in a row of runs in which openings stop.
-use Rattle.std.specs.Prelude.{◌≡◌, ℕ, Bool, true, cond, List, [], ◌∷◌, ◌++◌, length, Option, None, Some}
+use Rattle.std.specs.Prelude.{◌≡◌, ℕ, Bool, cond, List, [], ◌∷◌, ◌++◌, length, Option, None, Some}
 use Rattle.std.specs.Ordering.{nat_cmp}
-use Rattle.std.proofs.Common.{suc, append_assoc, refl, sym, ap, ◌∙◌, subst, inl, inr}
+use Rattle.std.proofs.Common.{suc, append_assoc, refl, sym, ap, ◌∙◌, subst, inl}
 use Rattle.ob_base.specs.Tree.{width}
 use Rattle.ob_base.specs.declared.params.Params.{Params}
 use Rattle.ob_store.specs.Disk.{Disk, Image}
@@ -10,7 +10,6 @@ use Rattle.ob_store.specs.declared.watch.Note.{Note}
 use Rattle.ob_tables.specs.Rank.{IsRanking}
 use Rattle.ob_schedule.specs.Schedule.{Fills}
 use Rattle.ob_seal.specs.declared.keys.Keys.{Keys}
-use Rattle.ob_fresh.specs.PublicLives.{AreEndsShown}
 use Rattle.ob_twin.specs.declared.gates.Gates.{Gates}
 use Rattle.ob_recover.proofs.Pads.{life_goes_on}
 use Rattle.ob_recover.specs.Calls.{Finds}
@@ -26,7 +25,7 @@ use Rattle.ob_vault.specs.Hidden.{RingHidden}
 use Rattle.ob_vault.specs.Joined.{IsRunTold, Served}
 use Rattle.ob_vault.specs.KindShown.{public_behind}
 use Rattle.ob_vault.specs.Lives.{GoesOnInLife, IsLeftInLife, IsOpenedInLife, IsRunInLife, opening_acts}
-use Rattle.ob_vault.specs.RingKind.{IsRingMap, RingFound, ring_hidden, ring_kind, ring_public}
+use Rattle.ob_vault.specs.RingKind.{RingFound, ring_hidden, ring_kind, ring_public}
 use Rattle.ob_vault.specs.Seen.{RingPublic}
 use Rattle.ob_vault.specs.Shapes.{Shape}
 use Rattle.ob_histories.specs.Fills.{AllFills}
@@ -34,11 +33,10 @@ use Rattle.ob_histories.specs.Histories.{MayFind}
 use Rattle.ob_histories.specs.Runs.{HistoryRun, RunFound, is_settled}
 use Rattle.ob_admitted.specs.Lives.{IsLifeFilled}
 use Rattle.ob_admitted.specs.Parts.{IsRefusedShown}
-use Rattle.ob_admitted.specs.Publics.{AreRecordsWhole}
 use Rattle.ob_admitted.specs.Rows.{LeavesFound}
 use Rattle.ob_admitted.specs.Served.{IsServedLeft, IsServedRun}
 use Rattle.ob_admitted.specs.Stopped.{IsServedAsShown}
-use Rattle.ob_admitted.specs.Told.{AreGatesLeft, IsRunNoted}
+use Rattle.ob_admitted.specs.Told.{IsRunNoted}
 use Rattle.ob_admitted.specs.Wholes.{found_of_life}
 use Rattle.ob_admitted.proofs.Acts.{LeftSound, Sound, calls_sound, ends_join, left_sound, life_first, life_last, whole_join}
 use Rattle.ob_admitted.proofs.Lives.{Shown, one_run}

@@ -1,18 +1,13 @@
 -- Rows of runs in which openings stopped are histories.
-use Rattle.std.specs.Prelude.{◌≡◌, ◌≢◌, ◌⊎◌, ◌↔◌, ◌<◌, ◌≤◌, ℕ, ◌+◌, ◌-◌, ◌%◌, Bool, true, false, cond, IsTrue, List, [], ◌∷◌, ◌++◌, length, take, Option, None, Some}
-use Rattle.std.specs.Ordering.{nat_cmp}
-use Rattle.std.proofs.Common.{zero, suc, append_assoc, arith, length-append, refl, sym, ap, ◌∙◌, subst, inl, inr, ⊎_elim}
-use Rattle.std.proofs.lemmas.Bool.{cases_eq, false≢true, lt-ltb}
-use Rattle.std.proofs.lemmas.List.{append-nil}
+use Rattle.std.specs.Prelude.{◌≡◌, ◌≢◌, ◌⊎◌, ◌↔◌, ◌≤◌, ℕ, ◌+◌, ◌%◌, Bool, true, false, IsTrue, List, [], ◌∷◌, ◌++◌, length, take, Option, Some}
+use Rattle.std.proofs.Common.{zero, suc, append_assoc, arith, refl, sym, ap, ◌∙◌, subst, inl, inr}
+use Rattle.std.proofs.lemmas.Bool.{cases_eq, false≢true}
 use Rattle.ob_base.specs.Layout.{EpochTwin, GenerationTwin, LogArea}
-use Rattle.ob_base.specs.Tree.{width}
 use Rattle.ob_base.specs.declared.params.Params.{Params}
 use Rattle.ob_store.specs.Disk.{Disk, Image}
-use Rattle.ob_store.specs.declared.event.Event.{Event}
 use Rattle.ob_store.specs.declared.watch.Note.{Note}
 use Rattle.ob_store.specs.declared.watch.Note.TheVariants.{Sync}
-use Rattle.ob_tables.specs.Rank.{IsRanking}
-use Rattle.ob_schedule.specs.Schedule.{Fills, before_repeats, check_cells, gate_cell, head_notes, reads_of, region_cells, set_twin}
+use Rattle.ob_schedule.specs.Schedule.{check_cells, head_notes, reads_of, region_cells, set_twin}
 use Rattle.ob_seal.specs.declared.keys.Keys.{Keys}
 use Rattle.ob_fresh.specs.PublicLives.{AreEndsShown}
 use Rattle.ob_twin.specs.Bodies.{open_gate}
@@ -22,17 +17,14 @@ use Rattle.ob_recover.proofs.LifeLabels.{planned_lasts}
 use Rattle.ob_recover.proofs.Pads.{life_goes_on}
 use Rattle.ob_recover.specs.Calls.{Finds}
 use Rattle.ob_recover.specs.Known.{gates_open}
-use Rattle.ob_recover.specs.Life.{IsActAllowed, IsLife, LabelFill, LifeAct, LifeState, WordId, formatted_life, life_step, planned_labels, reached}
+use Rattle.ob_recover.specs.Life.{IsActAllowed, IsLife, LifeAct, LifeState, WordId, formatted_life, reached}
 use Rattle.ob_opening.proofs.ActLaws.{FoundActs, found_acts}
 use Rattle.ob_opening.specs.OpeningActs.{AreGatesIn, IsLeftAt, StandsInLife}
 use Rattle.ob_twin.specs.Register.{StandsAt, gate_at}
-use Rattle.ob_vault.proofs.Whole.{reached_join}
-use Rattle.ob_vault.specs.Acts.{AreBatchesSmall}
 use Rattle.ob_histories.proofs.Finding.{epoch_at}
 use Rattle.ob_histories.specs.Fills.{AllFills, public_at}
 use Rattle.ob_histories.specs.Histories.{MayFind}
 use Rattle.ob_histories.specs.Runs.{HistoryRun, RunFound, opening_reads, opening_step}
-use Rattle.ob_admitted.specs.Fills.{FillsAll}
 use Rattle.ob_admitted.specs.Lives.{IsLifeFilled}
 use Rattle.ob_admitted.specs.Publics.{AreRecordsWhole}
 use Rattle.ob_admitted.specs.Rows.{IsBarelyOpened}
@@ -41,7 +33,6 @@ use Rattle.ob_admitted.specs.Wholes.{found_of_life}
 use Rattle.ob_admitted.proofs.Acts.{ends_join, whole_join}
 use Rattle.ob_admitted.proofs.Parts.{Filled, filled_last}
 use Rattle.ob_admitted.proofs.Rowing.{Row, barely_one}
-use Rattle.ob_admitted.proofs.Walking.{LeftWithin, SmallWithin}
 
 -- ---- lists
 

@@ -11,7 +11,6 @@ use Rattle.ob_tables.specs.Rank.{IsRanking}
 use Rattle.ob_schedule.specs.Schedule.{Fills, gate_cell}
 use Rattle.ob_seal.specs.declared.keys.Keys.{Keys}
 use Rattle.ob_fresh.specs.PublicLives.{AreEndsShown}
-use Rattle.ob_recover.proofs.LifeLabels.{planned_lasts}
 use Rattle.ob_recover.proofs.Pads.{life_goes_on}
 use Rattle.ob_recover.specs.Known.{format_gates, gates_open}
 use Rattle.ob_base.specs.Layout.{EpochTwin, GenerationTwin}
@@ -41,7 +40,7 @@ use Rattle.ob_admitted.specs.Served.{IsServedLeft, IsServedThen}
 use Rattle.ob_admitted.specs.Told.{AreAllGatesLeft, AreGatesLeft, IsRunNoted, NotedRunsAreAdmitted}
 use Rattle.ob_admitted.specs.Walks.{AreLeftAsShown, AreRunsTold, AreServedParts, IsRowAsShown, IsRowInLife, IsServedPart, RowsOfRunsAreAdmitted, first_gates}
 use Rattle.ob_admitted.specs.Wholes.{found_of_life}
-use Rattle.ob_admitted.proofs.Acts.{LeftSound, Sound, calls_sound, ends_join, left_sound, life_first, life_last, slots_first, slots_last, whole_join}
+use Rattle.ob_admitted.proofs.Acts.{LeftSound, Sound, calls_sound, ends_join, left_sound, life_first, life_last, whole_join}
 use Rattle.ob_admitted.proofs.Gating.{both_marked, marked_epoch, marked_generation}
 use Rattle.ob_admitted.proofs.Lives.{lives_are}
 use Rattle.ob_admitted.proofs.Living.{lives_are_filled}

@@ -1,6 +1,6 @@
 -- What an opening says of itself that was refused, as a row of runs takes it.
-use Rattle.std.specs.Prelude.{◌≡◌, ◌⊎◌, ◌≤◌, ℕ, ◌-◌, List, ◌++◌, length, take}
-use Rattle.std.proofs.Common.{suc, inl, inr}
+use Rattle.std.specs.Prelude.{◌≤◌, ℕ, ◌-◌, List, ◌++◌, length, take}
+use Rattle.std.proofs.Common.{inl, inr}
 use Rattle.ob_base.specs.declared.fault.Fault.{Fault}
 use Rattle.ob_base.specs.declared.params.Params.{Params}
 use Rattle.ob_store.specs.Calls.{Keeps}
@@ -16,7 +16,7 @@ use Rattle.ob_tables.specs.Content.{content_of}
 use Rattle.ob_recover.specs.Repeats.{repeat_notes}
 use Rattle.ob_recover.specs.declared.found.Found.{Found}
 use Rattle.ob_opening.specs.OpeningRuns.{ReadsFirst, begun_notes}
-use Rattle.ob_opening.specs.OpeningStops.{OpeningStops, StopsAt, StopsBehind, next_set}
+use Rattle.ob_opening.specs.OpeningStops.{OpeningStops, StopsAt, next_set}
 use Rattle.ob_admitted.specs.Stopped.{IsGenerationBy, IsStopShown}
 
 module _ (keys : Keys) (most : ℕ) (p : Params) (old new : Disk) (before after : Trace) (fault : Fault) where
