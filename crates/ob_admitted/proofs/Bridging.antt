@@ -35,8 +35,9 @@ use Rattle.ob_opening.specs.OpeningRuns.{ReadsFirst, begun_notes, next_notes}
 use Rattle.ob_opening.specs.OpeningStops.{IsLeftByOpening, OpeningStops, StopsAt, next_set}
 use Rattle.ob_vault.proofs.Ending.{records_fit_of}
 use Rattle.ob_vault.proofs.Founding.{found_is_standing}
-use Rattle.ob_admitted.specs.Refused.{IsNumberLeft, RefusedOpeningsAreShown, notes_at, notes_of_reads, notes_of_stop}
+use Rattle.ob_admitted.specs.Refused.{IsNumberLeft, RefusedHeadsAreShown, RefusedOpeningsAreShown, notes_at, notes_of_reads, notes_of_stop}
 use Rattle.ob_admitted.specs.Stopped.{IsBegunLeft, IsGenerationBy, IsStopShown, begun_row, public_of_found, reads_at}
+use Rattle.ob_admitted.proofs.Stopped.{front_of}
 use Rattle.ob_admitted.proofs.Shown.{IsFront, cut_front, front_more, front_take}
 
 -- the reads, as the schedule groups them
@@ -196,3 +197,9 @@ module _ {S : Type 0} (disk : S → Disk) (keys : Keys) (most : ℕ) (p : Params
 
 pub refused_openings : {S : Type 0} (disk : S → Disk) → RefusedOpeningsAreShown disk
 refused_openings disk keys most p old read new before after fault s tells stands keeps passes stops numbers = by_stop disk keys most p old read new before after fault s tells stands keeps passes stops numbers
+
+pub refused_heads : {S : Type 0} (disk : S → Disk) → RefusedHeadsAreShown disk
+refused_heads disk keys p old new count passes = inl (record {
+  shown = λ epoch stands. (let front = front_of count head_notes (reads_of (region_cells p GenerationTwin ++ region_cells p EpochTwin) ++ reads_of (check_cells p (epoch % 2)) ++ reads_of (region_cells p (LogArea ((epoch + 1) % 2)))) in (front.0, front.2));
+  shrinks = λ image will. (let (was, may, is) = passes.now image will in subst (λ (c : Image). (disk old).may_leave c) (sym is) may);
+})

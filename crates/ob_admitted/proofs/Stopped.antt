@@ -37,7 +37,7 @@ use Rattle.ob_admitted.proofs.Rowing.{Row, barely_one}
 -- ---- lists
 
 -- a front of a list is one of what it begins
-front_of : {X : Type 0} (n : ℕ) (xs ys : List X) → (m : ℕ) × (m ≤ length xs) × (take n xs ≡ take m (xs ++ ys))
+pub front_of : {X : Type 0} (n : ℕ) (xs ys : List X) → (m : ℕ) × (m ≤ length xs) × (take n xs ≡ take m (xs ++ ys))
 front_of zero xs ys = (0, omega arith, refl)
 front_of (suc n) [] ys = (0, omega arith, refl)
 front_of {X} (suc n) (x ∷ xs) ys = (let rest = front_of n xs ys in (suc rest.0, (let few = rest.1 in omega (arith, few)), ap (λ (zs : List X). x ∷ zs) rest.2))

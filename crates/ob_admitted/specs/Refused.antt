@@ -45,3 +45,7 @@ abbrev pub RefusedOpeningsAreShown : {S : Type 0} → (S → Disk) → Type 0
 RefusedOpeningsAreShown {S} disk = (keys : Keys) (most : ℕ) (p : Params) (old read new : S) (before after : Trace) (fault : Fault) (s : RingStanding) → (disk old).tells → Stands keys p s (disk old).cells → Keeps (disk old) (disk read) → Passes Same (disk old) (disk read)
     → (stops : OpeningStops keys most p (disk read) (disk new) before after fault) → IsNumberLeft keys most p (disk read) (disk new) before after fault stops
     → IsStopShown keys p (disk old) (disk new) (head_notes ++ notes_of_stop keys most p (disk read) (disk new) before after fault stops)
+
+-- Of the head some notes were shown, or none, and nothing was done: so it is where the head was refused, or the run before it came to that.
+abbrev pub RefusedHeadsAreShown : {S : Type 0} → (S → Disk) → Type 0
+RefusedHeadsAreShown {S} disk = (keys : Keys) (p : Params) (old new : S) (count : ℕ) → Passes Same (disk old) (disk new) → IsStopShown keys p (disk old) (disk new) (take count head_notes)

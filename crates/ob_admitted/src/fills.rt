@@ -21,7 +21,7 @@ ghost use Rattle.ob_admitted.specs.Notes.{CallsGoByFills};
 ghost use Rattle.ob_admitted.specs.Openings.{OpeningsAreRuns};
 ghost use Rattle.ob_admitted.specs.Parts.{PartsAreRuns};
 ghost use Rattle.ob_admitted.specs.Publics.{LivesGoByFills};
-ghost use Rattle.ob_admitted.specs.Refused.{RefusedOpeningsAreShown};
+ghost use Rattle.ob_admitted.specs.Refused.{RefusedHeadsAreShown, RefusedOpeningsAreShown};
 ghost use Rattle.ob_admitted.specs.Repeats.{OpeningsGoByFills};
 ghost use Rattle.ob_admitted.specs.Rows.{RowsAreAdmitted};
 ghost use Rattle.ob_admitted.specs.Served.{ServedRunsAreShown};
@@ -216,8 +216,10 @@ pub fn stopped_stages_are_admitted<S: Store>()
 {}
 
 /// What an opening says that was refused, behind the head's read, is what such a row takes of it: which
-/// notes it showed, and what it left of cells and gates. Premise: where it showed its first sync, the
-/// generations' register stands in each image as the notes tell that lack.
+/// notes it showed, and what it left of cells and gates. So it is of a run that came to the head at most.
+/// Premise: where it showed its first sync, the generations' register stands in each image as the notes
+/// tell that lack.
 pub fn refused_openings_are_shown<S: Store>()
-    ensures { RefusedOpeningsAreShown (λ store. S.disk store) }
+    ensures openings { RefusedOpeningsAreShown (λ store. S.disk store) }
+    ensures heads { RefusedHeadsAreShown (λ store. S.disk store) }
 {}
