@@ -47,7 +47,7 @@ use Rattle.ob_admitted.specs.Lives.{IsLifeFilled, IsRepeatedLeft, IsRepeatedRun}
 use Rattle.ob_admitted.specs.Openings.{IsOpeningShown}
 use Rattle.ob_admitted.specs.Repeats.{begin_acts}
 use Rattle.ob_admitted.specs.Rows.{IsRunShown}
-use Rattle.ob_admitted.specs.Stopped.{IsBegunLeft, StopsBegun, begun_row, public_of_found, reads_at}
+use Rattle.ob_admitted.specs.Stopped.{IsBegunLeft, StopsBegun, begun_row, public_of_found, reads_of_opening}
 use Rattle.ob_admitted.specs.Wholes.{found_of_life}
 use Rattle.ob_admitted.proofs.Gating.{both_marked, marked_epoch, marked_generation, marked_open, open_marked, place_found, two_places}
 use Rattle.ob_admitted.proofs.Lives.{Shown, one_run, take_front}
@@ -98,8 +98,8 @@ module _ (keys : Keys) (p : Params) (word_of : WordId → ℕ) (slot : ℕ → �
         ap (λ (n : ℕ). head_notes ++ before_repeats p (public_of_found p found) gates (suc n)) generation_is
         ∙ ap (λ (e : ℕ). head_notes ++ before_repeats p (record (public_at p f s.epoch) { epoch = e }) (λ cell. x.generation_gate) (suc s.generation)) (epoch_is ∙ sym (epoch_at p f s.epoch))
 
-    reads_are : reads_at p found.epoch ≡ opening_reads p f false x
-    reads_are = ap (λ (e : ℕ). reads_at p e) (epoch_is ∙ sym (epoch_at p f s.epoch))
+    reads_are : reads_of_opening p found.epoch ≡ opening_reads p f false x
+    reads_are = ap (λ (e : ℕ). reads_of_opening p e) (epoch_is ∙ sym (epoch_at p f s.epoch))
 
     settled : is_settled p f false x 0 b.count ≡ true
     settled = lt-ltb (length (opening_reads p f false x)) b.count (subst (λ (n : ℕ). n < b.count) (ap (λ (ns : List Note). length ns) reads_are) b.settled)

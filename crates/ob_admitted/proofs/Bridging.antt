@@ -1,6 +1,6 @@
 -- What an opening says that was refused is what a row takes of it.
 use Rattle.std.specs.Prelude.{◌≡◌, ◌⊎◌, ◌<◌, ◌≤◌, ℕ, ◌+◌, ◌-◌, ◌%◌, List, [], ◌∷◌, ◌++◌, length, take}
-use Rattle.std.proofs.Common.{suc, append_assoc, arith, length-append, refl, sym, ap, ◌∙◌, subst, inl, inr}
+use Rattle.std.proofs.Common.{zero, suc, append_assoc, arith, length-append, refl, sym, ap, ◌∙◌, subst, inl, inr, ⊎_elim}
 use Rattle.std.proofs.lemmas.Bool.{cases_lt}
 use Rattle.std.proofs.lemmas.List.{append-nil}
 use mathlib.Core.Path.{fun_ext}
@@ -35,8 +35,8 @@ use Rattle.ob_opening.specs.OpeningRuns.{ReadsFirst, begun_notes, next_notes}
 use Rattle.ob_opening.specs.OpeningStops.{IsLeftByOpening, OpeningStops, StopsAt, next_set}
 use Rattle.ob_vault.proofs.Ending.{records_fit_of}
 use Rattle.ob_vault.proofs.Founding.{found_is_standing}
-use Rattle.ob_admitted.specs.Refused.{IsNumberLeft, RefusedHeadsAreShown, RefusedOpeningsAreShown, notes_at, notes_of_reads, notes_of_stop}
-use Rattle.ob_admitted.specs.Stopped.{IsBegunLeft, IsGenerationBy, IsStopShown, begun_row, public_of_found, reads_at}
+use Rattle.ob_admitted.specs.Refused.{RefusedHeadsAreShown, RefusedOpeningsAreShown, notes_at, notes_of_reads, notes_of_stop}
+use Rattle.ob_admitted.specs.Stopped.{IsBegunLeft, IsGenerationBy, IsStopShown, begun_row, public_of_found, reads_of_opening}
 use Rattle.ob_admitted.proofs.Stopped.{front_of}
 use Rattle.ob_admitted.proofs.Shown.{IsFront, cut_front, front_more, front_take}
 
@@ -47,7 +47,7 @@ finding_are p epoch =
     (λ i. registers_read p i ++ (check_read p epoch i ++ (log_read p (suc epoch) ∙ ap (λ (n : ℕ). reads_of (region_cells p (LogArea (n % 2)))) next) i))
     ∙ sym (append_assoc (reads_of (region_cells p GenerationTwin ++ region_cells p EpochTwin)) (reads_of (check_cells p (epoch % 2))) (reads_of (region_cells p (LogArea ((epoch + 1) % 2)))))
 
-reads_are : (p : Params) (epoch : ℕ) → head_notes ++ finding_notes p epoch ≡ reads_at p epoch
+reads_are : (p : Params) (epoch : ℕ) → head_notes ++ finding_notes p epoch ≡ reads_of_opening p epoch
 reads_are p epoch = ap (λ (ns : List Note). head_notes ++ ns) (finding_are p epoch)
 
 -- a front of a list that is no longer than its front is one of that
@@ -113,18 +113,26 @@ module _ (keys : Keys) (p : Params) (old new : Disk) where
     split : length (begun_notes p found) ≡ length (finding_notes p found.epoch) + suc (length (next_set found))
     split = length-append (finding_notes p found.epoch) (next_notes found)
 
+    -- the register stood at what was found
+    stood : StandsAt (tagging keys) 1 old.cells found.generation
+    stood = subst (λ (n : ℕ). StandsAt (tagging keys) 1 old.cells n) (sym same.generation) stands.generation
+
+    generation_by : (lack : ℕ) (image : Image) → IsSyncedLeft keys (suc found.generation) old.cells lack image → IsGenerationBy keys found.generation lack image
+    generation_by zero image left = (left.number found.generation refl stood).stands
+    generation_by (suc zero) image left = ⊎_elim (λ was. inl was.stands) (λ is. inr is.stands) (left.number found.generation refl stood)
+    generation_by (suc (suc lack)) image left = (left.number found.generation refl stood).stands
+
     -- its first sync was shown
     begun_shown : (shown : List Note) → IsFront all shown → length (begun_notes p found) - length shown ≤ length (next_set found)
-        → ((image : Image) → new.may_leave image → IsSyncedLeft keys (suc found.generation) old.cells (length (begun_notes p found) - length shown) image)
-        → ((image : Image) → new.may_leave image → IsGenerationBy keys found.generation (length (begun_notes p found) - length shown) image) → IsStopShown keys p old new (head_notes ++ shown)
-    begun_shown shown front few left numbers = inr (record {
+        → ((image : Image) → new.may_leave image → IsSyncedLeft keys (suc found.generation) old.cells (length (begun_notes p found) - length shown) image) → IsStopShown keys p old new (head_notes ++ shown)
+    begun_shown shown front few left = inr (record {
       found = found;
       found_in = in_cells;
       found_open = some;
       count = suc (length shown);
       settled = (let reads = ap (λ (ns : List Note). length ns) (reads_are p found.epoch) in let whole = split in omega (arith, reads, whole, few));
       notes_are = ap (λ (ns : List Note). head_notes ++ ns) (front_take all shown front);
-      left = λ image will. subst (λ (n : ℕ). IsBegunLeft keys found.generation old.cells n image) (sym (many shown)) (record { gates = left image will; stands = numbers image will });
+      left = λ image will. subst (λ (n : ℕ). IsBegunLeft keys found.generation old.cells n image) (sym (many shown)) (record { gates = left image will; stands = generation_by (length (begun_notes p found) - length shown) image (left image will) });
     })
 
     -- it wasn't
@@ -160,10 +168,8 @@ module _ {S : Type 0} (disk : S → Disk) (keys : Keys) (most : ℕ) (p : Params
     here lack image left = subst (λ (c : Image). IsSyncedLeft keys (suc found.generation) c lack image) same_cells left
 
     by_stops : (stops : StopsAt (begun_notes p found) keys most p found (disk read) (disk new) before after fault)
-        → (lacking (notes_at keys most p (disk read) (disk new) before after fault found stops) ≤ length (next_set found)
-        → (image : Image) → (disk new).may_leave image → IsGenerationBy keys found.generation (lacking (notes_at keys most p (disk read) (disk new) before after fault found stops)) image)
         → IsStopShown keys p (disk old) (disk new) (head_notes ++ notes_at keys most p (disk read) (disk new) before after fault found stops)
-    by_stops (inl short) numbers = by_count (cases_lt (length (next_set found)) (lacking (short.first).shown))
+    by_stops (inl short) = by_count (cases_lt (length (next_set found)) (lacking (short.first).shown))
       where
         before_sync : length (next_set found) < lacking (short.first).shown → (image : Image) → IsLeftByOpening keys found (disk read) (lacking (short.first).shown) image → (disk old).may_leave image
         before_sync many_lack image (inl was) = back image was.1
@@ -179,24 +185,24 @@ module _ {S : Type 0} (disk : S → Disk) (keys : Keys) (most : ℕ) (p : Params
         by_count (inr few) =
             begun_shown keys p (disk old) (disk new) found s stands in_cells some (short.first).shown
             (begun_front keys p (disk old) (disk new) found s stands in_cells some (short.first).shown (cut_front (begun_notes p found) (short.first).made (short.first).shown (short.first).cut)) few
-            (λ image will. behind_sync few image (short.left image will)) (numbers few)
-    by_stops (inr again) numbers =
+            (λ image will. behind_sync few image (short.left image will))
+    by_stops (inr again) =
         let count : ℕ = ((again.told).repeats).count in
         let repeated_notes : List Note = repeat_notes p (content_of found.tables).versions (flat_of p (content_of found.tables)) (take count found.records) in
         let none : 0 ≡ lacking (begun_notes p found ++ repeated_notes) = (let whole = length-append (begun_notes p found) repeated_notes in omega (arith, whole)) in
         let few : lacking (begun_notes p found ++ repeated_notes) ≤ length (next_set found) = omega (arith, none) in
         begun_shown keys p (disk old) (disk new) found s stands in_cells some (begun_notes p found ++ repeated_notes)
         (again_front keys p (disk old) (disk new) found s stands in_cells some count ((again.told).repeats).few) few
-        (λ image will. subst (λ (n : ℕ). IsSyncedLeft keys (suc found.generation) (disk old).cells n image) none (here 0 image (again.left image will (keeps.tells tells)))) (numbers few)
+        (λ image will. subst (λ (n : ℕ). IsSyncedLeft keys (suc found.generation) (disk old).cells n image) none (here 0 image (again.left image will (keeps.tells tells))))
 
-  by_stop : (stops : OpeningStops keys most p (disk read) (disk new) before after fault) → IsNumberLeft keys most p (disk read) (disk new) before after fault stops
+  by_stop : (stops : OpeningStops keys most p (disk read) (disk new) before after fault)
       → IsStopShown keys p (disk old) (disk new) (head_notes ++ notes_of_stop keys most p (disk read) (disk new) before after fault stops)
-  by_stop (inl reads) numbers = by_reads reads.0 reads.1
-  by_stop (inr behind) numbers =
-      by_stops behind.found (subst (λ (c : Image). IsFoundInRing keys p c behind.found) same_cells (behind.found_in (keeps.tells tells))) behind.found_open behind.stops numbers
+  by_stop (inl reads) = by_reads reads.0 reads.1
+  by_stop (inr behind) =
+      by_stops behind.found (subst (λ (c : Image). IsFoundInRing keys p c behind.found) same_cells (behind.found_in (keeps.tells tells))) behind.found_open behind.stops
 
 pub refused_openings : {S : Type 0} (disk : S → Disk) → RefusedOpeningsAreShown disk
-refused_openings disk keys most p old read new before after fault s tells stands keeps passes stops numbers = by_stop disk keys most p old read new before after fault s tells stands keeps passes stops numbers
+refused_openings disk keys most p old read new before after fault s tells stands keeps passes stops = by_stop disk keys most p old read new before after fault s tells stands keeps passes stops
 
 pub refused_heads : {S : Type 0} (disk : S → Disk) → RefusedHeadsAreShown disk
 refused_heads disk keys p old new count passes = inl (record {

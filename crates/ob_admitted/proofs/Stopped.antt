@@ -28,7 +28,7 @@ use Rattle.ob_histories.specs.Runs.{HistoryRun, RunFound, opening_reads, opening
 use Rattle.ob_admitted.specs.Lives.{IsLifeFilled}
 use Rattle.ob_admitted.specs.Publics.{AreRecordsWhole}
 use Rattle.ob_admitted.specs.Rows.{IsBarelyOpened}
-use Rattle.ob_admitted.specs.Stopped.{StopsReading, reads_at}
+use Rattle.ob_admitted.specs.Stopped.{StopsReading, reads_of_opening}
 use Rattle.ob_admitted.specs.Wholes.{found_of_life}
 use Rattle.ob_admitted.proofs.Acts.{ends_join, whole_join}
 use Rattle.ob_admitted.proofs.Parts.{Filled, filled_last}
@@ -83,11 +83,11 @@ gates_of image =
 
 module _ (p : Params) (f : AllFills) where
   -- it shows no more than the first of its reads
-  pub reads_barely : (x : RunFound) (epoch : ℕ) → x.epoch ≡ epoch → (notes : List Note) (count : ℕ) → notes ≡ take count (reads_at p epoch) → IsBarelyOpened p f x notes
+  pub reads_barely : (x : RunFound) (epoch : ℕ) → x.epoch ≡ epoch → (notes : List Note) (count : ℕ) → notes ≡ take count (reads_of_opening p epoch) → IsBarelyOpened p f x notes
   reads_barely x epoch same notes count is =
       let e : ℕ = (public_at p f x.epoch).epoch in
       let set : List Note = set_twin p GenerationTwin (suc x.generation) x.generation_gate in
-      let here : reads_at p epoch ≡ opening_reads p f false x = ap (λ (n : ℕ). reads_at p n) (sym same ∙ sym (epoch_at p f x.epoch)) in
+      let here : reads_of_opening p epoch ≡ opening_reads p f false x = ap (λ (n : ℕ). reads_of_opening p n) (sym same ∙ sym (epoch_at p f x.epoch)) in
       let all : opening_step p f false x ≡ opening_reads p f false x ++ ((Sync ∷ []) ++ set) =
       ap (λ (ns : List Note). head_notes ++ ns)
       (append_assoc ((reads_of (region_cells p GenerationTwin ++ region_cells p EpochTwin) ++ reads_of (check_cells p (e % 2))) ++ reads_of (region_cells p (LogArea ((e + 1) % 2)))) (Sync ∷ []) set) in

@@ -1,10 +1,10 @@
 -- What an opening says of itself that was refused, as a row of runs takes it.
-use Rattle.std.specs.Prelude.{◌≤◌, ℕ, ◌-◌, List, ◌++◌, length, take}
+use Rattle.std.specs.Prelude.{ℕ, List, ◌++◌, take}
 use Rattle.std.proofs.Common.{inl, inr}
 use Rattle.ob_base.specs.declared.fault.Fault.{Fault}
 use Rattle.ob_base.specs.declared.params.Params.{Params}
 use Rattle.ob_store.specs.Calls.{Keeps}
-use Rattle.ob_store.specs.Disk.{Disk, Image}
+use Rattle.ob_store.specs.Disk.{Disk}
 use Rattle.ob_store.specs.Images.{Passes, Same}
 use Rattle.ob_store.specs.Lines.{Trace}
 use Rattle.ob_store.specs.declared.watch.Note.{Note}
@@ -16,8 +16,8 @@ use Rattle.ob_tables.specs.Content.{content_of}
 use Rattle.ob_recover.specs.Repeats.{repeat_notes}
 use Rattle.ob_recover.specs.declared.found.Found.{Found}
 use Rattle.ob_opening.specs.OpeningRuns.{ReadsFirst, begun_notes}
-use Rattle.ob_opening.specs.OpeningStops.{OpeningStops, StopsAt, next_set}
-use Rattle.ob_admitted.specs.Stopped.{IsGenerationBy, IsStopShown}
+use Rattle.ob_opening.specs.OpeningStops.{OpeningStops, StopsAt}
+use Rattle.ob_admitted.specs.Stopped.{IsStopShown}
 
 module _ (keys : Keys) (most : ℕ) (p : Params) (old new : Disk) (before after : Trace) (fault : Fault) where
   -- the notes that it showed: some of its reads,
@@ -34,16 +34,10 @@ module _ (keys : Keys) (most : ℕ) (p : Params) (old new : Disk) (before after 
   notes_of_stop (inl reads) = notes_of_reads reads.0
   notes_of_stop (inr behind) = notes_at behind.found behind.stops
 
-  -- Where it showed its first sync, the generations' register stands in each image as its notes tell.
-  abbrev pub IsNumberLeft : OpeningStops keys most p old new before after fault → Type 0
-  IsNumberLeft (inl reads) = Unit {0}
-  IsNumberLeft (inr behind) = length (begun_notes p behind.found) - length (notes_at behind.found behind.stops) ≤ length (next_set behind.found)
-      → (image : Image) → new.may_leave image → IsGenerationBy keys (behind.found).generation (length (begun_notes p behind.found) - length (notes_at behind.found behind.stops)) image
-
 -- The head was read, and behind it the opening stopped so. Where the store stood for something, it showed and left what a row takes of it.
 abbrev pub RefusedOpeningsAreShown : {S : Type 0} → (S → Disk) → Type 0
 RefusedOpeningsAreShown {S} disk = (keys : Keys) (most : ℕ) (p : Params) (old read new : S) (before after : Trace) (fault : Fault) (s : RingStanding) → (disk old).tells → Stands keys p s (disk old).cells → Keeps (disk old) (disk read) → Passes Same (disk old) (disk read)
-    → (stops : OpeningStops keys most p (disk read) (disk new) before after fault) → IsNumberLeft keys most p (disk read) (disk new) before after fault stops
+    → (stops : OpeningStops keys most p (disk read) (disk new) before after fault)
     → IsStopShown keys p (disk old) (disk new) (head_notes ++ notes_of_stop keys most p (disk read) (disk new) before after fault stops)
 
 -- Of the head some notes were shown, or none, and nothing was done: so it is where the head was refused, or the run before it came to that.

@@ -40,12 +40,12 @@ use Rattle.ob_admitted.specs.Told.{IsRunNoted}
 -- ---- an opening that stopped
 
 -- what an opening reads where this epoch is durable: the head, both registers, the checkpoint, and the log of the epoch behind it
-abbrev pub reads_at : Params → (epoch : ℕ) → List Note
-reads_at p epoch = head_notes ++ (reads_of (region_cells p GenerationTwin ++ region_cells p EpochTwin) ++ reads_of (check_cells p (epoch % 2)) ++ reads_of (region_cells p (LogArea ((epoch + 1) % 2))))
+abbrev pub reads_of_opening : Params → (epoch : ℕ) → List Note
+reads_of_opening p epoch = head_notes ++ (reads_of (region_cells p GenerationTwin ++ region_cells p EpochTwin) ++ reads_of (check_cells p (epoch % 2)) ++ reads_of (region_cells p (LogArea ((epoch + 1) % 2))))
 
 -- It came to its reads at most, and showed the first of them; so each image might have been left before.
 pub record StopsReading (keys : Keys) (p : Params) (old new : Disk) (notes : List Note) : Type 0 where
-  pub shown : (epoch : ℕ) → StandsAt (tagging keys) 5 old.cells epoch → (count : ℕ) × (notes ≡ take count (reads_at p epoch))
+  pub shown : (epoch : ℕ) → StandsAt (tagging keys) 5 old.cells epoch → (count : ℕ) × (notes ≡ take count (reads_of_opening p epoch))
   pub shrinks : Shrinks old new
 
 -- what is public of what was found
@@ -77,7 +77,7 @@ pub record StopsBegun (keys : Keys) (p : Params) (old new : Disk) (notes : List 
   pub found_in : IsFoundInRing keys p old.cells found
   pub found_open : HaveOpen found.gates
   pub count : ℕ
-  pub settled : length (reads_at p found.epoch) < count
+  pub settled : length (reads_of_opening p found.epoch) < count
   pub notes_are : notes ≡ take count (opening_row p found)
   pub left : (image : Image) → new.may_leave image → IsBegunLeft keys found.generation old.cells (length (begun_row p found) - count) image
 

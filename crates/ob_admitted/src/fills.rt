@@ -216,9 +216,8 @@ pub fn stopped_stages_are_admitted<S: Store>()
 {}
 
 /// What an opening says that was refused, behind the head's read, is what such a row takes of it: which
-/// notes it showed, and what it left of cells and gates. So it is of a run that came to the head at most.
-/// Premise: where it showed its first sync, the generations' register stands in each image as the notes
-/// tell that lack.
+/// notes it showed, and what it left of cells, gates and the generation. So it is of a run that came to
+/// the head at most.
 pub fn refused_openings_are_shown<S: Store>()
     ensures openings { RefusedOpeningsAreShown (λ store. S.disk store) }
     ensures heads { RefusedHeadsAreShown (λ store. S.disk store) }
