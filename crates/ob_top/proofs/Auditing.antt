@@ -1,7 +1,6 @@
 -- What an auditor knows goes on run by run.
-use Rattle.std.proofs.Common.{◌≡◌, ◌∙◌, ◌⊎◌, ◌+◌, ℕ, suc, Bool, true, false, cond, List, [], ◌∷◌, ◌++◌, length, Option, None, Some, append_assoc, ap, inl, inr, refl, subst, sym, ⊎_elim}
+use Rattle.std.proofs.Common.{◌≡◌, ◌∙◌, ℕ, suc, Bool, true, false, cond, List, [], ◌∷◌, ◌++◌, length, Option, None, Some, append_assoc, ap, inl, inr, refl, subst, sym, ⊎_elim}
 use Rattle.std.specs.List.{flat_map}
-use Rattle.std.specs.Ordering.{nat_cmp}
 use Rattle.std.proofs.lemmas.List.{append-nil}
 use Rattle.std.proofs.lemmas.List.Concat.{flat_map-append}
 use Rattle.ob_audit.specs.Traces.{Admitted, lines_in}
@@ -17,8 +16,8 @@ use Rattle.ob_recover.specs.Calls.{Finds}
 use Rattle.ob_recover.specs.Known.{format_gates, gates_open}
 use Rattle.ob_recover.specs.Life.{IsActAllowed, IsLife, LifeAct, LifeState, Open, WordId, formatted_life, life_slots, life_step, planned_labels, reached}
 use Rattle.ob_schedule.proofs.Determined.{determined}
-use Rattle.ob_schedule.specs.Follow.{Follow, TakesLine, started}
-use Rattle.ob_schedule.specs.Schedule.{Fills, format_notes, gate_cell, head_notes}
+use Rattle.ob_schedule.specs.Follow.{Follow, started}
+use Rattle.ob_schedule.specs.Schedule.{format_notes, gate_cell, head_notes}
 use Rattle.ob_schedule.specs.declared.line.Line.{Line}
 use Rattle.ob_schedule.specs.declared.line.Line.TheVariants as L
 use Rattle.ob_seal.specs.declared.keys.Keys.{Keys}
@@ -43,8 +42,8 @@ use Rattle.ob_histories.proofs.Written.{behind_takes, lines_are}
 use Rattle.ob_histories.specs.Fills.{AllFills, AreAllFills}
 use Rattle.ob_histories.specs.Histories.{AreRunsBehind, IsHistory, MayFind, found_formatted, lines_of_notes, run_lines}
 use Rattle.ob_histories.specs.Laws.{AreAdmitted, TakesLines}
-use Rattle.ob_histories.specs.Runs.{HistoryRun, RunFound, is_settled, run_notes}
-use Rattle.ob_histories.specs.Texts.{HaveTexts, with_feed}
+use Rattle.ob_histories.specs.Runs.{HistoryRun, RunFound, is_settled}
+use Rattle.ob_histories.specs.Texts.{HaveTexts}
 use Rattle.ob_admitted.proofs.Acts.{LeftSound, Sound, calls_sound, ends_join, left_sound, life_first, life_last, slots_first, slots_last, whole_join}
 use Rattle.ob_admitted.proofs.Gating.{both_marked, marked_epoch, marked_generation}
 use Rattle.ob_admitted.proofs.Living.{lives_are_filled}
@@ -62,7 +61,7 @@ use Rattle.ob_admitted.specs.Wholes.{found_of_life}
 use Rattle.ob_top.proofs.Bytes.{notes_text}
 use Rattle.ob_top.proofs.Rowing.{IsRowPart, part}
 use Rattle.ob_top.specs.Again.{new_past}
-use Rattle.ob_top.specs.Auditors.{AreHistoryOf, AuditorKnows, FillsPast, FormatsAreRead, IsLifeLeft, IsRunRead, MayBegin, RunsAreRead, last_settled}
+use Rattle.ob_top.specs.Auditors.{AreHistoryOf, AuditorKnows, FillsPast, FormatsAreRead, IsLifeLeft, IsRunAudited, MayBegin, RunsAreRead, last_settled}
 use Rattle.ob_top.specs.Pasts.{PastLife, life_of, with_acts}
 use Rattle.ob_top.specs.Rows.{IsRowRun, TracedRun}
 
@@ -204,9 +203,9 @@ module _ {S : Type 0} (disk : S → Disk) (keys : Keys) (p : Params) (word_of : 
   noted : IsRunNoted (r.by).lanes p (public_behind ring_kind p (ring_public p x.found) x.steps) x.behind x.refused (r.tape).words x.seen x.last (x.left).shown left.made left.in_flight
   noted =
       subst (λ (g : GoesOnInLife keys (r.by).lanes p word_of began x.found (disk x.opened) x.calls x.steps x.behind x.refused (r.tape).words x.seen (disk r.new)).
-          IsRunNoted (r.by).lanes p (public_behind ring_kind p (ring_public p x.found) x.steps) x.behind x.refused (r.tape).words x.seen x.last (x.left).shown (g.left x.map_found x.is_map).made (g.left x.map_found x.is_map).in_flight)
-          (sym (whole_goes keys (r.by).lanes p (disk r.old).cells x.found (disk x.opened) (disk r.new) x.calls x.steps x.behind x.refused (r.tape).words x.seen x.begins (x.left).goes word_of s stands small tape))
-          ((x.left).noted word_of began (x.begins word_of s stands small).then tape x.map_found x.is_map)
+      IsRunNoted (r.by).lanes p (public_behind ring_kind p (ring_public p x.found) x.steps) x.behind x.refused (r.tape).words x.seen x.last (x.left).shown (g.left x.map_found x.is_map).made (g.left x.map_found x.is_map).in_flight)
+      (sym (whole_goes keys (r.by).lanes p (disk r.old).cells x.found (disk x.opened) (disk r.new) x.calls x.steps x.behind x.refused (r.tape).words x.seen x.begins (x.left).goes word_of s stands small tape))
+      ((x.left).noted word_of began (x.begins word_of s stands small).then tape x.map_found x.is_map)
 
   many : (asks : List (Option ℕ)) → x.refused ≡ Some (Fetch asks) → length asks ≡ p.places
   many = whole_by (r.by).lanes p (public_behind ring_kind p (ring_public p x.found) x.steps) x.behind x.refused (r.tape).words x.seen x.last (x.left).shown left.made left.in_flight noted
@@ -415,7 +414,7 @@ module _ {S : Type 0} (disk : S → Disk) (keys : Keys) (p : Params) (past : Pas
     more_acts : after ≡ past.acts ++ (at.rest ++ done disk keys p past.word_of past.slot (k.life).ranked acts at.life here_whole r x at.stands here_small tape)
     more_acts = append_assoc past.acts at.rest (done disk keys p past.word_of past.slot (k.life).ranked acts at.life here_whole r x at.stands here_small tape)
 
-    is_read : IsRunRead disk keys p past known r
+    is_read : IsRunAudited disk keys p past known r
     is_read = record {
       notes = rows_notes;
       shown = x.shown;

@@ -1,5 +1,5 @@
 -- The traces of a row of runs are the texts of its lines.
-use Rattle.std.proofs.Common.{◌≡◌, ◌∙◌, ◌≤◌, ◌⊎◌, ◌+◌, ◌^◌, ℕ, false, List, [], ◌∷◌, ◌++◌, length, map, Option, Some, append_assoc, ap, arith, inl, inr, refl, subst, sym}
+use Rattle.std.proofs.Common.{◌≡◌, ◌∙◌, ◌≤◌, ◌⊎◌, ◌+◌, ◌^◌, ℕ, false, List, [], ◌∷◌, ◌++◌, length, map, Option, Some, ap, arith, inl, inr, refl, subst, sym}
 use Rattle.std.specs.List.{flat_map}
 use Rattle.std.proofs.lemmas.List.{take_all}
 use Rattle.std.proofs.lemmas.List.Concat.{flat_map-append}
@@ -27,7 +27,7 @@ use Rattle.ob_admitted.specs.Rows.{lines_of_runs}
 use Rattle.ob_top.proofs.Rowing.{rows_fit}
 use Rattle.ob_top.proofs.Writing.{written_lines}
 use Rattle.ob_top.specs.Audits.{AuditDone, IsAuditRefused, IsAuditTold, verdict_status}
-use Rattle.ob_top.specs.Fitting.{AnswersFits, AreWhole, IsFitting, IsWhole, TraceSink, TracesFit, WasWritten, WereWritten}
+use Rattle.ob_top.specs.Fitting.{AnswersFits, AreTracesWhole, IsFitting, IsTraceWhole, TraceSink, TracesFit, WasWritten, WereWritten}
 use Rattle.ob_top.specs.Outside.{Outside}
 use Rattle.ob_top.specs.Rows.{AreRowsTold, TracedRun}
 
@@ -54,7 +54,7 @@ lines_text p rows =
 -- ---- what the sinks have
 
 module _ {W : Type 0} (flow : W → Flow) where
-  was_written : (first : List ℕ) (sink : TraceSink W) (t u : Trace) (notes : List Note) → IsWhole flow first sink t u → Shows notes t u → WasWritten flow sink (first ++ lines_of notes)
+  was_written : (first : List ℕ) (sink : TraceSink W) (t u : Trace) (notes : List Note) → IsTraceWhole flow first sink t u → Shows notes t u → WasWritten flow sink (first ++ lines_of notes)
   was_written first sink t u notes whole shows =
       let has = whole.has in
       record {
@@ -65,7 +65,7 @@ module _ {W : Type 0} (flow : W → Flow) where
         bytes = (written_lines first notes (flow has.before) (flow has.after) has.start t u has.tells has.whole has.line whole.begun shows has.told).all whole.unbroken;
       }
 
-  were_written : {S : Type 0} (runs : List (TracedRun S)) (sinks : List (TraceSink W)) (rows : List (List Note)) → AreWhole flow runs sinks → AreRowsTold runs rows → WereWritten flow sinks (map run_text rows)
+  were_written : {S : Type 0} (runs : List (TracedRun S)) (sinks : List (TraceSink W)) (rows : List (List Note)) → AreTracesWhole flow runs sinks → AreRowsTold runs rows → WereWritten flow sinks (map run_text rows)
   were_written [] [] [] are told = tt
   were_written (r ∷ runs) (sink ∷ sinks) (notes ∷ rows) (one, later) (shown, more) = (was_written (open_line false) sink r.first r.last notes one shown, were_written runs sinks rows later more)
   were_written [] [] (notes ∷ rows) are told = absurd told

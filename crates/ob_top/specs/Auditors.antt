@@ -83,7 +83,7 @@ pub record AuditorKnows (keys : Keys) (p : Params) (past : PastLife) (in_flight 
 module _ {S : Type 0} (disk : S → Disk) where
   -- A run's lines, as its watch was shown them, may stand behind what the auditor knew, and so may their text; behind them it knows as much of where the
   -- run has led the life.
-  pub record IsRunRead (keys : Keys) (p : Params) (past : PastLife) (known : Follow) (r : TracedRun S) : Type 0 where
+  pub record IsRunAudited (keys : Keys) (p : Params) (past : PastLife) (known : Follow) (r : TracedRun S) : Type 0 where
     pub notes : List Note
     pub shown : Shows notes r.first r.last
     pub then : Follow
@@ -101,4 +101,4 @@ module _ {S : Type 0} (disk : S → Disk) where
   -- and whoever knows that of a life goes on so with a run that served, from any image that was left.
   abbrev pub RunsAreRead : Type 0
   RunsAreRead = (keys : Keys) (p : Params) (past : PastLife) (in_flight : Option LifeAct) (last : S) (known : Follow) → AuditorKnows keys p past in_flight (disk last).may_leave known
-      → (r : TracedRun S) → IsRowRun disk keys p (disk last).may_leave r → AreTapeWords past.word_of (r.tape).generation (r.tape).words → IsRunRead keys p past known r
+      → (r : TracedRun S) → IsRowRun disk keys p (disk last).may_leave r → AreTapeWords past.word_of (r.tape).generation (r.tape).words → IsRunAudited keys p past known r

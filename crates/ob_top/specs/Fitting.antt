@@ -27,16 +27,16 @@ pub record TraceSink (W : Type 0) : Type 0 where
 
 module _ {W : Type 0} (flow : W → Flow) where
   -- A watch over it wrote this first line, told this behind that and that at the end, and never broke.
-  pub record IsWhole (first : List ℕ) (sink : TraceSink W) (t u : Trace) : Type 0 where
+  pub record IsTraceWhole (first : List ℕ) (sink : TraceSink W) (t u : Trace) : Type 0 where
     pub has : HasTrace flow first sink.was sink.is t u
     pub begun : t.broken ≡ false
     pub unbroken : u.broken ≡ false
 
   -- so did one of each run
-  abbrev pub AreWhole : {S : Type 0} → List (TracedRun S) → List (TraceSink W) → Type 0
-  AreWhole [] [] = Unit {0}
-  AreWhole (r ∷ runs) (sink ∷ sinks) = IsWhole (open_line false) sink r.first r.last × AreWhole runs sinks
-  AreWhole _ _ = ⊥
+  abbrev pub AreTracesWhole : {S : Type 0} → List (TracedRun S) → List (TraceSink W) → Type 0
+  AreTracesWhole [] [] = Unit {0}
+  AreTracesWhole (r ∷ runs) (sink ∷ sinks) = IsTraceWhole (open_line false) sink r.first r.last × AreTracesWhole runs sinks
+  AreTracesWhole _ _ = ⊥
 
   -- this text stands behind what the sink had
   pub record WasWritten (sink : TraceSink W) (text : List ℕ) : Type 0 where
@@ -65,5 +65,5 @@ pub record IsFitting (bytes : List ℕ) : Type 0 where
 -- had, and the format's text and theirs, one behind the other, fit, if they have at most 2^32 bytes.
 abbrev pub TracesFit : {S W : Type 0} → (S → Disk) → (W → Flow) → Type 0
 TracesFit {S} {W} disk flow = (keys : Keys) (p : Params) (made_by : Given) (blank made : S) (runs : List (TracedRun S)) → IsFormatted ring_kind ring_lives ring_audits disk made_by keys p blank made → (disk blank).tells → AreRowRuns disk keys p (disk made).may_leave runs
-    → (word_of : WordId → ℕ) → AreTapesOf word_of runs → (sink : TraceSink W) (t u : Trace) → ShowsFormat ring_kind p t u false → IsWhole flow (start_line p) sink t u → (sinks : List (TraceSink W)) → AreWhole flow runs sinks
+    → (word_of : WordId → ℕ) → AreTapesOf word_of runs → (sink : TraceSink W) (t u : Trace) → ShowsFormat ring_kind p t u false → IsTraceWhole flow (start_line p) sink t u → (sinks : List (TraceSink W)) → AreTracesWhole flow runs sinks
     → (text : List ℕ) × WasWritten flow sink text × (texts : List (List ℕ)) × WereWritten flow sinks texts × (length (text ++ flat_map (λ more. more) texts) ≤ 2 ^ 32 → IsFitting (text ++ flat_map (λ more. more) texts))
