@@ -1,5 +1,5 @@
 -- What is merely known of the halves' events is known of them: it can be so in one way.
-use Rattle.std.proofs.Common.{◌≡◌, ◌≤◌, ℕ, zero, suc, List, [], ◌∷◌, ◌++◌, Option, Some, None, Bool, length, drop, refl, sym, ◌∙◌, ap, subst}
+use Rattle.std.proofs.Common.{◌≡◌, ◌≤◌, ℕ, zero, suc, List, [], ◌∷◌, ◌++◌, Option, Some, None, length, drop, refl, sym, ◌∙◌, ap, subst}
 use Rattle.std.specs.Coded.{Coded, Coded-set, code_by, coded×, coded_list, coded_ℕ, le_prop, Unit-prop}
 use Rattle.std.specs.Borrow.{GName}
 use Rattle.std.proofs.Math.Logic.{∥∥₁_elim, ∥∥₁_map}

@@ -12,7 +12,6 @@ use Rattle.ob_lanes.specs.declared.hand.Hand.{Hand}
 use Rattle.ob_lanes.specs.declared.hand.SealedJobs.{SealedJobs}
 use Rattle.ob_lanes.specs.declared.hand.Slot.{Slot}
 use Rattle.ob_lanes.specs.Hands.{reads_of, slot_places}
-use Rattle.ob_lanes.specs.JobReads.{cells_of}
 use Rattle.ob_mirror.specs.declared.lane.SecondLane.{SecondLane}
 use Rattle.ob_mirror.specs.Asked.{IsAbsorbed}
 use Rattle.ob_mirror.specs.Mirrored.{Agree}

@@ -1,5 +1,5 @@
 -- What both halves of a mirror told of their calls when they were put together, as numbers.
-use Rattle.std.specs.Prelude.{ℕ, suc, List, [], ◌∷◌, Option, Some, None}
+use Rattle.std.specs.Prelude.{ℕ, List, [], ◌∷◌, Option, Some, None}
 use Rattle.ob_store.specs.declared.event.Event.{Event}
 use Rattle.ob_store.specs.declared.event.Event.TheVariants.{Read, Write, Sync}
 use Rattle.ob_store.specs.Disk.{Disk}

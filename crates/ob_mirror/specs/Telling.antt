@@ -1,5 +1,5 @@
 -- What the halves of a mirror tell of their own calls, beside the mirror's log.
-use Rattle.std.specs.Prelude.{◌≡◌, ◌≤◌, ℕ, List, [], ◌∷◌, Option, Some, None}
+use Rattle.std.specs.Prelude.{◌≡◌, ◌≤◌, List, [], ◌∷◌, Option, Some, None}
 use Rattle.ob_store.specs.declared.event.Event.{Event}
 use Rattle.ob_store.specs.declared.event.Event.TheVariants.{Read, Write, Sync}
 use Rattle.ob_store.specs.Disk.{Disk}

@@ -23,5 +23,6 @@ pub struct MirrorLane<A: Store, B: Store> {
     pub first: A::Lane,
     /// The second half's.
     pub second: SecondLane<B::Lane>,
-    pub ghost tells: { ∥ LaneTells second.reads.events (A.lane_seen first) (B.lane_seen second.lane) ∥₁ },
+    pub ghost tells: { ∥ LaneTells second.reads.events (A.lane_seen first)
+        (B.lane_seen second.lane) ∥₁ },
 }

@@ -187,7 +187,8 @@ fn part_at<A: Store, B: Store>(
     ensures many_firsts { length firsts.new ≡ length firsts.old }
     ensures many_seconds { length seconds.new ≡ length seconds.old }
     ensures parted { IsParted (hand_at hands.old i) (hand_at firsts.new i) (lane_at seconds.new i) }
-    ensures told { TellLanes A.lane_seen B.lane_seen (hand_at firsts.new i) (lane_at seconds.new i) }
+    ensures told { TellLanes A.lane_seen B.lane_seen (hand_at firsts.new i)
+        (lane_at seconds.new i) }
     ensures hands { (j : ℕ) → j ≢ i → hand_at hands.new j ≡ hand_at hands.old j }
     ensures firsts { (j : ℕ) → j ≢ i → hand_at firsts.new j ≡ hand_at firsts.old j }
     ensures seconds { (j : ℕ) → j ≢ i → lane_at seconds.new j ≡ lane_at seconds.old j }

@@ -20,8 +20,8 @@ pub fn halves_stand<'a, A: Store, B: Store>(old: &Mirror<'a, A, B>, new: &Mirror
 
 /// Of any two states of one mirror: since its halves were put together the first was asked for just
 /// what the mirror's log has, and the second to write and to sync what the first was, in the same
-/// order, and for reads beside. Neither's count of faults has fallen. That it is one mirror is known
-/// by what it holds to from call to call, whatever code it was lent to.
+/// order, and for reads beside. Neither's count of faults has fallen. That it is one mirror is told
+/// by its references, which stay from call to call, whatever code it was lent to.
 pub fn halves_are_asked<'a, A: Store, B: Store>(old: &Mirror<'a, A, B>, new: &Mirror<'a, A, B>)
     ensures { (⟦<Mirror<'a, A, B> as Store>⟧.disk new.now).anchors
         ≡ (⟦<Mirror<'a, A, B> as Store>⟧.disk old.now).anchors
