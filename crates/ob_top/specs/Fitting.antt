@@ -61,8 +61,8 @@ pub record IsFitting (bytes : List ℕ) : Type 0 where
   pub fits : FitsWhole (2 ^ 32) bytes
   pub answered : (before after : Outside) (status : ℕ) → before.input.bytes ≡ Some bytes → AuditDone before after status → AnswersFits before after status ⊎ IsAuditRefused before after status
 
--- Runs over a store that a format made, as above, the watch of each of which wrote a trace and never broke: each trace has a text behind what its sink
--- had, and the format's text and theirs, one behind the other, fit, if they have at most 2^32 bytes.
+-- A row of runs over a store that a format made, where the watches of the format and of each run wrote traces and never broke: each sink has a text behind
+-- what it had, and the format's text and theirs, one behind the other, fit, if they have at most 2^32 bytes.
 abbrev pub TracesFit : {S W : Type 0} → (S → Disk) → (W → Flow) → Type 0
 TracesFit {S} {W} disk flow = (keys : Keys) (p : Params) (made_by : Given) (blank made : S) (runs : List (TracedRun S)) → IsFormatted ring_kind ring_lives ring_audits disk made_by keys p blank made → (disk blank).tells → AreRowRuns disk keys p (disk made).may_leave runs
     → (word_of : WordId → ℕ) → AreTapesOf word_of runs → (sink : TraceSink W) (t u : Trace) → ShowsFormat ring_kind p t u false → IsTraceWhole flow (start_line p) sink t u → (sinks : List (TraceSink W)) → AreTracesWhole flow runs sinks

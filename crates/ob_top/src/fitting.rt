@@ -6,9 +6,9 @@ ghost use Rattle.ob_top.specs.Fitting.{TracesFit};
 use ob_io::Sink;
 use ob_store::Store;
 
-/// So of bytes: where runs over a store that a format made, as above, wrote their traces, and no
-/// trace failed, what stands in the format's and in theirs, one behind the other, fits: `audit`
-/// answers that wherever it comes in, if it has at most 2^32 bytes.
+/// So it is of bytes: where the format and the runs of such a row wrote their traces, and no trace
+/// failed, what they wrote, one behind the other, fits: `audit` answers that wherever it comes in,
+/// if it has at most 2^32 bytes.
 pub fn traces_fit<S: Store, W: Sink>()
     ensures { TracesFit (λ store. S.disk store) (λ sink. outflow W.Sink sink) }
 {}
