@@ -1,5 +1,6 @@
 //! Parameters, numbers in bytes, and the cells and paths of small stores.
 
+use crate::steps::{insist, insist_at};
 use ob_base::{
     Field, Params, bucket_of, buckets, check_cell, checkpoint_cells, checkpoint_len, log_cell,
     record_cells, reverse, ring_cells, set_u32, set_u64, slot_cell, u32_at, u64_at,
@@ -22,19 +23,25 @@ const RANGES: &[([u32; 9], Option<Field>)] = &[
 
 #[test]
 fn the_first_field_out_of_range_is_named(rt: HostRuntime) {
-    for (numbers, field) in RANGES {
-        assert!(rt; params_of(numbers).err() == *field);
+    for i in 0..RANGES.len() {
+        let (numbers, field) = &RANGES[i];
+        insist_at(&rt, params_of(numbers).err() == *field, i);
     }
+}
+
+// Whether two numbers are set low byte first, and read so.
+fn are_low_first() -> bool {
+    let mut bytes = [0; 16];
+    set_u32(&mut bytes, 1, 0x0403_0201);
+    set_u64(&mut bytes, 6, 0x0807_0605_0403_0201);
+    bytes == [0, 1, 2, 3, 4, 0, 1, 2, 3, 4, 5, 6, 7, 8, 0, 0]
+        && u32_at(&bytes, 1) == 0x0403_0201
+        && u64_at(&bytes, 6) == 0x0807_0605_0403_0201
 }
 
 #[test]
 fn numbers_stand_low_byte_first(rt: HostRuntime) {
-    let mut bytes = [0; 16];
-    set_u32(&mut bytes, 1, 0x0403_0201);
-    set_u64(&mut bytes, 6, 0x0807_0605_0403_0201);
-    assert!(rt; bytes == [0, 1, 2, 3, 4, 0, 1, 2, 3, 4, 5, 6, 7, 8, 0, 0]);
-    assert!(rt; u32_at(&bytes, 1) == 0x0403_0201);
-    assert!(rt; u64_at(&bytes, 6) == 0x0807_0605_0403_0201);
+    insist(&rt, are_low_first(), "both numbers");
 }
 
 // A number of a store.
@@ -134,6 +141,6 @@ const NUMBERS: &[(u32, Ask, u64)] = &[
 fn small_stores_have_these_cells_and_paths(rt: HostRuntime) {
     for i in 0..NUMBERS.len() {
         let (levels, ask, number) = &NUMBERS[i];
-        assert!(rt; number_in(*levels, ask) == Some(*number), "row {i}");
+        insist_at(&rt, number_in(*levels, ask) == Some(*number), i);
     }
 }

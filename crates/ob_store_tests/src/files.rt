@@ -7,7 +7,7 @@ use crate::files::Call::{
     Readers, Remove, Rename, Replace,
 };
 use crate::steps::Step::{Front, NotRead, NotSynced, NotWritten, Read, Synced, Turns, Write};
-use crate::steps::{Step, play};
+use crate::steps::{Step, insist_at, play};
 use ob_outside::{FileStore, OpenErr, open_locked};
 use ob_store::Store;
 use std::process::Abort;
@@ -183,7 +183,7 @@ fn run(rt: &impl Abort, host: &HostRuntime, name: &str, other: &str, calls: &[Ca
         store: None,
     };
     for i in 0..calls.len() {
-        assert!(rt; goes(rt, &mut room, &calls[i]), "call {i}");
+        insist_at(rt, goes(rt, &mut room, &calls[i]), i);
     }
 }
 

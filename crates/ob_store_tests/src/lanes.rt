@@ -4,7 +4,7 @@ ghost use Rattle.std.specs.Prelude.{◌≡◌, ◌≤◌};
 
 use crate::files::{fresh_path, opened};
 use crate::steps::Step::Read;
-use crate::steps::{new_store, play};
+use crate::steps::{insist, new_store, play};
 use ob_base::Job;
 use ob_lanes::{Lanes, Readers, Slot, read_jobs};
 use ob_mem::{BareStore, GateStore};
@@ -36,7 +36,7 @@ fn sealed<S: Store>(
         let cell = cells[i];
         let (generation, number) = sealer.next();
         let bytes = sealer.seal(cell, &plain_of(cell)).ok().expect(rt, "a seal");
-        assert!(rt; store.write(cell, &bytes).is_ok());
+        insist(rt, store.write(cell, &bytes).is_ok(), "a write");
         let job = Job {
             cell,
             generation,
@@ -82,8 +82,8 @@ fn reads_all<S: Lanes, R: Abort + Threads + Sync>(
 fn two_lanes_read_at_once(rt: HostRuntime) {
     let alloc = rt.alloc();
     let mut store = GateStore::new(new_store(&rt, alloc, 8, &[]), 10_000_000);
-    assert!(rt; reads_all(&rt, alloc, &mut store, &[5, 0, 6, 1]));
-    assert!(rt; store.phases() == 1);
+    let read = reads_all(&rt, alloc, &mut store, &[5, 0, 6, 1]);
+    insist(&rt, read && store.phases() == 1, "one phase");
 }
 
 // Whether a lane reads a cell while another one is out that reads nothing.
@@ -104,17 +104,22 @@ fn reads_beside_another<S: Store>(rt: &impl Abort, store: &mut S, cell: u64) -> 
 fn a_lane_that_reads_alone_beside_another_fails(rt: HostRuntime) {
     let alloc = rt.alloc();
     let mut store = GateStore::new(new_store(&rt, alloc, 8, &[]), 10);
-    assert!(rt; !reads_beside_another(&rt, &mut store, 5));
-    assert!(rt; store.phases() == 1);
+    let read = reads_beside_another(&rt, &mut store, 5);
+    let phases = store.phases();
     play(&rt, &mut store, &[Read(5, 0)]);
-    assert!(rt; store.phases() == 1);
+    insist(
+        &rt,
+        !read && phases == 1 && store.phases() == 1,
+        "one phase",
+    );
 }
 
 #[test]
 fn threads_read_a_bare_store(rt: HostRuntime) {
     let alloc = rt.alloc();
     let mut store = BareStore::new(alloc, 8).expect(&rt, "memory");
-    assert!(rt; reads_all(&rt, alloc, &mut store, &[5, 0, 7, 6, 1]));
+    let read = reads_all(&rt, alloc, &mut store, &[5, 0, 7, 6, 1]);
+    insist(&rt, read, "five cells");
 }
 
 // As many cells as it takes for a bare store to start a thread for each of two lanes.
@@ -128,7 +133,8 @@ fn threads_read_many_cells_of_a_bare_store(rt: HostRuntime) {
     for i in 0..MANY {
         cells[i] = (i * 7 % MANY) as u64;
     }
-    assert!(rt; reads_all(&rt, alloc, &mut store, &cells));
+    let read = reads_all(&rt, alloc, &mut store, &cells);
+    insist(&rt, read, "all cells");
 }
 
 // Whether threads read a new file.
@@ -142,6 +148,7 @@ fn is_read<R: Abort + Threads + Sync>(rt: &R, host: &HostRuntime, path: &str) ->
 #[test]
 fn threads_read_a_file(rt: HostRuntime) {
     let path = fresh_path(&rt, &rt, "threads");
-    assert!(rt; is_read(&rt, &rt, path.as_str()));
-    assert!(rt; fs::remove_file(&rt, path.as_str()).is_ok());
+    let read = is_read(&rt, &rt, path.as_str());
+    let removed = fs::remove_file(&rt, path.as_str()).is_ok();
+    insist(&rt, read && removed, "a new file");
 }

@@ -3,7 +3,7 @@
 ghost use Rattle.std.specs.Prelude.{◌≡◌};
 
 use crate::steps::Step::{NoLane, NotRead, NotSynced, NotWritten, Read, Synced, Write};
-use crate::steps::{Step, new_sink, new_store, play};
+use crate::steps::{Step, insist, new_sink, new_store, play};
 use ob_io::{Sink, Source, put_all, read_all};
 use ob_mem::{BareStore, Fail, MemSink, MemSource, MemStore, Void};
 use ob_store::{SinkWatch, Store, write_run};
@@ -21,43 +21,54 @@ fn new_source(rt: &impl Abort, alloc: Global, bytes: &[u8], fails: &[u64]) -> Me
     MemSource::new(bytes, fails)
 }
 
+// Whether it gives all that.
+fn gives_so(source: &mut MemSource) -> bool {
+    let mut piece = [0; 2];
+    for &(count, left) in READS {
+        if source.read(&mut piece).ok() != count || source.left().len() != left {
+            return false;
+        }
+    }
+    piece == [3, 2] && source.faults() == 1
+}
+
 #[test]
 fn a_source_fails_at_the_named_calls(rt: HostRuntime) {
     let mut source = new_source(&rt, rt.alloc(), &[1, 2, 3], &[1]);
-    let mut piece = [0; 2];
-    for &(count, left) in READS {
-        assert!(rt; source.read(&mut piece).ok() == count);
-        assert!(rt; source.left().len() == left);
-    }
-    assert!(rt; piece == [3, 2]);
-    assert!(rt; source.faults() == 1);
+    insist(&rt, gives_so(&mut source), "three bytes");
 }
 
 #[test]
 fn a_source_is_read_to_its_end(rt: HostRuntime) {
     let mut source = new_source(&rt, rt.alloc(), &[7; 5000], &[]);
     let read = read_all(rt.alloc(), &mut source, 10_000).ok();
-    assert!(rt; read.expect(&rt, "bytes").len() == 5000);
+    let bytes = read.expect(&rt, "bytes");
+    insist(&rt, bytes.len() == 5000, "its end");
 }
 
 // Of a sink with room for five bytes whose second write fails: what is written, and how much of it
 // is taken.
 const WRITES: &[(&[u8], Option<usize>)] = &[(b"ab", Some(2)), (b"cd", None), (b"cdef", Some(3))];
 
+// Whether it takes all that, and nothing behind it.
+fn takes_so(sink: &mut MemSink) -> bool {
+    for &(bytes, count) in WRITES {
+        if sink.write(bytes).ok() != count {
+            return false;
+        }
+    }
+    put_all(sink, b"g").is_err() && sink.written() == b"abcde".as_slice() && sink.faults() == 2
+}
+
 #[test]
 fn a_sink_fails_at_the_named_calls_and_without_room(rt: HostRuntime) {
     let mut sink = new_sink(&rt, rt.alloc(), 5, &[1]);
-    for &(bytes, count) in WRITES {
-        assert!(rt; sink.write(bytes).ok() == count);
-    }
-    assert!(rt; put_all(&mut sink, b"g").is_err());
-    assert!(rt; sink.written() == b"abcde".as_slice());
-    assert!(rt; sink.faults() == 2);
+    insist(&rt, takes_so(&mut sink), "five bytes");
 }
 
 #[test]
 fn a_void_takes_all(rt: HostRuntime) {
-    assert!(rt; put_all(&mut Void, b"abc").is_ok());
+    insist(&rt, put_all(&mut Void, b"abc").is_ok(), "three bytes");
 }
 
 const PLANNED: [Fail; 4] = [
@@ -82,7 +93,8 @@ const FAILING: &[Step] = &[
 fn planned_calls_of_a_store_fail(rt: HostRuntime) {
     let mut store = new_store(&rt, rt.alloc(), 3, &PLANNED);
     play(&rt, &mut store, FAILING);
-    assert!(rt; store.faults() == 5 && store.starved() == 0);
+    let counts = store.faults() == 5 && store.starved() == 0;
+    insist(&rt, counts, "five faults");
 }
 
 // Two cells, of which the first is sure.
@@ -136,8 +148,9 @@ fn write_runs(rt: &impl Abort, sink: &mut MemSink, store: &mut MemStore)
     ensures { store.new.log.out ≡ 0 }
 {
     let mut watch = SinkWatch::new(sink);
-    assert!(rt; write_run(store, 1, &[[5; 128], [6; 128]], &mut watch).is_ok());
-    assert!(rt; write_run(store, 2, &[[7; 128], [8; 128], [9; 128]], &mut watch).is_err());
+    let first = write_run(store, 1, &[[5; 128], [6; 128]], &mut watch);
+    let second = write_run(store, 2, &[[7; 128], [8; 128], [9; 128]], &mut watch);
+    insist(rt, first.is_ok() && second.is_err(), "two runs");
 }
 
 #[test]
@@ -145,6 +158,7 @@ fn a_run_is_written_cell_by_cell(rt: HostRuntime) {
     let mut store = new_store(&rt, rt.alloc(), 4, &[Fail::Write(3)]);
     let mut sink = new_sink(&rt, rt.alloc(), 40, &[]);
     write_runs(&rt, &mut sink, &mut store);
-    assert!(rt; sink.written() == b"W 1\nW 2\nW 2\nW 3\n".as_slice());
+    let shown = sink.written() == b"W 1\nW 2\nW 2\nW 3\n".as_slice();
+    insist(&rt, shown, "four writes");
     play(&rt, &mut store, RUNS);
 }

@@ -8,6 +8,16 @@ use ob_store::Store;
 use std::alloc::Global;
 use std::process::Abort;
 
+/// Ends the test where this isn't so, and names the case.
+pub fn insist<R: Abort>(rt: &R, so: bool, case: &str) {
+    assert!(rt; so, "{case}");
+}
+
+/// The same of a case by its number.
+pub fn insist_at<R: Abort>(rt: &R, so: bool, case: usize) {
+    assert!(rt; so, "{case}");
+}
+
 /// A call on a store, and its answer. A read has a lane of its own.
 #[derive(Drop)]
 pub enum Step {
@@ -114,7 +124,7 @@ pub fn play<S: Store>(rt: &impl Abort, store: &mut S, steps: &[Step])
     ensures { (S.disk store.new).out ≡ 0 }
 {
     for i in 0..steps.len() {
-        assert!(rt; answers_so(store, &steps[i]), "call {i}");
+        insist_at(rt, answers_so(store, &steps[i]), i);
     }
 }
 

@@ -1,5 +1,6 @@
 //! Readers and writers of std that halt, fail, or take few bytes.
 
+use crate::steps::insist;
 use ob_io::{ReadErr, put_all, read_all};
 use ob_outside::{StdSink, StdSource};
 use std::alloc::Global;
@@ -40,9 +41,13 @@ fn reads_so(alloc: Global, fails: bool, limit: u32, wanted: Option<usize>) -> bo
 
 #[test]
 fn a_reader_of_std_is_read_to_its_end_or_its_failure(rt: HostRuntime) {
-    assert!(rt; reads_so(rt.alloc(), false, 100, Some(3)));
-    assert!(rt; reads_so(rt.alloc(), false, 1, Some(2)));
-    assert!(rt; reads_so(rt.alloc(), true, 100, None));
+    for (fails, limit, wanted) in [
+        (false, 100, Some(3)),
+        (false, 1, Some(2)),
+        (true, 100, None),
+    ] {
+        insist(&rt, reads_so(rt.alloc(), fails, limit, wanted), "a reader");
+    }
 }
 
 // A writer that takes three bytes a call, and fails from the named call on.
@@ -70,6 +75,7 @@ impl Write for Narrow {
 fn a_writer_of_std_gets_every_piece_until_it_fails(rt: HostRuntime) {
     for (fails, whole) in [(3, true), (2, false), (1, false)] {
         let mut sink = StdSink::new(Narrow { calls: 0, fails });
-        assert!(rt; put_all(&mut sink, b"abcdef").is_ok() == whole);
+        let put = put_all(&mut sink, b"abcdef").is_ok();
+        insist(&rt, put == whole, "a writer");
     }
 }

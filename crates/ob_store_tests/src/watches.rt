@@ -5,7 +5,7 @@ ghost use Rattle.ob_mem.specs.Heard.{told};
 ghost use Rattle.ob_mem.specs.Memory.{disk_of_store};
 ghost use Rattle.ob_mem.specs.Laws.{counts_now, only_now, includes_reads};
 
-use crate::steps::{new_sink, new_store};
+use crate::steps::{insist, insist_at, new_sink, new_store};
 use ob_base::{Failed, Params};
 use ob_io::Sink;
 use ob_mem::{Fail, MemLane, MemStore};
@@ -129,18 +129,21 @@ fn start_of(rt: &impl Abort, begins: &Begins) -> Start {
     }
 }
 
+// Whether a trace is written so, and breaks where it has to.
+fn is_written<R: AllocGlobal + Abort>(rt: &R, trace: &Trace) -> bool {
+    let mut sink = new_sink(rt, rt.alloc(), trace.room, trace.fails);
+    let mut watch = SinkWatch::new(&mut sink);
+    watch.start(&start_of(rt, &trace.begins));
+    for note in &NOTES {
+        watch.note(*note);
+    }
+    watch.broken() == trace.broken && sink.written() == trace.written
+}
+
 #[test]
 fn a_trace_has_a_line_a_call(rt: HostRuntime) {
     for i in 0..TRACES.len() {
-        let trace = &TRACES[i];
-        let mut sink = new_sink(&rt, rt.alloc(), trace.room, trace.fails);
-        let mut watch = SinkWatch::new(&mut sink);
-        watch.start(&start_of(&rt, &trace.begins));
-        for note in &NOTES {
-            watch.note(*note);
-        }
-        assert!(rt; watch.broken() == trace.broken, "trace {i}");
-        assert!(rt; sink.written() == trace.written, "trace {i}");
+        insist_at(&rt, is_written(&rt, &TRACES[i]), i);
     }
 }
 
@@ -257,9 +260,10 @@ fn the_line_of_a_write_is_there_when_it_is_made(rt: HostRuntime) {
     let mut sink = LineSink { lines: &lines };
     let mut watch = SinkWatch::new(&mut sink);
     let mut store = looking(new_store(&rt, rt.alloc(), 4, &FAILS), &lines);
-    assert!(rt; call(&mut store, &mut watch) == [true, true, true, false, false]);
-    assert!(rt; (store.wanted, store.missed, lines.get()) == (5, 0, 5));
+    let answers = call(&mut store, &mut watch);
+    let shown = (store.wanted, store.missed, lines.get()) == (5, 0, 5);
     // One that isn't shown has no line.
-    assert!(rt; store.write(0, &[1; 128]).is_ok());
-    assert!(rt; store.missed == 1);
+    let written = store.write(0, &[1; 128]).is_ok() && store.missed == 1;
+    let answered = answers == [true, true, true, false, false];
+    insist(&rt, answered && shown && written, "six calls");
 }
