@@ -63,6 +63,13 @@ pub struct Answer {
     pub trace: Option<MemSink>,
 }
 
+impl Answer {
+    /// Whether this is the status, and just these lines were told; a `/` stands for the end of each.
+    pub fn is(&self, status: u64, told: &str) -> bool {
+        u64::from(self.status) == status && has(&self.output, told)
+    }
+}
+
 /// A text with its line ends, for each of which a `/` stands.
 ///
 /// # Errors
@@ -100,8 +107,11 @@ pub fn words_of<'a>(alloc: Global, line: &'a str) -> Result<Vec<&'a str>, Memory
     Ok(words)
 }
 
-// The script as the input, of which a read may fail.
-fn source_of(alloc: Global, script: &str, bad: u64) -> Result<MemSource, Memory> {
+/// The script as the input, of which a read may fail.
+///
+/// # Errors
+/// Memory was wanting.
+pub fn source_of(alloc: Global, script: &str, bad: u64) -> Result<MemSource, Memory> {
     let bad = [bad].to_vec(alloc)?;
     let bytes = lines_of(alloc, script)?.as_bytes().to_vec(alloc)?;
     Ok(MemSource::new(bytes, bad))
@@ -160,6 +170,30 @@ pub fn call_by<R: AllocGlobal + Threads + Wait + Sync, S: Lanes, B: Beat, W: Sin
     ))
 }
 
+/// Makes a call over a store.
+///
+/// # Errors
+/// Memory was wanting, and no call was made.
+pub fn call_over<R: AllocGlobal + Threads + Wait + Sync, S: Lanes>(
+    rt: &R,
+    store: &mut S,
+    ask: &Ask<'_>,
+) -> Result<Answer, Memory>
+    requires { (S.disk store.old).out ≡ 0 }
+    ensures { (S.disk store.new).out ≡ 0 }
+{
+    let mut answer = answer_to(rt.alloc(), ask)?;
+    answer.status = call_by(
+        rt,
+        store,
+        ask,
+        &mut answer.output,
+        &mut answer.trace,
+        &mut Eager,
+    )?;
+    Ok(answer)
+}
+
 /// Makes a call over a store in memory.
 ///
 /// # Errors
@@ -172,16 +206,7 @@ pub fn call<R: AllocGlobal + Threads + Wait + Sync>(
     requires { (disk_of_store store.old).out ≡ 0 }
     ensures { (disk_of_store store.new).out ≡ 0 }
 {
-    let mut answer = answer_to(rt.alloc(), ask)?;
-    answer.status = call_by(
-        rt,
-        store,
-        ask,
-        &mut answer.output,
-        &mut answer.trace,
-        &mut Eager,
-    )?;
-    Ok(answer)
+    call_over(rt, store, ask)
 }
 
 /// Makes a call without a store.

@@ -59,3 +59,34 @@ pub fn cell_of(store: &mut MemStore, cell: u64) -> Result<[u8; 128], Failed>
         Err(failed) => Err(failed),
     }
 }
+
+/// Whether two stores have the same bytes in each of so many cells.
+///
+/// # Errors
+/// A store failed.
+pub fn are_alike(one: &mut MemStore, other: &mut MemStore, cells: u64) -> Result<bool, Failed>
+    requires one { (disk_of_store one.old).out ≡ 0 }
+    requires other { (disk_of_store other.old).out ≡ 0 }
+    ensures one { (disk_of_store one.new).out ≡ 0 }
+    ensures other { (disk_of_store other.new).out ≡ 0 }
+{
+    for cell in 0..cells {
+        if cell_of(one, cell)? != cell_of(other, cell)? {
+            return Ok(false);
+        }
+    }
+    Ok(true)
+}
+
+/// Changes a bit of a cell.
+///
+/// # Errors
+/// The store failed.
+pub fn flip(store: &mut MemStore, cell: u64) -> Result<(), Failed>
+    requires { (disk_of_store store.old).out ≡ 0 }
+    ensures { (disk_of_store store.new).out ≡ 0 }
+{
+    let mut bytes = cell_of(store, cell)?;
+    bytes[20] ^= 1;
+    store.write(cell, &bytes)
+}

@@ -1,7 +1,8 @@
 //! What calls over a store answer, one behind the other.
 
-use crate::playing::{WIDE, expect, play_all};
+use crate::playing::{expect, play_all};
 use ob_mem::BareStore;
+use ob_top_calls::CELLS;
 
 // The next run finds what the one before left.
 const ONE_BY_ONE: &str = "\
@@ -102,8 +103,8 @@ static BARE: [(&str, &str); 3] = [
 
 #[test]
 fn a_store_that_tells_its_cells_alone_keeps_what_was_put(rt: HostRuntime) {
-    let mut store = BareStore::new(rt.alloc(), 109).ok().expect(&rt, "memory");
-    expect(&rt, &mut store, &[], WIDE, BARE[0].0, BARE[0].1);
-    expect(&rt, &mut store, &[], WIDE, BARE[1].0, BARE[1].1);
-    expect(&rt, &mut store, &[], WIDE, BARE[2].0, BARE[2].1);
+    let mut store = BareStore::new(rt.alloc(), CELLS).ok().expect(&rt, "memory");
+    for i in 0..BARE.len() {
+        expect(&rt, &mut store, &[], BARE[i].0, BARE[i].1);
+    }
 }

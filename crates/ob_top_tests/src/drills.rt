@@ -3,13 +3,15 @@
 ghost use Rattle.std.specs.Prelude.{◌≡◌};
 ghost use Rattle.ob_seal.specs.Draws.{list_drawn};
 
-use crate::noting::noted;
-use crate::playing::{CELLS as SMALL, WIDE};
+use crate::playing::insist;
 use ob_base::Fault;
 use ob_desk::Eager;
-use ob_mem::{Fail, MemSink, MemSource, MemStore};
+use ob_lanes::Lanes;
+use ob_mem::{Fail, MemSink};
 use ob_seal::{ChaChaTape, ListTape, Tape};
 use ob_top::{Drilled, drill_on, obladi};
+use ob_top_calls as calls;
+use ob_top_calls::{NEVER, Noting, WIDE, noted_blank, sink_of, source_of};
 use std::process::Abort;
 use std::sync::Wait;
 use std::thread::Threads;
@@ -23,49 +25,52 @@ const OF_TWO: [u8; 32] = [
     0x4e, 0x4c, 0xc1, 0x58, 0xcd, 0x17, 0x77, 0x8d, 0xc1, 0xcb, 0xce, 0xb9, 0x41, 0xe1, 0xb1, 0x29,
 ];
 
-// A self-test of two transactions over a store of so many cells, and how often that failed.
-fn drill_two<R: AllocGlobal + Threads + Wait + Sync + Abort>(
+// A self-test of two transactions.
+fn drill_over<R: AllocGlobal + Threads + Wait + Sync, S: Lanes>(
     rt: &R,
-    cells: usize,
-    fails: &[Fail],
-) -> (Result<Drilled, Fault>, u64) {
-    let fails = fails.to_vec(rt.alloc()).expect(rt, "memory");
-    let mut store = MemStore::new(rt.alloc(), cells, fails).expect(rt, "memory");
+    store: &mut S,
+) -> Result<Drilled, Fault>
+    requires tells { (S.disk store.old).tells }
+    requires none_out { (S.disk store.old).out ≡ 0 }
+{
     let mut made = ChaChaTape::new(&[0; 32]);
     let mut tape = ChaChaTape::new(&[0; 32]);
-    let drilled = drill_on(rt, 2, &mut store, &mut made, &mut tape, &mut Eager);
-    (drilled, store.faults())
+    drill_on(rt, 2, store, &mut made, &mut tape, &mut Eager)
+}
+
+// A self-test of two transactions over a new store of which these calls fail, and that store.
+fn drill_two<R: AllocGlobal + Threads + Wait + Sync + Abort>(
+    rt: &R,
+    fails: &[Fail],
+) -> (Result<Drilled, Fault>, Noting) {
+    let mut store = noted_blank(rt.alloc(), CELLS, fails).expect(rt, "memory");
+    let drilled = drill_over(rt, &mut store);
+    (drilled, store)
 }
 
 #[test]
 fn two_transactions_leave_two_keys(rt: HostRuntime) {
-    let (drilled, faults) = drill_two(&rt, CELLS, &[]);
+    let (drilled, store) = drill_two(&rt, &[]);
     let drilled = drilled.ok().expect(&rt, "a self-test");
-    assert!(&rt; drilled.epochs == 2 && faults == 0);
-    assert!(&rt; drilled.digest.keys == 2 && drilled.digest.map == OF_TWO);
+    let went = drilled.epochs == 2 && store.store.faults() == 0;
+    let left = drilled.digest.keys == 2 && drilled.digest.map == OF_TWO;
+    insist(&rt, went && left, "two keys");
 }
 
 #[test]
 fn a_store_that_fails_is_told(rt: HostRuntime) {
-    let (drilled, faults) = drill_two(&rt, CELLS, &[Fail::Write(0)]);
+    let (drilled, store) = drill_two(&rt, &[Fail::Write(0)]);
     let fault = drilled.err().expect(&rt, "a refusal");
-    assert!(&rt; fault == Fault::StoreFault { unsure: None } && faults == 1);
+    let told = fault == Fault::StoreFault { unsure: None };
+    insist(&rt, told && store.store.faults() == 1, "the first write");
 }
 
 #[test]
 fn a_self_test_begins_with_its_format(rt: HostRuntime) {
-    let store = MemStore::new(rt.alloc(), CELLS, Vec::new(rt.alloc()));
-    let mut store = noted(&rt, store.expect(&rt, "memory"));
-    let mut made = ChaChaTape::new(&[0; 32]);
-    let mut tape = ChaChaTape::new(&[0; 32]);
-    let drilled = drill_on(&rt, 2, &mut store, &mut made, &mut tape, &mut Eager);
-    assert!(&rt; drilled.is_ok());
-    assert!(&rt;
-        store
-            .told
-            .written()
-            .starts_with(b"W 0\nS\nW 2\nW 4\nW 6\nW 8\n")
-    );
+    let (drilled, store) = drill_two(&rt, &[]);
+    let first = b"W 0\nS\nW 2\nW 4\nW 6\nW 8\n";
+    let begins = store.told.written().starts_with(first);
+    insist(&rt, drilled.is_ok() && begins, "a format");
 }
 
 // A tape of zeros that counts its calls.
@@ -92,8 +97,7 @@ impl Tape for Counted {
 }
 
 fn wide<R: AllocGlobal + Abort>(rt: &R) -> MemSink {
-    let made = MemSink::new(rt.alloc(), WIDE, Vec::new(rt.alloc()));
-    made.expect(rt, "memory")
+    sink_of(rt.alloc(), WIDE, NEVER).expect(rt, "memory")
 }
 
 fn counting<R: AllocGlobal + Abort>(rt: &R) -> Counted
@@ -106,11 +110,9 @@ fn counting<R: AllocGlobal + Abort>(rt: &R) -> Counted
 // A self-test of so many transactions beside a store, a tape, an input and a trace, none of which
 // it touches: its status.
 fn drill_beside<R: AllocGlobal + Threads + Wait + Sync + Abort>(rt: &R, count: &str) -> u8 {
-    let made = MemStore::new(rt.alloc(), SMALL, Vec::new(rt.alloc()));
-    let mut store = noted(rt, made.expect(rt, "memory"));
+    let mut store = noted_blank(rt.alloc(), calls::CELLS, &[]).expect(rt, "memory");
     let mut tape = counting(rt);
-    let script = b"client 1\n".to_vec(rt.alloc()).expect(rt, "memory");
-    let mut input = MemSource::new(script, Vec::new(rt.alloc()));
+    let mut input = source_of(rt.alloc(), "client 1/", NEVER).expect(rt, "memory");
     let mut output = wide(rt);
     let mut trace = Some(wide(rt));
     let status = obladi(
@@ -124,15 +126,16 @@ fn drill_beside<R: AllocGlobal + Threads + Wait + Sync + Abort>(rt: &R, count: &
         &mut trace,
         &mut Eager,
     );
-    assert!(rt; store.told.written().is_empty() && tape.calls == 0);
     let trace = trace.expect(rt, "a trace");
-    assert!(rt; input.left() == b"client 1\n".as_slice() && trace.written().is_empty());
+    let unasked = store.told.written().is_empty() && tape.calls == 0;
+    let unread = input.left() == b"client 1\n".as_slice() && trace.written().is_empty();
+    insist(rt, unasked && unread, count);
     status
 }
 
 #[test]
 fn what_is_handed_in_is_left_as_it_was(rt: HostRuntime) {
-    assert!(&rt; drill_beside(&rt, "1") == 0);
-    assert!(&rt; drill_beside(&rt, "10001") == 2);
-    assert!(&rt; drill_beside(&rt, "-1") == 2);
+    for (count, status) in [("1", 0), ("10001", 2), ("-1", 2)] {
+        insist(&rt, drill_beside(&rt, count) == status, count);
+    }
 }

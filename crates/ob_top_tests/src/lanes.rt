@@ -4,10 +4,9 @@
 ghost use Rattle.std.specs.Prelude.{◌≡◌};
 ghost use Rattle.ob_mem.specs.Memory.{disk_of_store};
 
-use crate::noting::Noting;
-use crate::playing::{CELLS, WIDE, expect, expect_asked, play};
-use ob_mem::{GateStore, MemStore};
-use ob_store::Store;
+use crate::playing::{expect, expect_asked, insist, play};
+use ob_mem::GateStore;
+use ob_top_calls::{CELLS, Noting, are_alike};
 use std::process::Abort;
 use std::sync::Wait;
 use std::thread::Threads;
@@ -32,32 +31,28 @@ const TOLD: &str = "\
 // What is asked of the store where one lane reads: of several, any may make a phase's next read.
 const ASKED: &str = "opening record batch second lifts refill register next";
 
-// What a read of each cell gives.
-fn cells_of<R: AllocGlobal + Abort>(rt: &R, store: &mut MemStore) -> Vec<[u8; 128]> {
-    let mut cells = Vec::new(rt.alloc());
-    let mut lane = store.lane().expect(rt, "a lane");
-    for cell in 0..CELLS {
-        let mut bytes = [0; 128];
-        assert!(rt; store.read(&mut lane, cell as u64, &mut bytes).is_ok());
-        cells.push(bytes).expect(rt, "memory");
-    }
-    store.absorb(lane);
-    cells
+// What a run by these lanes leaves.
+fn left_by<R: AllocGlobal + Threads + Wait + Sync + Abort>(rt: &R, call: &str) -> Noting
+    ensures { (disk_of_store result.store).out ≡ 0 }
+{
+    let mut store = play(rt, CELLS, &[], NEW);
+    expect(rt, &mut store, &[], call, TOLD);
+    store
+}
+
+// A run leaves the same in each cell as that of one lane, of which all is told that it asks.
+fn expect_alike<R: AllocGlobal + Threads + Wait + Sync + Abort>(rt: &R, call: &str) {
+    let mut first = left_by(rt, BY_LANES[0]);
+    let mut left = left_by(rt, call);
+    let alike = are_alike(&mut first.store, &mut left.store, CELLS as u64);
+    insist(rt, alike.expect(rt, "the cells"), call);
+    expect_asked(rt, &first, ASKED);
 }
 
 #[test]
 fn any_number_of_lanes_does_the_same(rt: HostRuntime) {
-    let mut first: Option<Vec<[u8; 128]>> = None;
     for &call in &BY_LANES {
-        let mut store = play(&rt, CELLS, &[], NEW);
-        expect(&rt, &mut store, &[], WIDE, call, TOLD);
-        let cells = cells_of(&rt, &mut store.store);
-        if let Some(first) = &first {
-            assert!(&rt; cells.as_slice() == first.as_slice(), "{call}");
-        } else {
-            expect_asked(&rt, &store, ASKED);
-        }
-        first = Some(cells);
+        expect_alike(&rt, call);
     }
 }
 
@@ -66,13 +61,14 @@ fn any_number_of_lanes_does_the_same(rt: HostRuntime) {
 fn phases_of<R: AllocGlobal + Threads + Wait + Sync + Abort>(rt: &R, call: &str) -> u64 {
     let Noting { store, .. } = play(rt, CELLS, &[], NEW);
     let mut store = GateStore::new(store, 10_000_000);
-    expect(rt, &mut store, &[], WIDE, call, TOLD);
+    expect(rt, &mut store, &[], call, TOLD);
     store.phases()
 }
 
 #[test]
 fn lanes_read_at_once(rt: HostRuntime) {
-    assert!(&rt; phases_of(&rt, BY_LANES[0]) == 0);
-    assert!(&rt; phases_of(&rt, BY_LANES[1]) == 6);
-    assert!(&rt; phases_of(&rt, BY_LANES[2]) == 6);
+    for i in 0..3 {
+        let wanted = if i == 0 { 0 } else { 6 };
+        insist(&rt, phases_of(&rt, BY_LANES[i]) == wanted, BY_LANES[i]);
+    }
 }

@@ -15,8 +15,6 @@ mod limits;
 #[cfg(test)]
 mod many;
 #[cfg(test)]
-mod noting;
-#[cfg(test)]
 mod playing;
 #[cfg(test)]
 mod replay;

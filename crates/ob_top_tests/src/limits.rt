@@ -1,9 +1,11 @@
 //! Runs whose clients have shares: who goes past one is aborted, and which shares are refused.
 
-use crate::playing::{WIDE, call_on, parted, play_all};
-use ob_base::{Params, ring_cells};
-use ob_mem::BareStore;
+use crate::playing::{call_on, expect, insist, parted, play_all, text_of};
+use ob_mem::{BareStore, MemSink};
+use ob_top_calls::{Txn, ask_for, push_client, push_txn};
 use std::process::Abort;
+use std::sync::Wait;
+use std::thread::Threads;
 
 // Where a client goes past its share of writes, and where it would take another one's places.
 const WRITES: &str = "\
@@ -102,27 +104,40 @@ fn a_refused_put_counts_and_one_past_the_share_does_not(rt: HostRuntime) {
     play_all(&rt, &[COUNTED]);
 }
 
-// The store of a run of 64 clients.
-const WIDE_STORE: &str = "format S K 1024 8 4 6 4 64 64 8 256";
+// The store of a run of 64 clients, and how many cells it has.
+const BUSY: &str = "format S K 1024 8 4 6 4 64 64 8 256 < ";
 
-// A script of 64 clients. The first one names another key in each transaction, and two in every
-// third; each of the others names its own.
+const BUSY_TOLD: &str = "0 store of 11691 cells/";
+
+const BUSY_CELLS: usize = 11_691;
+
+// A transaction of a script. The first client names another key in each, and two in every third;
+// each of the others names its own.
+fn busy_or_calm(client: u64, number: u64) -> Txn {
+    let busy = client == 1;
+    let read = if busy {
+        number.wrapping_mul(7).wrapping_add(2)
+    } else {
+        client
+    };
+    let two = busy && number % 3 == 2;
+    Txn {
+        client,
+        number,
+        read,
+        written: read.wrapping_add(u64::from(two)),
+        reads_back: true,
+    }
+}
+
+// A script of 64 clients, each with six such transactions.
 fn busy_and_calm<R: AllocGlobal + Abort>(rt: &R) -> String {
     let mut script = String::new(rt.alloc());
     for client in 1..65_u64 {
-        let head = format!(in rt.alloc(); "client {client}/").expect(rt, "memory");
-        script.push_str(head.as_str()).expect(rt, "memory");
-        for txn in 0..6_u64 {
-            let key = if client == 1 { txn * 7 + 2 } else { client };
-            let other = if client == 1 && txn % 3 == 2 {
-                key + 1
-            } else {
-                key
-            };
-            let text = format!(in rt.alloc();
-                "begin/get {key}/put {other} {client}x{txn}/get {other}/commit/"
-            ).expect(rt, "memory");
-            script.push_str(text.as_str()).expect(rt, "memory");
+        push_client(rt.alloc(), &mut script, client).expect(rt, "memory");
+        for number in 0..6_u64 {
+            let txn = busy_or_calm(client, number);
+            push_txn(rt.alloc(), &mut script, txn).expect(rt, "memory");
         }
     }
     script
@@ -136,27 +151,37 @@ fn is_unshielded(outcome: &str) -> bool {
         || outcome.starts_with("aborted depends on ")
 }
 
+// What is told of a run of 64 clients with shares of one, over a new store.
+fn told_of_busy<R: AllocGlobal + Threads + Wait + Sync + Abort>(rt: &R) -> MemSink {
+    let made = BareStore::new(rt.alloc(), BUSY_CELLS);
+    let mut store = made.ok().expect(rt, "memory");
+    expect(rt, &mut store, &[], BUSY, BUSY_TOLD);
+    let script = busy_and_calm(rt);
+    let mut ask = ask_for("run S K --reads 1 --writes 1", script.as_str());
+    ask.room = 1_000_000;
+    let ran = call_on(rt, &mut store, &ask);
+    insist(rt, ran.status == 0, ask.words);
+    ran.output
+}
+
+// Looks at a line: 1 where it is an outcome of another client than the first, none of which is an
+// abort that shares shield from.
+fn calm_in<R: Abort>(rt: &R, line: &str) -> u64 {
+    let Some(rest) = line.strip_prefix("txn ") else {
+        return 0;
+    };
+    let (_ticket, rest) = parted(rt, rest, " client ");
+    let (client, outcome) = parted(rt, rest, " ");
+    insist(rt, client == "1" || is_unshielded(outcome), line);
+    u64::from(client != "1")
+}
+
 #[test]
 fn a_busy_client_takes_no_others_places(rt: HostRuntime) {
-    let params = Params::new(1024, 8, 4, 6, 4, 64, 64, 8, 256);
-    let cells = ring_cells(&params.ok().expect(&rt, "parameters")) as usize;
-    let mut store = BareStore::new(rt.alloc(), cells).ok().expect(&rt, "memory");
-    let (made, _size) = call_on(&rt, &mut store, &[], WIDE, WIDE_STORE, "");
-    let script = busy_and_calm(&rt);
-    let words = "run S K --reads 1 --writes 1";
-    let (ran, told) = call_on(&rt, &mut store, &[], 1_000_000, words, script.as_str());
-    assert!(&rt; made == 0 && ran == 0);
-    let report = str::from_utf8(told.written()).ok().expect(&rt, "a text");
+    let told = told_of_busy(&rt);
     let mut calm: u64 = 0;
-    for line in report.lines() {
-        if let Some(rest) = line.strip_prefix("txn ") {
-            let (_ticket, rest) = parted(&rt, rest, " client ");
-            let (client, outcome) = parted(&rt, rest, " ");
-            if client != "1" {
-                assert!(&rt; is_unshielded(outcome), "{line}");
-                calm = calm.saturating_add(1);
-            }
-        }
+    for line in text_of(&rt, told.written()).lines() {
+        calm = calm.saturating_add(calm_in(&rt, line));
     }
-    assert!(&rt; calm == 378);
+    insist(&rt, calm == 378, "transactions of calm clients");
 }

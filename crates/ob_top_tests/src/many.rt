@@ -1,37 +1,37 @@
 //! Runs of many clients, of one, and of none, over a store of 16 keys.
 
-ghost use Rattle.std.specs.Prelude.{◌≤◌};
-
-use crate::playing::{call_on, lines_of, parted, play};
+use crate::playing::{call_on, insist, parted, play, text_of};
 use crate::replay::replayed;
 use ob_mem::MemSink;
+use ob_top_calls::{Txn, ask_for, has, push_client, push_txn};
 use std::process::Abort;
 use std::sync::Wait;
 use std::thread::Threads;
 
-// A client's transactions over 16 keys.
-fn push_txns<R: AllocGlobal + Abort>(rt: &R, script: &mut String, client: u64)
-    requires { client ≤ 64 }
-{
-    for txn in 0..50_u64 {
-        let read = (client * 7 + txn * 3) % 16;
-        let written = (client * 5 + txn) % 16;
-        let text = format!(in rt.alloc();
-            "begin/get {read}/put {written} {client}x{txn}/commit/"
-        ).expect(rt, "memory");
-        script.push_str(text.as_str()).expect(rt, "memory");
+// How many transactions each of 64 clients has.
+const TXNS: u64 = 50;
+
+// A client's transactions over 16 keys, so many.
+fn push_txns<R: AllocGlobal + Abort>(rt: &R, script: &mut String, client: u64, txns: u64) {
+    for number in 0..txns {
+        let read = client.wrapping_mul(7).wrapping_add(number.wrapping_mul(3));
+        let txn = Txn {
+            client,
+            number,
+            read: read % 16,
+            written: client.wrapping_mul(5).wrapping_add(number) % 16,
+            reads_back: false,
+        };
+        push_txn(rt.alloc(), script, txn).expect(rt, "memory");
     }
 }
 
-// A script of 64 clients, each with 50 transactions, or with none.
-fn many_clients<R: AllocGlobal + Abort>(rt: &R, at_rest: bool) -> String {
+// A script of 64 clients, each with so many transactions.
+fn many_clients<R: AllocGlobal + Abort>(rt: &R, txns: u64) -> String {
     let mut script = String::new(rt.alloc());
     for client in 1..65_u64 {
-        let head = format!(in rt.alloc(); "client {client}/").expect(rt, "memory");
-        script.push_str(head.as_str()).expect(rt, "memory");
-        if !at_rest {
-            push_txns(rt, &mut script, client);
-        }
+        push_client(rt.alloc(), &mut script, client).expect(rt, "memory");
+        push_txns(rt, &mut script, client, txns);
     }
     script
 }
@@ -44,9 +44,11 @@ fn told_by<R: AllocGlobal + Threads + Wait + Sync + Abort>(
 ) -> MemSink {
     let format = "format S K 16 2 4 3 4 4 16 2 16 <  -> 0 store of 161 cells/";
     let mut store = play(rt, 161, &[], format);
-    let (status, told) = call_on(rt, &mut store, &[], 1_000_000, words, script);
-    assert!(rt; status == 0, "{words}");
-    told
+    let mut ask = ask_for(words, script);
+    ask.room = 1_000_000;
+    let answer = call_on(rt, &mut store, &ask);
+    insist(rt, answer.status == 0, words);
+    answer.output
 }
 
 static WAYS: [&str; 4] = ["run S K", "run S K", "run S K", "run S K --turns"];
@@ -54,11 +56,11 @@ static WAYS: [&str; 4] = ["run S K", "run S K", "run S K", "run S K --turns"];
 // Each report tells all transactions, of which the committed ones replay one by one.
 #[test]
 fn many_clients_are_served_one_by_one(rt: HostRuntime) {
-    let script = many_clients(&rt, false);
-    for words in &WAYS {
-        let told = told_by(&rt, *words, script.as_str());
-        let report = str::from_utf8(told.written()).ok().expect(&rt, "a text");
-        assert!(&rt; replayed(&rt, report) == 3200);
+    let script = many_clients(&rt, TXNS);
+    for &words in &WAYS {
+        let told = told_by(&rt, words, script.as_str());
+        let txns = replayed(&rt, text_of(&rt, told.written()));
+        insist(&rt, txns == 3200, words);
     }
 }
 
@@ -73,21 +75,16 @@ fn one_client_is_served_and_none(rt: HostRuntime) {
     for line in FEW.lines() {
         let (script, wanted) = parted(&rt, line, " -> ");
         let told = told_by(&rt, "run S K", script);
-        assert!(&rt;
-            told.written() == lines_of(&rt, wanted).as_bytes(),
-            "{script}"
-        );
+        insist(&rt, has(&told, wanted), script);
     }
 }
 
 // No input, and 64 clients without a transaction.
 #[test]
 fn nothing_is_told_of_clients_at_rest(rt: HostRuntime) {
-    assert!(&rt; told_by(&rt, "run S K", "").written().is_empty());
-    let script = many_clients(&rt, true);
-    assert!(&rt;
-        told_by(&rt, "run S K", script.as_str())
-            .written()
-            .is_empty()
-    );
+    let script = many_clients(&rt, 0);
+    for script in ["", script.as_str()] {
+        let told = told_by(&rt, "run S K", script);
+        insist(&rt, told.written().is_empty(), script);
+    }
 }

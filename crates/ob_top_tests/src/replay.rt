@@ -2,6 +2,7 @@
 
 ghost use Rattle.std.specs.Prelude.{◌<◌};
 
+use crate::playing::{insist, number_of, parted};
 use std::process::Abort;
 
 /// What the committed transactions of a report leave, line by line. A value is the number of the
@@ -16,10 +17,6 @@ struct Replay {
     txns: u64,
 }
 
-fn number_of<R: Abort>(rt: &R, text: &str) -> u64 {
-    text.parse::<u64>().ok().expect(rt, "a number")
-}
-
 // A value tells its client and which of the client's 50 transactions put it: the client, and the
 // number of the put. Where a key is absent that is 0.
 fn put_of<R: Abort>(rt: &R, value: &str) -> (usize, u64)
@@ -28,7 +25,7 @@ fn put_of<R: Abort>(rt: &R, value: &str) -> (usize, u64)
     if value == "absent" {
         return (0, 0);
     }
-    let (client, txn) = value.split_once('x').expect(rt, "a client");
+    let (client, txn) = parted(rt, value, "x");
     let (client, txn) = (number_of(rt, client), number_of(rt, txn));
     assert!(rt; client < 65 && txn < 50, "{value}");
     (client as usize, client * 50 + txn + 1)
@@ -37,7 +34,7 @@ fn put_of<R: Abort>(rt: &R, value: &str) -> (usize, u64)
 // Takes an operation's line: a client's puts come in order, and a get of a committed transaction
 // finds what the earlier ones left.
 fn take_op<R: Abort>(rt: &R, replay: &mut Replay, name: &str, rest: &str) {
-    let (key, value) = rest.split_once(' ').expect(rt, "a key");
+    let (key, value) = parted(rt, rest, " ");
     let key = number_of(rt, key) as usize;
     assert!(rt; key < 16, "{rest}");
     let value = if name == "put" {
@@ -47,7 +44,7 @@ fn take_op<R: Abort>(rt: &R, replay: &mut Replay, name: &str, rest: &str) {
     };
     let (client, put) = put_of(rt, value);
     if name == "put" {
-        assert!(rt; replay.last[client] < put, "{rest}");
+        insist(rt, replay.last[client] < put, rest);
         replay.last[client] = put;
     }
     if !replay.counts {
@@ -56,11 +53,11 @@ fn take_op<R: Abort>(rt: &R, replay: &mut Replay, name: &str, rest: &str) {
     if name == "put" {
         replay.values[key] = put;
     }
-    assert!(rt; replay.values[key] == put, "{rest}");
+    insist(rt, replay.values[key] == put, rest);
 }
 
 fn take_line<R: Abort>(rt: &R, replay: &mut Replay, line: &str) {
-    let (name, rest) = line.split_once(' ').expect(rt, "a word");
+    let (name, rest) = parted(rt, line, " ");
     match name {
         "epoch" => {}
         "txn" => {

@@ -2,9 +2,10 @@
 //! refused. One lane reads: which of several makes a read isn't fixed.
 
 use crate::playing::{
-    CELLS, WIDE, expect, expect_asked, go_on_behind, number_of, parted, play, play_all,
+    expect, expect_asked, go_on_behind, number_of, parted, play, play_all,
 };
 use ob_mem::Fail;
+use ob_top_calls::CELLS;
 use std::process::Abort;
 use std::sync::Wait;
 use std::thread::Threads;
@@ -40,7 +41,6 @@ fn a_run_does_to_its_store_what_another_implementation_does(rt: HostRuntime) {
         &rt,
         &mut store,
         &[0, 0, 0, 0, 1],
-        WIDE,
         "run S K --lanes 1 < client 1/begin/put 5 hi/commit/begin/get 5/commit/",
         "0 epoch 1/txn 1 client 1 committed/put 5 hi/epoch 2/txn 1 client 1 committed/get 5 = hi/",
     );
@@ -114,7 +114,7 @@ fn expect_refused<R: AllocGlobal + Threads + Wait + Sync + Abort>(rt: &R, row: &
     let (wanted, names) = parted(rt, row, " -> ");
     let mut store = play(rt, CELLS, &[fail_of(rt, call)], FORMATTED);
     let run = "run S K --lanes 1 < client 1/begin/commit";
-    expect(rt, &mut store, &[], WIDE, run, wanted);
+    expect(rt, &mut store, &[], run, wanted);
     expect_asked(rt, &store, names);
 }
 

@@ -3,18 +3,17 @@
 ghost use Rattle.std.specs.Prelude.{◌≡◌};
 ghost use Rattle.ob_mem.specs.Memory.{disk_of_store};
 
-use crate::noting::noted;
-use crate::playing::{CELLS, go_on};
+use crate::playing::{go_on, insist};
 use crate::two_epochs::cells;
 use hex::FromHex;
-use ob_mem::MemStore;
 use ob_store::Store;
+use ob_top_calls::{CELLS, Noting, noted_blank};
 use std::process::Abort;
 
 // Writes the bytes of a cell's digits, of which each cell has 256.
-fn write_digits<R: Abort>(rt: &R, store: &mut MemStore, cell: usize)
-    requires { (disk_of_store store.old).out ≡ 0 }
-    ensures { (disk_of_store store.new).out ≡ 0 }
+fn write_digits<R: Abort>(rt: &R, store: &mut Noting, cell: usize)
+    requires { (disk_of_store store.old.store).out ≡ 0 }
+    ensures { (disk_of_store store.new.store).out ≡ 0 }
 {
     let digits = cells();
     assert!(rt; cell < CELLS && digits.len() == 256 * CELLS);
@@ -22,15 +21,14 @@ fn write_digits<R: Abort>(rt: &R, store: &mut MemStore, cell: usize)
     let bytes = <[u8; 128] as FromHex>::from_hex(own)
         .ok()
         .expect(rt, "digits");
-    assert!(rt; store.write(cell as u64, &bytes).is_ok());
+    insist(rt, store.store.write(cell as u64, &bytes).is_ok(), "a write");
 }
 
 // The store after two epochs.
-fn after_two_epochs<R: AllocGlobal + Abort>(rt: &R) -> MemStore
-    ensures { (disk_of_store result).out ≡ 0 }
+fn after_two_epochs<R: AllocGlobal + Abort>(rt: &R) -> Noting
+    ensures { (disk_of_store result.store).out ≡ 0 }
 {
-    let made = MemStore::new(rt.alloc(), CELLS, Vec::new(rt.alloc()));
-    let mut store = made.expect(rt, "memory");
+    let mut store = noted_blank(rt.alloc(), CELLS, &[]).expect(rt, "memory");
     for cell in 0..CELLS {
         write_digits(rt, &mut store, cell);
     }
@@ -48,6 +46,6 @@ const GOES_ON: &str = "\
 
 #[test]
 fn a_run_goes_on_with_another_implementations_store(rt: HostRuntime) {
-    let mut store = noted(&rt, after_two_epochs(&rt));
+    let mut store = after_two_epochs(&rt);
     go_on(&rt, &mut store, GOES_ON);
 }

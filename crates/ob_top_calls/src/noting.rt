@@ -9,12 +9,14 @@ ghost use Rattle.ob_mem.specs.Heard.{told};
 ghost use Rattle.ob_mem.specs.Memory.{disk_of_store};
 ghost use Rattle.ob_mem.specs.Laws.{counts_now, only_now, includes_reads};
 
-use ob_base::Failed;
+use crate::calls::{NEVER, sink_of};
+use crate::stores;
+use ob_base::{Failed, Memory};
 use ob_claims::{Claims, Round};
 use ob_lanes::{Hand, Lanes, SealedJobs, read_hands};
-use ob_mem::{MemLane, MemSink, MemStore};
+use ob_mem::{Fail, MemLane, MemSink, MemStore};
 use ob_store::{Event, Note, SinkWatch, Store, Watch};
-use std::process::Abort;
+use std::alloc::Global;
 use std::thread::Threads;
 
 // What the lines of a store's calls take at most.
@@ -40,13 +42,47 @@ fn tell(told: &mut MemSink, events: &[Event]) {
 }
 
 /// What is asked of this store from now on.
-pub fn noted<R: AllocGlobal + Abort>(rt: &R, store: MemStore) -> Noting
-    ensures { result.store ≡ store }
+///
+/// # Errors
+/// Memory was wanting.
+pub fn noted(alloc: Global, store: MemStore) -> Result<Noting, Memory>
+    ensures { IfOk result (λ made. made.store ≡ store) }
 {
-    let told = MemSink::new(rt.alloc(), ROOM, Vec::new(rt.alloc()));
-    Noting {
-        store,
-        told: told.expect(rt, "memory"),
+    match sink_of(alloc, ROOM, NEVER) {
+        Ok(told) => Ok(Noting { store, told }),
+        Err(Memory) => Err(Memory),
+    }
+}
+
+/// What is asked of a new store of so many cells, of which these calls fail.
+///
+/// # Errors
+/// Memory was wanting.
+pub fn noted_blank(alloc: Global, cells: usize, fails: &[Fail]) -> Result<Noting, Memory>
+    ensures { IfOk result (λ made. (disk_of_store made.store).out ≡ 0) }
+{
+    match stores::blank(alloc, cells, fails) {
+        Ok(store) => noted(alloc, store),
+        Err(Memory) => Err(Memory),
+    }
+}
+
+/// What is asked of what a crash at this moment leaves of a store of at most 109 cells: in those
+/// that aren't sure what they got last, or this byte throughout.
+///
+/// # Errors
+/// Memory was wanting.
+pub fn noted_after(
+    alloc: Global,
+    noting: &Noting,
+    moment: usize,
+    filling: Option<u8>,
+) -> Result<Noting, Memory>
+    ensures { IfOk result (λ left. (disk_of_store left.store).out ≡ 0) }
+{
+    match stores::left_after(&noting.store, moment, filling) {
+        Ok(store) => noted(alloc, store),
+        Err(Memory) => Err(Memory),
     }
 }
 
