@@ -4,36 +4,45 @@ ghost use Rattle.std.specs.Prelude.{◌≡◌};
 ghost use Rattle.ob_mem.specs.Memory.{disk_of_store};
 
 use crate::crashes::{TOLD, TWO};
-use crate::noting::Noting;
-use crate::playing::{CELLS, MIRRORED, blank, call_on, expect, expect_alone, formatted, lines_of};
-use ob_mem::{BareStore, Fail, MemStore};
+use crate::playing::{
+    MIRRORED, blank, call_on, expect_alone, formatted, insist, let_both_go, ran,
+};
+use ob_mem::{BareStore, MemSink};
 use ob_mirrored::Room;
-use ob_store::Store;
+use ob_top_calls::{CELLS, Noting, are_alike, ask_for, has, let_noting_go};
 use std::process::Abort;
+use std::sync::Wait;
+use std::thread::Threads;
 
 #[test]
 fn the_second_half_goes_on_alone(rt: HostRuntime) {
-    let mut first = formatted(&rt, &[]);
-    let mut second: Option<Noting> = Some(blank(&rt, CELLS, &[]));
-    expect(&rt, &mut first, &mut second, MIRRORED, TWO, 0, TOLD);
-    let mut second = second.expect(&rt, "the second");
+    let mut halves = ran(&rt, &[], &[], &ask_for(MIRRORED, TWO), 0, TOLD);
+    let ask = ask_for("run S K", "client 1/begin/get 5/commit");
     let told = "epoch 3/txn 1 client 1 committed/get 5 = hi/";
-    expect_alone(
-        &rt,
-        &mut second,
-        "run S K",
-        "client 1/begin/get 5/commit",
-        told,
-    );
+    expect_alone(&rt, &mut halves.second, &ask, told);
+    let_both_go(halves);
 }
 
-// What a store has in a cell.
-fn bytes_of<R: Abort>(rt: &R, store: &mut Noting, cell: u64) -> [u8; 128] {
-    let mut bytes = [0; 128];
-    let mut lane = store.lane().expect(rt, "a lane");
-    assert!(rt; store.read(&mut lane, cell, &mut bytes).is_ok());
-    store.absorb(lane);
-    bytes
+// Two stores have the same in each cell.
+fn expect_alike<R: Abort>(rt: &R, one: &mut Noting, other: &mut Noting, words: &str)
+    requires one { (disk_of_store one.old.store).out ≡ 0 }
+    requires other { (disk_of_store other.old.store).out ≡ 0 }
+    ensures one { (disk_of_store one.new.store).out ≡ 0 }
+    ensures other { (disk_of_store other.new.store).out ≡ 0 }
+{
+    let alike = are_alike(&mut one.store, &mut other.store, CELLS as u64);
+    insist(rt, alike.expect(rt, "the cells"), words);
+}
+
+// A run by these words leaves in each half what a run over one store alone leaves.
+fn expect_same<R: AllocGlobal + Threads + Wait + Sync + Abort>(rt: &R, words: &str) {
+    let mut wanted = formatted(rt, &[]);
+    expect_alone(rt, &mut wanted, &ask_for("run S K", TWO), TOLD);
+    let mut halves = ran(rt, &[], &[], &ask_for(words, TWO), 0, TOLD);
+    expect_alike(rt, &mut wanted, &mut halves.first, words);
+    expect_alike(rt, &mut wanted, &mut halves.second, words);
+    let_noting_go(wanted);
+    let_both_go(halves);
 }
 
 static BY_LANES: [&str; 3] = [
@@ -44,18 +53,8 @@ static BY_LANES: [&str; 3] = [
 
 #[test]
 fn lanes_make_no_difference_to_either_half(rt: HostRuntime) {
-    let mut wanted = formatted(&rt, &[]);
-    expect_alone(&rt, &mut wanted, "run S K", TWO, TOLD);
     for &words in &BY_LANES {
-        let mut first = formatted(&rt, &[]);
-        let mut second: Option<Noting> = Some(blank(&rt, CELLS, &[]));
-        expect(&rt, &mut first, &mut second, words, TWO, 0, TOLD);
-        let mut second = second.expect(&rt, "the second");
-        for cell in 0..CELLS as u64 {
-            let bytes = bytes_of(&rt, &mut wanted, cell);
-            assert!(rt; bytes_of(&rt, &mut first, cell) == bytes, "{cell}");
-            assert!(rt; bytes_of(&rt, &mut second, cell) == bytes, "{cell}");
-        }
+        expect_same(&rt, words);
     }
 }
 
@@ -74,15 +73,24 @@ static BARE: [(&str, &str, &str); 3] = [
     ),
 ];
 
+// Such a call, with a second store that is new.
+fn expect_bare<R: AllocGlobal + Threads + Wait + Sync + Abort>(
+    rt: &R,
+    first: &mut BareStore,
+    row: &(&str, &str, &str),
+) {
+    let (words, script, told) = *row;
+    let mut second: Option<Noting> = Some(blank(rt, CELLS, &[]));
+    let mut none: Option<MemSink> = None;
+    let ask = ask_for(words, script);
+    let (status, output) = call_on(rt, first, &mut second, Room::new(), &ask, &mut none);
+    insist(rt, status == 0 && has(&output, told), words);
+}
+
 #[test]
 fn a_store_that_tells_its_cells_alone_is_mirrored(rt: HostRuntime) {
     let mut first = BareStore::new(rt.alloc(), CELLS).expect(&rt, "memory");
-    for i in 0..BARE.len() {
-        let fails: Vec<Fail> = Vec::new(rt.alloc());
-        let made = MemStore::new(rt.alloc(), CELLS, fails).expect(&rt, "memory");
-        let mut second: Option<MemStore> = Some(made);
-        let (words, script, told) = BARE[i];
-        let (status, output) = call_on(&rt, &mut first, &mut second, Room::new(), words, script);
-        assert!(rt; status == 0 && output.written() == lines_of(&rt, told).as_bytes());
+    for row in &BARE {
+        expect_bare(&rt, &mut first, row);
     }
 }

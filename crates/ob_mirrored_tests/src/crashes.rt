@@ -1,10 +1,7 @@
 //! Crashes of both halves: each stands alone, with each epoch that was reported.
 
-ghost use Rattle.std.specs.Prelude.{◌≡◌};
-ghost use Rattle.ob_mem.specs.Memory.{disk_of_store};
-
-use crate::noting::{Noting, noted};
-use crate::playing::{CELLS, MIRRORED, blank, expect, expect_next, formatted};
+use crate::playing::{Halves, MIRRORED, expect_next, insist, let_both_go, ran};
+use ob_top_calls::{Noting, ask_for, let_noting_go, noted_after};
 use std::process::Abort;
 use std::sync::Wait;
 use std::thread::Threads;
@@ -24,26 +21,6 @@ const SECOND_BEGAN: usize = 110;
 // How many of them the first epoch makes with the opening.
 const ONE: usize = 56;
 
-// What a crash at this moment leaves: in the cells that aren't sure what they got last, or this byte
-// throughout.
-fn left_after<R: AllocGlobal + Abort>(
-    rt: &R,
-    half: &Noting,
-    moment: usize,
-    filling: Option<u8>,
-) -> Noting
-    ensures { (disk_of_store result.store).out ≡ 0 }
-{
-    let Some(byte) = filling else {
-        return noted(rt, half.store.crash(moment, &[]).expect(rt, "memory"));
-    };
-    let mut fillings = [(0, [byte; 128]); CELLS];
-    for i in 0..CELLS {
-        fillings[i].0 = i as u64;
-    }
-    noted(rt, half.store.crash(moment, &fillings).expect(rt, "memory"))
-}
-
 // Whether an epoch has ended that makes so many writes and syncs, the last two of which are its gate
 // and the sync behind it, where a crash comes behind so many.
 fn has_ended(steps: usize, moment: usize, filling: Option<u8>) -> bool {
@@ -59,23 +36,30 @@ fn stands_alone<R: AllocGlobal + Threads + Wait + Sync + Abort>(
     all: usize,
 ) {
     for &filling in &[None, Some(0), Some(0xA5)] {
-        let mut left = left_after(rt, half, began.saturating_add(moment), filling);
+        let behind = began.saturating_add(moment);
+        let left = noted_after(rt.alloc(), half, behind, filling);
+        let mut left = left.expect(rt, "memory");
         let one = has_ended(ONE, moment, filling) as u64;
         let two = has_ended(all, moment, filling) as u64;
         expect_next(rt, &mut left, one.saturating_add(two));
+        let_noting_go(left);
+    }
+}
+
+// Both halves of such a run, behind each moment of it.
+fn expect_each<R: AllocGlobal + Threads + Wait + Sync + Abort>(rt: &R, halves: &Halves) {
+    let all = halves.first.store.moments().saturating_sub(FIRST_BEGAN);
+    let second = halves.second.store.moments();
+    insist(rt, second == all.saturating_add(SECOND_BEGAN), "as many");
+    for moment in 0..all.saturating_add(1) {
+        stands_alone(rt, &halves.first, FIRST_BEGAN, moment, all);
+        stands_alone(rt, &halves.second, SECOND_BEGAN, moment, all);
     }
 }
 
 #[test]
 fn each_half_alone_finds_what_was_reported(rt: HostRuntime) {
-    let mut first = formatted(&rt, &[]);
-    let mut second: Option<Noting> = Some(blank(&rt, CELLS, &[]));
-    expect(&rt, &mut first, &mut second, MIRRORED, TWO, 0, TOLD);
-    let second = second.expect(&rt, "the second");
-    let all = first.store.moments().saturating_sub(FIRST_BEGAN);
-    assert!(rt; second.store.moments() == all.saturating_add(SECOND_BEGAN));
-    for moment in 0..all.saturating_add(1) {
-        stands_alone(&rt, &first, FIRST_BEGAN, moment, all);
-        stands_alone(&rt, &second, SECOND_BEGAN, moment, all);
-    }
+    let halves = ran(&rt, &[], &[], &ask_for(MIRRORED, TWO), 0, TOLD);
+    expect_each(&rt, &halves);
+    let_both_go(halves);
 }

@@ -8,8 +8,6 @@ mod crashes;
 #[cfg(test)]
 mod events;
 #[cfg(test)]
-mod noting;
-#[cfg(test)]
 mod playing;
 #[cfg(test)]
 mod refused;

@@ -3,50 +3,90 @@
 ghost use Rattle.std.specs.Prelude.{◌≡◌};
 ghost use Rattle.ob_mem.specs.Memory.{disk_of_store};
 
-use crate::noting::Noting;
 use crate::playing::{
-    CELLS, MIRRORED, ONE_EPOCH, PUT, SYNCS, WRITES, asked, blank, expect, expect_next, formatted,
-    lines_with,
+    Halves, MIRRORED, ONE_EPOCH, PUT, SYNCS, WRITES, asked, blank, expect, expect_next, insist,
+    let_both_go, lines_with, ran, run_over,
 };
 use ob_mem::Fail;
+use ob_top_calls::{CELLS, Noting, ask_for};
 use std::process::Abort;
 use std::sync::Wait;
 use std::thread::Threads;
 
-// A run of an epoch over these halves, in which a write or sync fails, the last of them or another.
-fn is_told<R: AllocGlobal + Threads + Wait + Sync + Abort>(
-    rt: &R,
-    mut first: Noting,
-    second: Noting,
-    last: bool,
-) -> (Noting, Noting)
-    requires first { (disk_of_store first.store).out ≡ 0 }
-    requires second { (disk_of_store second.store).out ≡ 0 }
-    ensures first { (disk_of_store result.0.store).out ≡ 0 }
-    ensures second { (disk_of_store result.1.store).out ≡ 0 }
-{
-    let told = if last {
-        "fault: store, epoch 1 unsure/"
-    } else {
-        "fault: store/"
-    };
-    let mut second: Option<Noting> = Some(second);
-    expect(rt, &mut first, &mut second, MIRRORED, PUT, 5, told);
-    (first, second.expect(rt, "the second"))
+// What is found behind a run of an epoch that a call refuses, or nearly does.
+#[derive(Clone, Copy)]
+enum Found {
+    // The first half goes on alone, behind so many epochs.
+    First(u64),
+    // The second one does.
+    Second(u64),
+    // The second one was asked for the read of this cell and no other, and goes on behind an epoch.
+    Served(u64),
+    // The second one was asked for so much.
+    Copied(u64),
+    // It isn't looked at.
+    Any,
 }
 
-// The second's call fails: then the first stands, with the epoch where the last one failed.
+// What such a run answers.
+fn told_of(found: Found) -> (u8, &'static str) {
+    match found {
+        Found::Served(_) => (0, ONE_EPOCH),
+        Found::First(1) | Found::Second(1) => (5, "fault: store, epoch 1 unsure/"),
+        _ => (5, "fault: store/"),
+    }
+}
+
+// A second half was asked for the read of this cell and no other.
+fn expect_read<R: AllocGlobal + Abort>(rt: &R, second: &Noting, cell: u64) {
+    let wanted = format!(in rt.alloc(); "R {cell}\n").expect(rt, "memory");
+    let reads = lines_with(rt, asked(rt, second), "R", true);
+    insist(rt, reads.as_str() == wanted.as_str(), "one read");
+}
+
+// Looks at what is found.
+fn look<R: AllocGlobal + Threads + Wait + Sync + Abort>(rt: &R, halves: &mut Halves, found: Found)
+    requires first { (disk_of_store halves.old.first.store).out ≡ 0 }
+    requires second { (disk_of_store halves.old.second.store).out ≡ 0 }
+{
+    match found {
+        Found::First(ended) => expect_next(rt, &mut halves.first, ended),
+        Found::Second(ended) => expect_next(rt, &mut halves.second, ended),
+        Found::Served(cell) => {
+            expect_read(rt, &halves.second, cell);
+            expect_next(rt, &mut halves.second, 1);
+        }
+        Found::Copied(lines) => {
+            let copied = asked(rt, &halves.second).lines().count();
+            insist(rt, copied as u64 == lines, "the cells before it");
+        }
+        Found::Any => {}
+    }
+}
+
+// A run of an epoch by these words over two halves, of which these calls fail.
+fn play<R: AllocGlobal + Threads + Wait + Sync + Abort>(
+    rt: &R,
+    words: &str,
+    first: &[Fail],
+    second: &[Fail],
+    found: Found,
+) {
+    let (status, told) = told_of(found);
+    let mut halves = ran(rt, first, second, &ask_for(words, PUT), status, told);
+    look(rt, &mut halves, found);
+    let_both_go(halves);
+}
+
+// The second's call fails, the last one or another: then the first stands, with the epoch where that
+// was the last one.
 fn second_fails<R: AllocGlobal + Threads + Wait + Sync + Abort>(rt: &R, fail: Fail, last: bool) {
-    let (first, second) = (formatted(rt, &[]), blank(rt, CELLS, &[fail]));
-    let (mut first, _) = is_told(rt, first, second, last);
-    expect_next(rt, &mut first, last as u64);
+    play(rt, MIRRORED, &[], &[fail], Found::First(last as u64));
 }
 
 // The first's call fails: then the second stands.
 fn first_fails<R: AllocGlobal + Threads + Wait + Sync + Abort>(rt: &R, fail: Fail, last: bool) {
-    let (first, second) = (formatted(rt, &[fail]), blank(rt, CELLS, &[]));
-    let (_, mut second) = is_told(rt, first, second, last);
-    expect_next(rt, &mut second, last as u64);
+    play(rt, MIRRORED, &[fail], &[], Found::Second(last as u64));
 }
 
 #[test]
@@ -86,74 +126,65 @@ static BY_LANES: [&str; 2] = [
 ];
 
 // One of these reads fails of the first half: the second serves it, and has no other read.
-fn is_served<R: AllocGlobal + Threads + Wait + Sync + Abort>(
-    rt: &R,
-    words: &str,
-    cell: u64,
-    writes: u64,
-) {
-    let mut first = formatted(rt, &[Fail::Read { cell, writes }]);
-    let mut second: Option<Noting> = Some(blank(rt, CELLS, &[]));
-    expect(rt, &mut first, &mut second, words, PUT, 0, ONE_EPOCH);
-    let mut second = second.expect(rt, "the second");
-    let wanted = format!(in rt.alloc(); "R {cell}\n").expect(rt, "memory");
-    assert!(rt; lines_with(rt, asked(rt, &second), "R", true).as_str() == wanted.as_str());
-    expect_next(rt, &mut second, 1);
-}
-
 #[test]
 fn a_read_that_the_first_refuses_is_served_by_the_second(rt: HostRuntime) {
     for &words in &BY_LANES {
         for place in 0..READS.len() {
-            is_served(&rt, words, READS[place], made_before(place));
+            let (cell, writes) = (READS[place], made_before(place));
+            let fail = Fail::Read { cell, writes };
+            play(&rt, words, &[fail], &[], Found::Served(cell));
         }
     }
 }
 
+// The second half refuses it too, behind the join's writes.
 #[test]
 fn a_read_that_both_refuse_is_told(rt: HostRuntime) {
     for place in 0..READS.len() {
         let (cell, writes) = (READS[place], made_before(place));
-        let first = formatted(&rt, &[Fail::Read { cell, writes }]);
+        let first = Fail::Read { cell, writes };
         let writes = writes.saturating_add(47);
-        let second = blank(&rt, CELLS, &[Fail::Read { cell, writes }]);
-        let _halves = is_told(&rt, first, second, false);
+        let second = Fail::Read { cell, writes };
+        play(&rt, MIRRORED, &[first], &[second], Found::Any);
     }
 }
 
 #[test]
 fn a_read_that_fails_before_both_are_joined_is_told(rt: HostRuntime) {
     for cell in 0..CELLS as u64 {
-        let first = formatted(&rt, &[Fail::Read { cell, writes: 62 }]);
-        let (_, second) = is_told(&rt, first, blank(&rt, CELLS, &[]), false);
         // the register's cells are read before the first one is copied
         let copied = if cell >= 5 && cell <= 8 { 0 } else { cell };
-        assert!(rt; asked(&rt, &second).lines().count() as u64 == copied);
+        let fail = Fail::Read { cell, writes: 62 };
+        play(&rt, MIRRORED, &[fail], &[], Found::Copied(copied));
     }
+}
+
+// A first half that is no store is told, behind its head's read and before the second is asked.
+fn expect_no_store<R: AllocGlobal + Threads + Wait + Sync + Abort>(rt: &R) {
+    let empty = blank(rt, CELLS, &[]);
+    let ask = ask_for(MIRRORED, PUT);
+    let halves = run_over(rt, empty, blank(rt, CELLS, &[]), &ask, 3, "fault: not a store/");
+    insist(rt, asked(rt, &halves.first) == "R 0\n", "its head");
+    insist(rt, asked(rt, &halves.second) == "", "nothing");
+    let_both_go(halves);
+}
+
+// A second half of a cell less is told, and leaves the first one.
+fn expect_too_small<R: AllocGlobal + Threads + Wait + Sync + Abort>(rt: &R, first: &mut Noting)
+    requires { (disk_of_store first.old.store).out ≡ 0 }
+{
+    let mut small: Option<Noting> = Some(blank(rt, CELLS - 1, &[]));
+    let ask = ask_for(MIRRORED, PUT);
+    expect(rt, first, &mut small, &ask, 5, "fault: store/");
+    expect_next(rt, first, 0);
 }
 
 #[test]
 fn what_refuses_a_run_leaves_the_halves(rt: HostRuntime) {
-    let mut first = formatted(&rt, &[]);
-    let mut second: Option<Noting> = Some(blank(&rt, CELLS, &[]));
-    let told = "fault: script line 1/";
-    expect(&rt, &mut first, &mut second, MIRRORED, "begin", 2, told);
-    expect_next(&rt, &mut second.expect(&rt, "the copy"), 0);
-    let mut second: Option<Noting> = Some(blank(&rt, CELLS, &[]));
-    let mut empty = blank(&rt, CELLS, &[]);
-    let told = "fault: not a store/";
-    expect(&rt, &mut empty, &mut second, MIRRORED, PUT, 3, told);
-    assert!(rt; asked(&rt, &empty) == "R 0\n");
-    assert!(rt; asked(&rt, &second.expect(&rt, "the second")) == "");
-    let mut small: Option<Noting> = Some(blank(&rt, CELLS - 1, &[]));
-    expect(
-        &rt,
-        &mut first,
-        &mut small,
-        MIRRORED,
-        PUT,
-        5,
-        "fault: store/",
-    );
-    expect_next(&rt, &mut first, 0);
+    let ask = ask_for(MIRRORED, "begin");
+    let mut halves = ran(&rt, &[], &[], &ask, 2, "fault: script line 1/");
+    expect_next(&rt, &mut halves.second, 0);
+    expect_no_store(&rt);
+    expect_too_small(&rt, &mut halves.first);
+    let_both_go(halves);
 }

@@ -1,43 +1,57 @@
 //! The trace of a run over a mirror.
 
-use crate::noting::Noting;
-use crate::playing::{CELLS, asked, blank, call_traced, formatted, lines_of, lines_with};
+use crate::playing::{
+    Halves, asked, blank, call_on, formatted, insist, let_both_go, lines_with, text_of,
+};
 use ob_mem::MemSink;
 use ob_mirrored::Room;
+use ob_top_calls::{CELLS, NEVER, Noting, ask_for, has, let_noting_go, sink_of};
 use std::process::Abort;
 use std::sync::Wait;
 use std::thread::Threads;
 
-// A sink for a trace, whose writes with these numbers fail.
-fn sink<R: AllocGlobal + Abort>(rt: &R, fails: &[u64]) -> Option<MemSink> {
-    let fails = fails.to_vec(rt.alloc()).expect(rt, "memory");
-    Some(MemSink::new(rt.alloc(), 4000, fails).expect(rt, "memory"))
+// A sink for a trace, of which this write fails.
+fn sink<R: AllocGlobal + Abort>(rt: &R, bad: u64) -> MemSink {
+    sink_of(rt.alloc(), 4000, bad).expect(rt, "memory")
 }
 
 const TRACED: &str = "run S K --lanes 1 --mirror F --trace T";
 
+// A run of an empty transaction, of whose trace this write fails, compared with its status and what
+// it tells: the trace, and both halves behind it.
+fn traced<R: AllocGlobal + Threads + Wait + Sync + Abort>(
+    rt: &R,
+    bad: u64,
+    status: u8,
+    told: &str,
+) -> (MemSink, Halves) {
+    let mut first = formatted(rt, &[]);
+    let mut second: Option<Noting> = Some(blank(rt, CELLS, &[]));
+    let mut trace = Some(sink(rt, bad));
+    let ask = ask_for(TRACED, "client 1/begin/commit");
+    let room = Room::new();
+    let (answer, output) = call_on(rt, &mut first, &mut second, room, &ask, &mut trace);
+    insist(rt, answer == status && has(&output, told), told);
+    let trace = trace.expect(rt, "the trace");
+    let second = second.expect(rt, "the second");
+    (trace, Halves { first, second })
+}
+
+// Behind its first line a trace has what was asked of the store, and the leaves.
+fn expect_all<R: AllocGlobal + Abort>(rt: &R, trace: &MemSink, first: &Noting) {
+    let text = text_of(rt, trace.written());
+    insist(rt, text.lines().count() == 217, "217 lines");
+    let calls = text.strip_prefix("O M\n").expect(rt, "the first line");
+    let calls = lines_with(rt, calls, "L", false);
+    insist(rt, calls.as_str() == asked(rt, first), "its calls");
+}
+
 #[test]
 fn all_that_the_first_half_sees_is_traced(rt: HostRuntime) {
-    let mut first = formatted(&rt, &[]);
-    let mut second: Option<Noting> = Some(blank(&rt, CELLS, &[]));
-    let mut trace = sink(&rt, &[]);
-    let script = "client 1/begin/commit";
-    let (status, output) = call_traced(
-        &rt,
-        &mut first,
-        &mut second,
-        Room::new(),
-        TRACED,
-        script,
-        &mut trace,
-    );
-    let told = lines_of(&rt, "epoch 1/txn 1 client 1 committed/");
-    assert!(rt; status == 0 && output.written() == told.as_bytes());
-    let trace = trace.expect(&rt, "the trace");
-    let text = str::from_utf8(trace.written()).ok().expect(&rt, "a text");
-    assert!(rt; text.lines().count() == 217);
-    let calls = text.strip_prefix("O M\n").expect(&rt, "the first line");
-    assert!(rt; lines_with(&rt, calls, "L", false).as_str() == asked(&rt, &first));
+    let told = "epoch 1/txn 1 client 1 committed/";
+    let (trace, halves) = traced(&rt, NEVER, 0, told);
+    expect_all(&rt, &trace, &halves.first);
+    let_both_go(halves);
 }
 
 // The sink of a trace fails at this write: the output's fault is told, once what was begun is done.
@@ -47,22 +61,11 @@ fn is_cut<R: AllocGlobal + Threads + Wait + Sync + Abort>(
     reads: usize,
     copies: usize,
 ) {
-    let mut first = formatted(rt, &[]);
-    let mut second: Option<Noting> = Some(blank(rt, CELLS, &[]));
-    let mut trace = sink(rt, &[write]);
-    let (status, output) = call_traced(
-        rt,
-        &mut first,
-        &mut second,
-        Room::new(),
-        TRACED,
-        "client 1/begin/commit",
-        &mut trace,
-    );
-    assert!(rt; status == 7 && output.written() == lines_of(rt, "fault: sink/").as_bytes());
-    assert!(rt; asked(rt, &first).lines().count() == reads, "{write}");
-    let second = second.expect(rt, "the second");
-    assert!(rt; asked(rt, &second).lines().count() == copies, "{write}");
+    let (_, halves) = traced(rt, write, 7, "fault: sink/");
+    let read = asked(rt, &halves.first).lines().count();
+    let copied = asked(rt, &halves.second).lines().count();
+    assert!(rt; read == reads && copied == copies, "{write}");
+    let_both_go(halves);
 }
 
 #[test]
@@ -73,18 +76,26 @@ fn a_trace_that_fails_stops_the_run_behind_the_join_at_the_latest(rt: HostRuntim
     is_cut(&rt, 114, CELLS + 5, CELLS + 1);
 }
 
+// A run without a second store, with this trace: its fault is told before anything is touched.
+fn expect_missed<R: AllocGlobal + Threads + Wait + Sync + Abort>(
+    rt: &R,
+    trace: &mut Option<MemSink>,
+    status: u8,
+    told: &str,
+) {
+    let mut first = formatted(rt, &[]);
+    let mut none: Option<Noting> = None;
+    let room = Room::new();
+    let (answer, output) = call_on(rt, &mut first, &mut none, room, &ask_for(TRACED, ""), trace);
+    insist(rt, answer == status && has(&output, told), told);
+    insist(rt, asked(rt, &first) == "", told);
+    let_noting_go(first);
+}
+
 #[test]
 fn a_trace_is_missed_before_the_second_store(rt: HostRuntime) {
-    let mut first = formatted(&rt, &[]);
-    let mut none: Option<Noting> = None;
-    let mut trace: Option<MemSink> = None;
-    let room = Room::new();
-    let (status, output) = call_traced(&rt, &mut first, &mut none, room, TRACED, "", &mut trace);
-    assert!(rt; status == 7 && output.written() == lines_of(&rt, "fault: sink/").as_bytes());
-    let mut trace = sink(&rt, &[]);
-    let room = Room::new();
-    let (status, output) = call_traced(&rt, &mut first, &mut none, room, TRACED, "", &mut trace);
-    assert!(rt; status == 5 && output.written() == lines_of(&rt, "fault: store/").as_bytes());
-    assert!(rt; trace.expect(&rt, "the trace").written().len() == 0);
-    assert!(rt; asked(&rt, &first) == "");
+    expect_missed(&rt, &mut None, 7, "fault: sink/");
+    let mut trace = Some(sink(&rt, NEVER));
+    expect_missed(&rt, &mut trace, 5, "fault: store/");
+    insist(&rt, has(&trace.expect(&rt, "the trace"), ""), "nothing");
 }

@@ -64,8 +64,9 @@ pub struct Answer {
 }
 
 impl Answer {
-    /// Whether this is the status, and just these lines were told; a `/` stands for the end of each.
-    pub fn is(&self, status: u64, told: &str) -> bool {
+    /// Whether this was the status, and just these lines were told; a `/` stands for the end of each.
+    /// It lets the answer go, whose drop is proved here alone.
+    pub fn was(self, status: u64, told: &str) -> bool {
         u64::from(self.status) == status && has(&self.output, told)
     }
 }

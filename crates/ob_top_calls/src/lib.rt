@@ -12,6 +12,6 @@ pub use calls::{
     Answer, Ask, KEYS, NEVER, WIDE, ask_for, call, call_alone, call_by, call_over, has, has_front,
     lines_of, sink_of, source_of, words_of,
 };
-pub use noting::{Noting, noted, noted_after, noted_blank};
+pub use noting::{Noting, let_noting_go, noted, noted_after, noted_blank};
 pub use scripts::{Txn, push_client, push_txn};
-pub use stores::{CELLS, END, are_alike, blank, cell_of, flip, left_after};
+pub use stores::{CELLS, END, are_alike, blank, cell_of, flip, left_after, let_go};

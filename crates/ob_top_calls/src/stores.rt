@@ -42,6 +42,9 @@ pub fn left_after(store: &MemStore, moment: usize, filling: Option<u8>) -> Resul
     store.crash(moment, &fillings)
 }
 
+/// Lets a store go. What a drop takes is proved in each function that has one, so tests call this.
+pub fn let_go(_store: MemStore) {}
+
 /// The bytes of a cell.
 ///
 /// # Errors

@@ -11,7 +11,7 @@ use ob_mem::{Fail, MemSink};
 use ob_seal::{ChaChaTape, ListTape, Tape};
 use ob_top::{Drilled, drill_on, obladi};
 use ob_top_calls as calls;
-use ob_top_calls::{NEVER, Noting, WIDE, noted_blank, sink_of, source_of};
+use ob_top_calls::{NEVER, WIDE, let_noting_go, noted_blank, sink_of, source_of};
 use std::process::Abort;
 use std::sync::Wait;
 use std::thread::Threads;
@@ -24,6 +24,9 @@ const OF_TWO: [u8; 32] = [
     0x4d, 0x3b, 0xe5, 0x08, 0xa3, 0xf5, 0x14, 0x71, 0xf0, 0xd5, 0x22, 0x30, 0x20, 0x1a, 0xe0, 0xeb,
     0x4e, 0x4c, 0xc1, 0x58, 0xcd, 0x17, 0x77, 0x8d, 0xc1, 0xcb, 0xce, 0xb9, 0x41, 0xe1, 0xb1, 0x29,
 ];
+
+// What a store is asked for first.
+const FIRST: &[u8] = b"W 0\nS\nW 2\nW 4\nW 6\nW 8\n";
 
 // A self-test of two transactions.
 fn drill_over<R: AllocGlobal + Threads + Wait + Sync, S: Lanes>(
@@ -38,38 +41,54 @@ fn drill_over<R: AllocGlobal + Threads + Wait + Sync, S: Lanes>(
     drill_on(rt, 2, store, &mut made, &mut tape, &mut Eager)
 }
 
-// A self-test of two transactions over a new store of which these calls fail, and that store.
-fn drill_two<R: AllocGlobal + Threads + Wait + Sync + Abort>(
-    rt: &R,
-    fails: &[Fail],
-) -> (Result<Drilled, Fault>, Noting) {
+// What a self-test answers, how often its store failed, and whether it began with a format.
+#[derive(Drop)]
+struct Told {
+    drilled: Result<Drilled, Fault>,
+    faults: u64,
+    begins: bool,
+}
+
+// A self-test of two transactions over a new store of which these calls fail.
+fn drill_two<R: AllocGlobal + Threads + Wait + Sync + Abort>(rt: &R, fails: &[Fail]) -> Told {
     let mut store = noted_blank(rt.alloc(), CELLS, fails).expect(rt, "memory");
     let drilled = drill_over(rt, &mut store);
-    (drilled, store)
+    let faults = store.store.faults();
+    let begins = store.told.written().starts_with(FIRST);
+    let_noting_go(store);
+    Told {
+        drilled,
+        faults,
+        begins,
+    }
 }
 
 #[test]
 fn two_transactions_leave_two_keys(rt: HostRuntime) {
-    let (drilled, store) = drill_two(&rt, &[]);
+    let Told {
+        drilled, faults, ..
+    } = drill_two(&rt, &[]);
     let drilled = drilled.ok().expect(&rt, "a self-test");
-    let went = drilled.epochs == 2 && store.store.faults() == 0;
+    let went = drilled.epochs == 2 && faults == 0;
     let left = drilled.digest.keys == 2 && drilled.digest.map == OF_TWO;
     insist(&rt, went && left, "two keys");
 }
 
 #[test]
 fn a_store_that_fails_is_told(rt: HostRuntime) {
-    let (drilled, store) = drill_two(&rt, &[Fail::Write(0)]);
+    let Told {
+        drilled, faults, ..
+    } = drill_two(&rt, &[Fail::Write(0)]);
     let fault = drilled.err().expect(&rt, "a refusal");
     let told = fault == Fault::StoreFault { unsure: None };
-    insist(&rt, told && store.store.faults() == 1, "the first write");
+    insist(&rt, told && faults == 1, "the first write");
 }
 
 #[test]
 fn a_self_test_begins_with_its_format(rt: HostRuntime) {
-    let (drilled, store) = drill_two(&rt, &[]);
-    let first = b"W 0\nS\nW 2\nW 4\nW 6\nW 8\n";
-    let begins = store.told.written().starts_with(first);
+    let Told {
+        drilled, begins, ..
+    } = drill_two(&rt, &[]);
     insist(&rt, drilled.is_ok() && begins, "a format");
 }
 
@@ -130,6 +149,7 @@ fn drill_beside<R: AllocGlobal + Threads + Wait + Sync + Abort>(rt: &R, count: &
     let unasked = store.told.written().is_empty() && tape.calls == 0;
     let unread = input.left() == b"client 1\n".as_slice() && trace.written().is_empty();
     insist(rt, unasked && unread, count);
+    let_noting_go(store);
     status
 }
 

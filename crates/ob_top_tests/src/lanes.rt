@@ -6,7 +6,7 @@ ghost use Rattle.ob_mem.specs.Memory.{disk_of_store};
 
 use crate::playing::{expect, expect_asked, insist, play};
 use ob_mem::GateStore;
-use ob_top_calls::{CELLS, Noting, are_alike};
+use ob_top_calls::{CELLS, Noting, are_alike, let_noting_go};
 use std::process::Abort;
 use std::sync::Wait;
 use std::thread::Threads;
@@ -47,6 +47,8 @@ fn expect_alike<R: AllocGlobal + Threads + Wait + Sync + Abort>(rt: &R, call: &s
     let alike = are_alike(&mut first.store, &mut left.store, CELLS as u64);
     insist(rt, alike.expect(rt, "the cells"), call);
     expect_asked(rt, &first, ASKED);
+    let_noting_go(first);
+    let_noting_go(left);
 }
 
 #[test]

@@ -3,7 +3,7 @@
 use crate::playing::{call_on, insist, parted, play, text_of};
 use crate::replay::replayed;
 use ob_mem::MemSink;
-use ob_top_calls::{Txn, ask_for, has, push_client, push_txn};
+use ob_top_calls::{Txn, ask_for, has, let_noting_go, push_client, push_txn};
 use std::process::Abort;
 use std::sync::Wait;
 use std::thread::Threads;
@@ -48,6 +48,7 @@ fn told_by<R: AllocGlobal + Threads + Wait + Sync + Abort>(
     ask.room = 1_000_000;
     let answer = call_on(rt, &mut store, &ask);
     insist(rt, answer.status == 0, words);
+    let_noting_go(store);
     answer.output
 }
 

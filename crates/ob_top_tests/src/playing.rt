@@ -9,7 +9,7 @@ use ob_lanes::Lanes;
 use ob_mem::Fail;
 use ob_top_calls as calls;
 use ob_top_calls::{
-    Answer, Ask, CELLS, END, Noting, ask_for, flip, has, noted_after, noted_blank,
+    Answer, Ask, CELLS, END, Noting, ask_for, flip, has, let_noting_go, noted_after, noted_blank,
 };
 use std::process::Abort;
 use std::sync::Wait;
@@ -64,7 +64,7 @@ pub fn expect<'a, R: AllocGlobal + Threads + Wait + Sync + Abort, S: Lanes>(
     let mut ask = ask_for(words, script);
     ask.tape = tape;
     let answer = call_on(rt, store, &ask);
-    insist(rt, answer.is(number_of(rt, status), output), call);
+    insist(rt, answer.was(number_of(rt, status), output), call);
 }
 
 /// Asserts that since it was made, or since its last crash, the store was asked for the events of
@@ -148,7 +148,7 @@ pub fn play<R: AllocGlobal + Threads + Wait + Sync + Abort>(
 /// Plays these lives, each of a store of 8 keys.
 pub fn play_all<R: AllocGlobal + Threads + Wait + Sync + Abort>(rt: &R, lives: &[&str]) {
     for steps in lives {
-        play(rt, CELLS, &[], *steps);
+        let_noting_go(play(rt, CELLS, &[], *steps));
     }
 }
 
@@ -162,4 +162,5 @@ pub fn go_on_behind<R: AllocGlobal + Threads + Wait + Sync + Abort>(
 ) {
     let mut left = left_after(rt, ran, moment, filling);
     go_on(rt, &mut left, steps);
+    let_noting_go(left);
 }

@@ -5,7 +5,7 @@ use crate::playing::{
     expect, expect_asked, go_on_behind, number_of, parted, play, play_all,
 };
 use ob_mem::Fail;
-use ob_top_calls::CELLS;
+use ob_top_calls::{CELLS, let_noting_go};
 use std::process::Abort;
 use std::sync::Wait;
 use std::thread::Threads;
@@ -46,6 +46,7 @@ fn a_run_does_to_its_store_what_another_implementation_does(rt: HostRuntime) {
     );
     let asked = "opening record batch second lifts refill register leaf";
     expect_asked(&rt, &store, asked);
+    let_noting_go(store);
 }
 
 // What a run shows that found no record, the first batch's, and both.
@@ -79,6 +80,7 @@ fn a_run_goes_on_behind_a_crash_as_another_implementation_does(rt: HostRuntime) 
     for &(moment, filling, steps) in &BEHIND {
         go_on_behind(&rt, &ran, moment, filling, steps);
     }
+    let_noting_go(ran);
 }
 
 // Calls that fail, behind a format of 62 writes and 10 syncs: the gate of the first batch's record,
@@ -116,6 +118,7 @@ fn expect_refused<R: AllocGlobal + Threads + Wait + Sync + Abort>(rt: &R, row: &
     let run = "run S K --lanes 1 < client 1/begin/commit";
     expect(rt, &mut store, &[], run, wanted);
     expect_asked(rt, &store, names);
+    let_noting_go(store);
 }
 
 #[test]

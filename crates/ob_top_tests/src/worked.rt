@@ -7,7 +7,7 @@ use crate::playing::{go_on, insist};
 use crate::two_epochs::cells;
 use hex::FromHex;
 use ob_store::Store;
-use ob_top_calls::{CELLS, Noting, noted_blank};
+use ob_top_calls::{CELLS, Noting, let_noting_go, noted_blank};
 use std::process::Abort;
 
 // Writes the bytes of a cell's digits, of which each cell has 256.
@@ -48,4 +48,5 @@ const GOES_ON: &str = "\
 fn a_run_goes_on_with_another_implementations_store(rt: HostRuntime) {
     let mut store = after_two_epochs(&rt);
     go_on(&rt, &mut store, GOES_ON);
+    let_noting_go(store);
 }
