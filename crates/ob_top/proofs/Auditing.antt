@@ -47,7 +47,7 @@ use Rattle.ob_histories.specs.Texts.{HaveTexts}
 use Rattle.ob_admitted.proofs.Acts.{LeftSound, Sound, calls_sound, ends_join, left_sound, life_first, life_last, slots_first, slots_last, whole_join}
 use Rattle.ob_admitted.proofs.Gating.{both_marked, marked_epoch, marked_generation}
 use Rattle.ob_admitted.proofs.Living.{lives_are_filled}
-use Rattle.ob_admitted.proofs.Parts.{gates_left, left_as_shown, parts_are}
+use Rattle.ob_admitted.proofs.Parts.{filled_made, gates_left, left_as_shown, parts_are}
 use Rattle.ob_admitted.proofs.Serving.{served}
 use Rattle.ob_admitted.proofs.Wholes.{repeats_ended, repeats_whole}
 use Rattle.ob_admitted.specs.Fills.{FillsAll, HasFills}
@@ -272,11 +272,12 @@ module _ {S : Type 0} (disk : S → Disk) (keys : Keys) (p : Params) (word_of : 
           → IsServedThen p word_of f s gates next notes first
       run_then next begins =
           let opened = x.begins word_of s stands small in
+          let made_here = filled_made p word_of f s (opening_acts s ++ (run.goes).acts) ((run.goes).left x.map_found x.is_map).made rest first refl filled_here in
           let gated : AreGatesLeft p word_of f s gates x.steps x.refused first (length x.last) next =
-          gates_left disk keys p word_of slot f before ranked here (r.by).lanes r.old x.found x.opened x.calls x.steps x.behind x.refused (r.tape).words x.seen r.new stands opened notes shown_in run x.map_found x.is_map rest first finds refl filled_here noted
+          gates_left disk keys p word_of slot f before ranked here (r.by).lanes r.old x.found x.opened x.calls x.steps x.behind x.refused (r.tape).words x.seen r.new stands opened notes shown_in run x.map_found x.is_map made_here rest first finds refl noted
           ((x.left).gated x.knows x.map_found x.is_map x.opened_gate) next begins in
           parts_are disk keys p word_of slot f before ranked here (r.by).lanes r.old x.found x.opened x.calls x.steps x.behind x.refused (r.tape).words x.seen r.new stands small x.begins run x.map_found x.is_map rest first finds refl filled_here notes shown_in next
-          (left_as_shown disk keys p word_of slot f before ranked here (r.by).lanes r.old x.found x.opened x.calls x.steps x.behind x.refused (r.tape).words x.seen r.new stands opened notes shown_in run x.map_found x.is_map rest first finds refl filled_here noted next gated)
+          (left_as_shown disk keys p word_of slot f before ranked here (r.by).lanes r.old x.found x.opened x.calls x.steps x.behind x.refused (r.tape).words x.seen r.new stands opened notes shown_in run x.map_found x.is_map made_here rest first finds refl noted next gated)
 
       history_then : (lines : List Line) (next : Option (ℕ → Bool)) → AreHistoryOf p f lines s (Some gates)
           → ((found : ℕ → Bool) → next ≡ Some found → (g : Gates) × (found ≡ gates_open g) × (image : Image) × (disk r.new).may_leave image × StandsInLife keys p word_of (reached p word_of s first) image × AreGatesIn g image)
