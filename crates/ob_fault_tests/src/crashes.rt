@@ -3,9 +3,11 @@
 ghost use Rattle.std.specs.Prelude.{◌≡◌};
 ghost use Rattle.ob_mem.specs.Memory.{disk_of_store};
 
-use crate::playing::{ONE_EPOCH, PUT, RUN, STEPS, expect, formatted, insist, left_after};
+use crate::playing::{
+    ONE_EPOCH, PUT, RUN, STEPS, expect, formatted, insist, left_after, new_store,
+};
 use ob_mem::{Fail, MemStore};
-use ob_top_calls::END;
+use ob_top_calls::{END, let_go};
 use std::process::Abort;
 use std::sync::Wait;
 use std::thread::Threads;
@@ -58,6 +60,12 @@ pub struct Next {
     in_doubt: bool,
 }
 
+// Lets it go.
+fn let_next_go(next: Next) {
+    let Next { store, .. } = next;
+    let_go(store);
+}
+
 // How many writes and syncs an epoch of this number makes behind what a store has.
 fn steps_of<R: AllocGlobal + Threads + Wait + Sync + Abort>(
     rt: &R,
@@ -68,7 +76,9 @@ fn steps_of<R: AllocGlobal + Threads + Wait + Sync + Abort>(
     let told = told_of(rt, epoch, "");
     let script = "client 1/begin/commit";
     expect(rt, &mut copy, RUN, script, 0, told.as_str());
-    copy.moments()
+    let moments = copy.moments();
+    let_go(copy);
+    moments
 }
 
 // The next run, whose first epoch has this number.
@@ -106,12 +116,13 @@ fn expect_third<R: AllocGlobal + Threads + Wait + Sync + Abort>(
     let mut left = left_after(rt, &next.store, next.before.saturating_add(moment), filling);
     if next.in_doubt && moment == 0 && filling == Some(0) {
         expect_next(rt, &mut left, 1, false);
-        return;
+    } else {
+        let ended = has_ended(next.first, moment, filling) as u64;
+        let both = has_ended(next.all, moment, filling) as u64;
+        let epoch = next.epoch.saturating_add(ended).saturating_add(both);
+        expect_next(rt, &mut left, epoch, next.found);
     }
-    let ended = has_ended(next.first, moment, filling) as u64;
-    let both = has_ended(next.all, moment, filling) as u64;
-    let epoch = next.epoch.saturating_add(ended).saturating_add(both);
-    expect_next(rt, &mut left, epoch, next.found);
+    let_go(left);
 }
 
 // A filling by its number.
@@ -153,7 +164,7 @@ pub fn behind_call<R: AllocGlobal + Threads + Wait + Sync + Abort>(rt: &R, call:
 
 /// A run of a store that was just formatted.
 pub fn ran<R: AllocGlobal + Threads + Wait + Sync + Abort>(rt: &R) -> MemStore {
-    let mut ran = left_after(rt, &formatted(rt, &[]), END, None);
+    let mut ran = new_store(rt);
     expect(rt, &mut ran, RUN, PUT, 0, ONE_EPOCH);
     ran
 }
@@ -196,6 +207,7 @@ fn count_cases<R: AllocGlobal + Threads + Wait + Sync + Abort>(rt: &R) -> u64 {
     for call in 0..CALLS {
         let next = behind_call(rt, call);
         cases = expect_thirds(rt, &next, 11, cases);
+        let_next_go(next);
     }
     cases
 }
@@ -209,13 +221,15 @@ fn each_failing_call_is_told_and_no_epoch_lost(rt: HostRuntime) {
 
 fn expect_images<R: AllocGlobal + Threads + Wait + Sync + Abort>(rt: &R, ran: &MemStore) {
     for image in 0..IMAGES {
-        behind_crash(rt, ran, image);
+        let_next_go(behind_crash(rt, ran, image));
     }
 }
 
 #[test]
 fn a_crash_at_each_moment_leaves_one_of_two_epochs(rt: HostRuntime) {
-    expect_images(&rt, &ran(&rt));
+    let ran = ran(&rt);
+    expect_images(&rt, &ran);
+    let_go(ran);
 }
 
 // The next number of a row, below this one.
@@ -237,6 +251,7 @@ fn expect_drawn<R: AllocGlobal + Threads + Wait + Sync + Abort>(
         let moment = drawn(row, next.all.saturating_add(1));
         expect_third(rt, &next, moment, filling_of(drawn(row, 3)));
     }
+    let_next_go(next);
 }
 
 // Of the images of a run 30 are drawn.
@@ -247,4 +262,5 @@ fn a_second_crash_loses_no_epoch(rt: HostRuntime) {
     for _image in 0..30 {
         expect_drawn(&rt, &ran, &mut row);
     }
+    let_go(ran);
 }

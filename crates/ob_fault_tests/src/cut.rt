@@ -2,7 +2,7 @@
 
 use crate::playing::{call_on, expect, formatted, insist, insist_at, left_after};
 use ob_mem::{MemSink, MemStore};
-use ob_top_calls::{Answer, Ask, END, NEVER, WIDE, ask_for, has, has_front};
+use ob_top_calls::{Answer, Ask, END, NEVER, WIDE, ask_for, has, has_front, let_go};
 use std::process::Abort;
 use std::sync::Wait;
 use std::thread::Threads;
@@ -81,6 +81,7 @@ fn expect_next<R: AllocGlobal + Threads + Wait + Sync + Abort>(
         "epoch 1/txn 1 client 1 committed/"
     };
     expect(rt, &mut left, "run S K --turns", EMPTY, 0, told);
+    let_go(left);
 }
 
 // A run of one epoch whose trace has so much room, where all would be told this.
@@ -102,6 +103,7 @@ fn expect_cut<R: AllocGlobal + Threads + Wait + Sync + Abort>(
         && store.moments() == steps_of(room);
     insist_at(rt, so, room as u64);
     expect_next(rt, &store, room >= ENDED);
+    let_go(store);
 }
 
 // Rooms at which what a run does changes, and those before.
@@ -122,6 +124,7 @@ fn expect_all_cut<R: AllocGlobal + Threads + Wait + Sync + Abort>(
             expect_cut(rt, &made, (words, script), told, room);
         }
     }
+    let_go(made);
 }
 
 #[test]
@@ -138,7 +141,9 @@ fn a_batch_of_its_own_is_delivered_behind_a_trace_that_ends(rt: HostRuntime) {
 // What a store that was just formatted answers.
 fn answer_of_new<R: AllocGlobal + Threads + Wait + Sync + Abort>(rt: &R, ask: &Ask<'_>) -> Answer {
     let mut store = formatted(rt, &[]);
-    call_on(rt, &mut store, ask)
+    let answer = call_on(rt, &mut store, ask);
+    let_go(store);
+    answer
 }
 
 // A report of which the output has room for so much, and this write fails, where the trace ends

@@ -8,7 +8,7 @@ use crate::playing::{
     ONE_EPOCH, PUT, READS, RUN, STEPS, formatted, insist, insist_at, left_after, made_before,
 };
 use ob_mem::{Fail, MemStore};
-use ob_top_calls::{CELLS, END};
+use ob_top_calls::{CELLS, END, let_go};
 use std::process::Abort;
 use std::sync::Wait;
 use std::thread::Threads;
@@ -43,6 +43,7 @@ fn is_told<R: AllocGlobal + Threads + Wait + Sync + Abort>(
     let (told, steps) = told_of(cell);
     expect_told(rt, &mut store, (RUN, PUT), told, ONE_EPOCH);
     insist_at(rt, store.moments() == steps.saturating_add(1), cell);
+    let_go(store);
     matches!(told, Told::Damaged(_))
 }
 
@@ -59,8 +60,9 @@ fn count_told<R: AllocGlobal + Threads + Wait + Sync + Abort>(rt: &R, made: &Mem
 
 #[test]
 fn each_damaged_cell_that_is_read_is_told(rt: HostRuntime) {
-    let many = count_told(&rt, &formatted(&rt, &[]));
-    insist(&rt, many == 33, "cells");
+    let made = formatted(&rt, &[]);
+    insist(&rt, count_told(&rt, &made) == 33, "cells");
+    let_go(made);
 }
 
 // Two cells of one phase, the first of which is damaged, and the second too or its read is refused:
@@ -119,6 +121,7 @@ fn expect_first<R: AllocGlobal + Threads + Wait + Sync + Abort>(rt: &R, words: &
     }
     expect_told(rt, &mut store, (words, PUT), told, ONE_EPOCH);
     insist(rt, (store.faults() > 0) == refused, words);
+    let_go(store);
 }
 
 #[test]

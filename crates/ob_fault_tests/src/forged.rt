@@ -6,7 +6,7 @@ ghost use Rattle.ob_mem.specs.Memory.{disk_of_store};
 use crate::harms::{harm_of, harm_store, parted};
 use crate::playing::{RUN, blank, expect, left_after};
 use ob_mem::MemStore;
-use ob_top_calls::END;
+use ob_top_calls::{END, let_go};
 use std::process::Abort;
 use std::sync::Wait;
 use std::thread::Threads;
@@ -81,9 +81,12 @@ fn base_of<R: AllocGlobal + Threads + Wait + Sync + Abort>(rt: &R, life: Life) -
 {
     let mut store = blank(rt, life.cells, &[]);
     expect(rt, &mut store, life.format, "", 0, life.formatted);
-    let mut store = left_after(rt, &store, END, None);
-    expect(rt, &mut store, RUN, life.script, 0, life.ran);
-    left_after(rt, &store, life.moment, None)
+    let mut ran = left_after(rt, &store, END, None);
+    let_go(store);
+    expect(rt, &mut ran, RUN, life.script, 0, life.ran);
+    let left = left_after(rt, &ran, life.moment, None);
+    let_go(ran);
+    left
 }
 
 // Plays a row: `BASE: HARMS -> STATUS OUTPUT`, what is done to a base, and what a run is told that
@@ -97,6 +100,7 @@ fn play<R: AllocGlobal + Threads + Wait + Sync + Abort>(rt: &R, row: &str) {
         harm_store(rt, &mut store, harm_of(rt, harm));
     }
     expect_wanted(rt, &mut store, base, wanted);
+    let_go(store);
 }
 
 // A run that gets key 5, or key 0 where there is no such key, is answered `STATUS OUTPUT`.

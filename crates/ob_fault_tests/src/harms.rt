@@ -9,6 +9,7 @@ use ob_mem::MemStore;
 use ob_seal::{Keys, Sealer};
 use ob_store::Store;
 use ob_top_calls as calls;
+use ob_top_calls::flip;
 use std::process::Abort;
 use std::sync::Wait;
 use std::thread::Threads;
@@ -115,11 +116,7 @@ pub fn harm_store<R: Abort>(rt: &R, store: &mut MemStore, harm: Harm)
 {
     match harm {
         Harm::None => {}
-        Harm::Flip(cell) => {
-            let mut bytes = cell_of(rt, store, cell);
-            bytes[20] ^= 1;
-            write(rt, store, cell, &bytes);
-        }
+        Harm::Flip(cell) => insist(rt, flip(store, cell).is_ok(), "a bit"),
         Harm::Open(cell) => write(rt, store, cell, &[0xA5; 128]),
         Harm::Seal(cell, place, number, many) => {
             reseal(rt, store, cell, (cell, 0), (place, number, many))

@@ -5,7 +5,7 @@ ghost use Rattle.ob_mem.specs.Memory.{disk_of_store};
 
 use ob_mem::{Fail, MemStore};
 use ob_top_calls as calls;
-use ob_top_calls::{Answer, Ask, CELLS, ask_for, has};
+use ob_top_calls::{Answer, Ask, CELLS, END, ask_for, let_go};
 use std::process::Abort;
 use std::sync::Wait;
 use std::thread::Threads;
@@ -77,8 +77,8 @@ pub fn expect<R: AllocGlobal + Threads + Wait + Sync + Abort>(
     ensures { (disk_of_store store.new).out ≡ 0 }
 {
     let answer = call_on(rt, store, &ask_for(words, script));
-    let so = answer.status == status && has(&answer.output, told);
-    insist(rt, so && store.starved() == 0, told);
+    let so = answer.was(u64::from(status), told) && store.starved() == 0;
+    insist(rt, so, told);
 }
 
 /// A new store of so many cells, of which these calls fail.
@@ -96,6 +96,16 @@ pub fn formatted<R: AllocGlobal + Threads + Wait + Sync + Abort>(rt: &R, fails: 
     let words = "format S K 8 2 2 3 2 2 2 2 8";
     expect(rt, &mut store, words, "", 0, "store of 109 cells/");
     insist(rt, store.moments() == 72, words);
+    store
+}
+
+/// A store that was just formatted, with no call behind it.
+pub fn new_store<R: AllocGlobal + Threads + Wait + Sync + Abort>(rt: &R) -> MemStore
+    ensures { (disk_of_store result).out ≡ 0 }
+{
+    let formatted = formatted(rt, &[]);
+    let store = left_after(rt, &formatted, END, None);
+    let_go(formatted);
     store
 }
 

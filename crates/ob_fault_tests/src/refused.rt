@@ -6,7 +6,7 @@ use crate::playing::{
     made_before,
 };
 use ob_mem::{Fail, MemStore};
-use ob_top_calls::{END, NEVER, WIDE, ask_for, has};
+use ob_top_calls::{END, NEVER, WIDE, ask_for, let_go};
 use std::process::Abort;
 use std::sync::Wait;
 use std::thread::Threads;
@@ -20,6 +20,7 @@ fn expect_not_ended<R: AllocGlobal + Threads + Wait + Sync + Abort>(rt: &R, stor
     for &filling in &[None, Some(0), Some(0xA5)] {
         let mut left = left_after(rt, store, END, filling);
         expect_next(rt, &mut left, 1, false);
+        let_go(left);
     }
 }
 
@@ -33,16 +34,17 @@ fn is_told<R: AllocGlobal + Threads + Wait + Sync + Abort>(
 ) -> bool {
     let mut store = formatted(rt, &[fail]);
     let answer = call_on(rt, &mut store, &ask_for(words, PUT));
-    if store.faults() == 0 {
-        let ended = answer.status == 0 && has(&answer.output, ONE_EPOCH);
-        insist(rt, ended && store.moments() == 72 + STEPS, words);
-        return false;
+    let failed = store.faults() > 0;
+    if failed {
+        let so = answer.was(5, "fault: store/") && store.moments() == steps.saturating_add(72);
+        insist_at(rt, so, steps as u64);
+        expect_not_ended(rt, &store);
+    } else {
+        let so = answer.was(0, ONE_EPOCH) && store.moments() == 72 + STEPS;
+        insist(rt, so, words);
     }
-    let told = answer.status == 5 && has(&answer.output, "fault: store/");
-    let so = told && store.moments() == steps.saturating_add(72);
-    insist_at(rt, so, steps as u64);
-    expect_not_ended(rt, &store);
-    true
+    let_go(store);
+    failed
 }
 
 // Each read of a run, by these words.
@@ -107,11 +109,10 @@ fn expect_end<R: AllocGlobal + Threads + Wait + Sync + Abort>(rt: &R, row: &Ends
     ask.bad_write = bad_write;
     ask.room = room;
     let answer = call_on(rt, &mut store, &ask);
-    let so = answer.status == status
-        && has(&answer.output, told)
-        && store.moments() == steps.saturating_add(72);
+    let so = answer.was(u64::from(status), told) && store.moments() == steps.saturating_add(72);
     insist(rt, so, told);
     expect_next(rt, &mut store, 1 + ended as u64, ended);
+    let_go(store);
 }
 
 #[test]
@@ -132,6 +133,7 @@ fn expect_lines<R: AllocGlobal + Threads + Wait + Sync + Abort>(
     let text = vec![in rt.alloc(); b'\n'; lines].expect(rt, "memory");
     let text = str::from_utf8(&text).ok().expect(rt, "a text");
     expect(rt, &mut store, RUN, text, status, told);
+    let_go(store);
 }
 
 // A script of as many lines as there may be, and one of a line more.

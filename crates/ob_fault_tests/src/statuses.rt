@@ -6,7 +6,7 @@ ghost use Rattle.ob_mem.specs.Memory.{disk_of_store};
 use crate::harms::{harm_of, harm_store, number_of, parted};
 use crate::playing::{blank, call_on, expect, formatted, insist};
 use ob_mem::{Fail, MemStore};
-use ob_top_calls::{Ask, CELLS, KEYS, NEVER, ask_for, has};
+use ob_top_calls::{Ask, CELLS, KEYS, NEVER, ask_for, let_go};
 use std::process::Abort;
 use std::sync::Wait;
 use std::thread::Threads;
@@ -123,9 +123,10 @@ fn is_written<R: AllocGlobal + Threads + Wait + Sync + Abort>(rt: &R, line: &str
     let mut store = stand(rt, found);
     let before = store.moments();
     let answer = call_on(rt, &mut store, &ask_at(rt, found, call));
-    let so = answer.status as u64 == number_of(rt, status) && has(&answer.output, told);
-    insist(rt, so, line);
-    store.moments() != before
+    insist(rt, answer.was(number_of(rt, status), told), line);
+    let written = store.moments() != before;
+    let_go(store);
+    written
 }
 
 // Plays a row by which the store is neither written to nor synced.

@@ -4,9 +4,9 @@ ghost use Rattle.std.specs.Prelude.{◌≡◌};
 ghost use Rattle.ob_mem.specs.Memory.{disk_of_store};
 
 use crate::harms::{Harm, harm_store};
-use crate::playing::{PUT, call_on, formatted, insist, left_after};
+use crate::playing::{PUT, call_on, insist, new_store};
 use ob_mem::MemStore;
-use ob_top_calls::{Answer, END, WIDE, ask_for, has};
+use ob_top_calls::{Answer, WIDE, ask_for, has, let_go};
 use std::process::Abort;
 use std::sync::Wait;
 use std::thread::Threads;
@@ -34,13 +34,6 @@ fn expect_worn<R: AllocGlobal + Threads + Wait + Sync + Abort>(
     insist(rt, so && has(&trace, shown), shown);
 }
 
-// A store that was just formatted, with no call behind it.
-fn new_store<R: AllocGlobal + Threads + Wait + Sync + Abort>(rt: &R) -> MemStore
-    ensures { (disk_of_store result).out ≡ 0 }
-{
-    left_after(rt, &formatted(rt, &[]), END, None)
-}
-
 // The generation's register has it: the store is read, and neither written nor synced.
 const READ: &str = "\
     O/R 0/R 1/R 2/R 3/R 4/R 5/R 6/R 7/R 8/R 17/R 18/R 19/R 20/R 21/R 22/R 23/R 24/R 25/R 26/R 27/\
@@ -51,6 +44,7 @@ fn expect_no_run<R: AllocGlobal + Threads + Wait + Sync + Abort>(rt: &R) {
     harm_store(rt, &mut store, Harm::Stamp(3, 0, LAST, 8));
     expect_worn(rt, &mut store, READ);
     insist(rt, store.moments() == 1, READ);
+    let_go(store);
 }
 
 #[test]
@@ -82,4 +76,5 @@ fn no_epoch_ends_behind_the_last(rt: HostRuntime) {
     let mut store = new_store(&rt);
     wear(&rt, &mut store);
     expect_worn(&rt, &mut store, SHOWN);
+    let_go(store);
 }
