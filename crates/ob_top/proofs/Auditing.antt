@@ -5,12 +5,10 @@ use Rattle.std.proofs.lemmas.List.{append-nil}
 use Rattle.std.proofs.lemmas.List.Concat.{flat_map-append}
 use Rattle.ob_audit.specs.Traces.{Admitted, lines_in}
 use Rattle.ob_base.specs.Layout.{EpochTwin, GenerationTwin}
-use Rattle.ob_base.specs.Repeats.{Has}
 use Rattle.ob_base.specs.Tree.{width}
 use Rattle.ob_base.specs.declared.params.Params.{Params}
 use Rattle.ob_fresh.specs.PublicLives.{AreEndsShown}
 use Rattle.ob_opening.specs.OpeningActs.{AreGatesIn, IsLeftAt, StandsInLife}
-use Rattle.ob_recover.proofs.LifeLabels.{planned_lasts}
 use Rattle.ob_recover.proofs.Pads.{life_goes_on}
 use Rattle.ob_recover.specs.Calls.{Finds}
 use Rattle.ob_recover.specs.Known.{format_gates, gates_open}
@@ -44,10 +42,10 @@ use Rattle.ob_histories.specs.Histories.{AreRunsBehind, IsHistory, MayFind, foun
 use Rattle.ob_histories.specs.Laws.{AreAdmitted, TakesLines}
 use Rattle.ob_histories.specs.Runs.{HistoryRun, RunFound, is_settled}
 use Rattle.ob_histories.specs.Texts.{HaveTexts}
-use Rattle.ob_admitted.proofs.Acts.{LeftSound, Sound, calls_sound, ends_join, left_sound, life_first, life_last, slots_first, slots_last, whole_join}
+use Rattle.ob_admitted.proofs.Acts.{LeftSound, Sound, calls_sound, ends_join, left_sound, life_first, life_last, whole_join}
 use Rattle.ob_admitted.proofs.Gating.{both_marked, marked_epoch, marked_generation}
 use Rattle.ob_admitted.proofs.Living.{lives_are_filled}
-use Rattle.ob_admitted.proofs.Parts.{filled_made, gates_left, left_as_shown, parts_are}
+use Rattle.ob_admitted.proofs.Parts.{Filled, filled_first, filled_last, filled_made, gates_left, left_as_shown, parts_are}
 use Rattle.ob_admitted.proofs.Serving.{served}
 use Rattle.ob_admitted.proofs.Wholes.{repeats_ended, repeats_whole}
 use Rattle.ob_admitted.specs.Fills.{FillsAll, HasFills}
@@ -125,27 +123,9 @@ history_admitted p lines is = subst (λ (more : List Line). AreAdmitted (L.Start
 
 -- ---- a past, and what goes on from it
 
-module _ (p : Params) (word_of : WordId → ℕ) (slot : ℕ → ℕ → ℕ) (f : AllFills) where
-  abbrev At : List LifeAct → LifeState
-  At acts = reached p word_of (formatted_life slot) acts
-
-  abbrev Filled : LifeState → List LifeAct → Type 0
-  Filled s acts = FillsAll p word_of f (planned_labels p word_of (reached p word_of s acts)) (life_slots p word_of s acts)
-
-  filled_first : (s : LifeState) (xs ys : List LifeAct) → Filled s (xs ++ ys) → Filled s xs
-  filled_first s xs ys is = record {
-    leaves = λ l h. is.leaves l (subst (λ (u : LifeState). Has (planned_labels p word_of u) l) (sym (reached_join p word_of s xs ys)) (planned_lasts p word_of (reached p word_of s xs) ys l h));
-    slots_are = λ x h. is.slots_are x (slots_first p word_of s xs ys x h);
-  }
-
-  filled_last : (s : LifeState) (xs ys : List LifeAct) → Filled s (xs ++ ys) → Filled (reached p word_of s xs) ys
-  filled_last s xs ys is = record {
-    leaves = λ l h. is.leaves l (subst (λ (u : LifeState). Has (planned_labels p word_of u) l) (sym (reached_join p word_of s xs ys)) h);
-    slots_are = λ x h. is.slots_are x (slots_last p word_of s xs ys x h);
-  }
-
-  life_filled : (acts : List LifeAct) → IsLife p word_of (formatted_life slot) acts → AreRecordsWhole p acts × AreEndsShown p word_of (formatted_life slot) acts → Filled (formatted_life slot) acts → IsLifeFilled p word_of slot f acts
-  life_filled acts life whole filled = record { life = life; ends = whole.1; whole = whole.0; filled = record { leaves = filled.leaves; slots_are = λ x h. absurd h } }
+life_filled : (p : Params) (word_of : WordId → ℕ) (slot : ℕ → ℕ → ℕ) (f : AllFills) (acts : List LifeAct) → IsLife p word_of (formatted_life slot) acts → AreRecordsWhole p acts × AreEndsShown p word_of (formatted_life slot) acts → Filled p word_of f (formatted_life slot) acts
+    → IsLifeFilled p word_of slot f acts
+life_filled p word_of slot f acts life whole filled = record { life = life; ends = whole.1; whole = whole.0; filled = record { leaves = filled.leaves; slots_are = λ x h. absurd h } }
 
 -- some fills that a life has
 past_fills : (p : Params) (word_of : WordId → ℕ) (slot : ℕ → ℕ → ℕ) (acts : List LifeAct) → ((u : ℕ) → IsRanking (width p) (slot u)) → IsLife p word_of (formatted_life slot) acts
@@ -260,10 +240,10 @@ module _ {S : Type 0} (disk : S → Disk) (keys : Keys) (p : Params) (word_of : 
       filled_split = subst (λ (acts : List LifeAct). FillsAll p word_of f (planned_labels p word_of (reached p word_of (formatted_life slot) acts)) (life_slots p word_of (formatted_life slot) acts)) split filled
 
       filled_before : FillsAll p word_of f (planned_labels p word_of s) (life_slots p word_of (formatted_life slot) before)
-      filled_before = filled_first p word_of slot f (formatted_life slot) before first filled_split
+      filled_before = filled_first p word_of f (formatted_life slot) before first filled_split
 
       filled_here : FillsAll p word_of f (planned_labels p word_of (reached p word_of s first)) (life_slots p word_of s first)
-      filled_here = filled_last p word_of slot f (formatted_life slot) before first filled_split
+      filled_here = filled_last p word_of f (formatted_life slot) before first filled_split
 
       here : IsLifeFilled p word_of slot f before
       here = life_filled p word_of slot f before life whole filled_before
@@ -272,12 +252,11 @@ module _ {S : Type 0} (disk : S → Disk) (keys : Keys) (p : Params) (word_of : 
           → IsServedThen p word_of f s gates next notes first
       run_then next begins =
           let opened = x.begins word_of s stands small in
-          let made_here = filled_made p word_of f s (opening_acts s ++ (run.goes).acts) ((run.goes).left x.map_found x.is_map).made rest first refl filled_here in
           let gated : AreGatesLeft p word_of f s gates x.steps x.refused first (length x.last) next =
-          gates_left disk keys p word_of slot f before ranked here (r.by).lanes r.old x.found x.opened x.calls x.steps x.behind x.refused (r.tape).words x.seen r.new stands opened notes shown_in run x.map_found x.is_map made_here rest first finds refl noted
+          gates_left disk keys p word_of slot f before ranked here (r.by).lanes r.old x.found x.opened x.calls x.steps x.behind x.refused (r.tape).words x.seen r.new stands opened notes shown_in run x.map_found x.is_map (filled_made p word_of f s calls_acts left.made rest first refl filled_here) rest first finds refl noted
           ((x.left).gated x.knows x.map_found x.is_map x.opened_gate) next begins in
           parts_are disk keys p word_of slot f before ranked here (r.by).lanes r.old x.found x.opened x.calls x.steps x.behind x.refused (r.tape).words x.seen r.new stands small x.begins run x.map_found x.is_map rest first finds refl filled_here notes shown_in next
-          (left_as_shown disk keys p word_of slot f before ranked here (r.by).lanes r.old x.found x.opened x.calls x.steps x.behind x.refused (r.tape).words x.seen r.new stands opened notes shown_in run x.map_found x.is_map made_here rest first finds refl noted next gated)
+          (left_as_shown disk keys p word_of slot f before ranked here (r.by).lanes r.old x.found x.opened x.calls x.steps x.behind x.refused (r.tape).words x.seen r.new stands opened notes shown_in run x.map_found x.is_map (filled_made p word_of f s calls_acts left.made rest first refl filled_here) rest first finds refl noted next gated)
 
       history_then : (lines : List Line) (next : Option (ℕ → Bool)) → AreHistoryOf p f lines s (Some gates)
           → ((found : ℕ → Bool) → next ≡ Some found → (g : Gates) × (found ≡ gates_open g) × (image : Image) × (disk r.new).may_leave image × StandsInLife keys p word_of (reached p word_of s first) image × AreGatesIn g image)
