@@ -17,7 +17,7 @@ use ob_io::Sink;
 use ob_lanes::{Hand, Lanes, SealedJobs, read_hands};
 use ob_mem::{MemLane, MemStore};
 use ob_store::Store;
-use ob_top_calls::{CELLS, NEVER, WIDE, call_by, sink_of};
+use ob_top_calls::{CELLS, NEVER, WIDE, call_by, let_go, sink_of};
 use std::process::Abort;
 use std::sync::Wait;
 use std::sync::atomic::AtomicU64;
@@ -160,6 +160,8 @@ fn expect_none_late<R: AllocGlobal + Threads + Wait + Sync + Abort>(rt: &R, word
     make(rt, &mut store, &last, words);
     let none_late = store.writes.all == 108 && store.writes.late == 0;
     insist(rt, none_late, words);
+    let Asking { store, .. } = store;
+    let_go(store);
 }
 
 #[test]

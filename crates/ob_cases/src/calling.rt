@@ -6,7 +6,7 @@ ghost use Rattle.ob_mem.specs.Memory.{disk_of_store};
 use crate::lines::FORMATTED;
 use ob_mem::{Fail, MemSink, MemStore};
 use ob_top_calls as calls;
-use ob_top_calls::{Answer, Ask, CELLS, KEYS, NEVER, WIDE, has, has_front};
+use ob_top_calls::{Answer, Ask, CELLS, END, KEYS, NEVER, WIDE, has_front, let_go};
 use std::process::Abort;
 use std::sync::Wait;
 use std::thread::Threads;
@@ -69,23 +69,10 @@ pub fn number_of<R: Abort>(rt: &R, text: &str) -> u64 {
     text.parse::<u64>().ok().expect(rt, "a number")
 }
 
-/// Makes a call over a store.
-pub fn call_on<R: AllocGlobal + Threads + Wait + Sync + Abort>(
-    rt: &R,
-    store: &mut MemStore,
-    ask: &Ask<'_>,
-) -> Answer
-    requires { (disk_of_store store.old).out ≡ 0 }
-    ensures { (disk_of_store store.new).out ≡ 0 }
-{
-    calls::call(rt, store, ask).expect(rt, "memory")
-}
-
 /// Compares what was told with `STATUS OUTPUT`.
-pub fn expect_told<R: Abort>(rt: &R, answer: &Answer, wanted: &str) {
+pub fn expect_told<R: Abort>(rt: &R, answer: Answer, wanted: &str) {
     let (status, output) = parted(rt, wanted, " ");
-    let so = answer.status as u64 == number_of(rt, status) && has(&answer.output, output);
-    insist(rt, so, wanted);
+    insist(rt, answer.was(number_of(rt, status), output), wanted);
 }
 
 /// Makes a call without a store, and compares what it answers with `STATUS OUTPUT`.
@@ -95,7 +82,7 @@ pub fn expect_alone<R: AllocGlobal + Threads + Wait + Sync + Abort>(
     wanted: &str,
 ) {
     let answer = calls::call_alone(rt, ask).expect(rt, "memory");
-    expect_told(rt, &answer, wanted);
+    expect_told(rt, answer, wanted);
 }
 
 // Whether a trace has the first so many lines of a list.
@@ -128,9 +115,9 @@ pub fn expect<R: AllocGlobal + Threads + Wait + Sync + Abort>(
     requires { (disk_of_store store.old).out ≡ 0 }
     ensures { (disk_of_store store.new).out ≡ 0 }
 {
-    let answer = call_on(rt, store, &ask);
-    expect_told(rt, &answer, wanted);
+    let answer = calls::call(rt, store, &ask).expect(rt, "memory");
     insist(rt, is_traced(&answer.trace, list), ask.words);
+    expect_told(rt, answer, wanted);
 }
 
 /// A store of so many cells, of which these calls fail.
@@ -148,6 +135,16 @@ pub fn formatted<R: AllocGlobal + Threads + Wait + Sync + Abort>(rt: &R, fails: 
     let told = "0 store of 109 cells/";
     expect(rt, &mut store, ask_for(FORMAT, ""), told, (FORMATTED, 73));
     insist(rt, store.moments() == 72, told);
+    store
+}
+
+/// The same behind a crash that comes behind all calls.
+pub fn new_store<R: AllocGlobal + Threads + Wait + Sync + Abort>(rt: &R) -> MemStore
+    ensures { (disk_of_store result).out ≡ 0 }
+{
+    let formatted = formatted(rt, &[]);
+    let store = left_after(rt, &formatted, END, None);
+    let_go(formatted);
     store
 }
 

@@ -3,7 +3,7 @@
 use crate::calling::{EMPTY, formatted, insist};
 use ob_desk::{Beat, Eager, Hasty};
 use ob_mem::MemSink;
-use ob_top_calls::{NEVER, WIDE, ask_for, call_by, sink_of};
+use ob_top_calls::{NEVER, WIDE, ask_for, call_by, let_go, sink_of};
 use std::process::Abort;
 use std::sync::Wait;
 use std::thread::Threads;
@@ -21,6 +21,7 @@ fn told_by<R: AllocGlobal + Threads + Wait + Sync + Abort, B: Beat>(
     let ask = ask_for(words, script);
     let status = call_by(rt, &mut store, &ask, &mut output, &mut trace, beat);
     insist(rt, status.expect(rt, "memory") == 0, words);
+    let_go(store);
     output
 }
 

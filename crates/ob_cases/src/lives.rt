@@ -4,12 +4,12 @@ ghost use Rattle.std.specs.Prelude.{◌≡◌, IfSome};
 ghost use Rattle.ob_mem.specs.Memory.{disk_of_store};
 
 use crate::calling::{
-    ask_with, blank, call_on, expect_told, insist, left_after, number_of, parted, replaced,
+    ask_with, blank, expect_told, insist, left_after, number_of, parted, replaced,
 };
 use ob_mem::MemStore;
-use ob_store::Store;
 use ob_top_calls as calls;
-use ob_top_calls::END;
+use ob_top_calls::{END, cell_of, flip, let_go};
+use std::mem::replace;
 use std::process::Abort;
 use std::sync::Wait;
 use std::thread::Threads;
@@ -24,24 +24,6 @@ fn numbers_of<R: AllocGlobal + Abort>(rt: &R, line: &str) -> Vec<u64> {
     numbers
 }
 
-// The bytes of a cell.
-fn cell_of<R: Abort>(rt: &R, store: &mut MemStore, cell: u64) -> [u8; 128]
-    requires { (disk_of_store store.old).out ≡ 0 }
-    ensures { (disk_of_store store.new).out ≡ 0 }
-{
-    calls::cell_of(store, cell).expect(rt, "a cell")
-}
-
-// Changes a bit of a cell.
-fn flip<R: Abort>(rt: &R, store: &mut MemStore, cell: u64)
-    requires { (disk_of_store store.old).out ≡ 0 }
-    ensures { (disk_of_store store.new).out ≡ 0 }
-{
-    let mut bytes = cell_of(rt, store, cell);
-    bytes[20] ^= 1;
-    insist(rt, store.write(cell, &bytes).is_ok(), "a write");
-}
-
 // Asserts that a cell begins with these numbers.
 fn expect_begin<R: AllocGlobal + Abort>(rt: &R, store: &mut MemStore, step: &str)
     requires { (disk_of_store store.old).out ≡ 0 }
@@ -49,7 +31,7 @@ fn expect_begin<R: AllocGlobal + Abort>(rt: &R, store: &mut MemStore, step: &str
 {
     let numbers = numbers_of(rt, step);
     assert!(*rt; 1 < numbers.len() && numbers.len() <= 17);
-    let bytes = cell_of(rt, store, numbers[0]);
+    let bytes = cell_of(store, numbers[0]).expect(rt, "a cell");
     expect_numbers(rt, &bytes, &numbers[1..]);
 }
 
@@ -78,8 +60,8 @@ fn make<R: AllocGlobal + Threads + Wait + Sync + Abort>(
     let words = replaced(rt, words, "run S K", lanes);
     let tape = numbers_of(rt, tape);
     let ask = ask_with(words.as_str(), script, &tape);
-    let answer = call_on(rt, store, &ask);
-    expect_told(rt, &answer, wanted);
+    let answer = calls::call(rt, store, &ask).expect(rt, "memory");
+    expect_told(rt, answer, wanted);
 }
 
 // The store that stands in a store's place behind a step that makes another.
@@ -112,7 +94,7 @@ fn take<R: AllocGlobal + Threads + Wait + Sync + Abort>(
     if let Some((line, wanted)) = step.split_once(" -> ") {
         make(rt, store, lanes, line, wanted);
     } else if let Some(cell) = step.strip_prefix("flip ") {
-        flip(rt, store, number_of(rt, cell));
+        insist(rt, flip(store, number_of(rt, cell)).is_ok(), step);
     } else {
         expect_begin(rt, store, step.strip_prefix("cell ").expect(rt, "a step"));
     }
@@ -123,11 +105,12 @@ fn go_on<R: AllocGlobal + Threads + Wait + Sync + Abort>(rt: &R, lanes: &str, st
     let mut store = blank(rt, 0, &[]);
     for step in steps.lines() {
         match made_by(rt, &store, step) {
-            Some(made) => store = made,
+            Some(made) => let_go(replace(&mut store, made)),
             None => take(rt, &mut store, lanes, step),
         }
     }
     insist(rt, store.starved() == 0, steps);
+    let_go(store);
 }
 
 /// Plays steps, each a line, by one lane and by four.

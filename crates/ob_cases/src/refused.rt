@@ -88,30 +88,31 @@ static WANTED: [(&str, Option<bool>, &str); 18] = [
     ("format S K 8 2 2 3 2 2 2 2", None, ""),
 ];
 
+// Whether this path is found where it is wanted, and none where it isn't.
+fn is_path(found: Option<&str>, path: &str, wanted: bool) -> bool {
+    match found {
+        Some(found) => wanted && found == path,
+        None => !wanted,
+    }
+}
+
+// The same of the store's, and whether it may be made.
+fn is_store(found: Option<(&str, bool)>, may_make: Option<bool>) -> bool {
+    match (found, may_make) {
+        (Some((path, may)), Some(wanted)) => path == "S" && may == wanted,
+        (None, None) => true,
+        _ => false,
+    }
+}
+
 fn expect_wanted<R: AllocGlobal + Abort>(rt: &R, line: &str, may_make: Option<bool>, beside: &str) {
     let words = words_of(rt.alloc(), line).expect(rt, "memory");
     let paths = store_wanted(rt.alloc(), &words).expect(rt, "memory");
-    let (store, keys) = match may_make {
-        Some(may_make) => (Some(("S", may_make)), Some("K")),
-        None => (None, None),
-    };
-    let both = beside == "TM";
-    let trace = if both || beside == "T" {
-        Some("T")
-    } else {
-        None
-    };
-    let mirror = if both || beside == "M" {
-        Some("M")
-    } else {
-        None
-    };
-    let beside = paths.trace == trace && paths.mirror == mirror;
-    insist(
-        rt,
-        paths.store == store && paths.keys == keys && beside,
-        line,
-    );
+    let store = is_store(paths.store, may_make);
+    let keys = is_path(paths.keys, "K", may_make.is_some());
+    let trace = is_path(paths.trace, "T", beside.starts_with('T'));
+    let mirror = is_path(paths.mirror, "M", beside.ends_with('M'));
+    insist(rt, store && keys && trace && mirror, line);
 }
 
 #[test]

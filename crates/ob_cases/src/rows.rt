@@ -4,10 +4,11 @@ ghost use Rattle.std.specs.Prelude.{◌≡◌};
 ghost use Rattle.ob_mem.specs.Memory.{disk_of_store};
 
 use crate::audits::expect_audit;
-use crate::calling::{EMPTY, RUNS, ask_with, call_on, formatted, insist, left_after, text_of};
+use crate::calling::{EMPTY, RUNS, ask_with, insist, left_after, new_store, text_of};
 use crate::lines::FORMATTED;
 use ob_mem::MemStore;
-use ob_top_calls::{Answer, Ask, END, ask_for};
+use ob_top_calls::{Answer, Ask, ask_for, call, let_go};
+use std::mem::replace;
 use std::process::Abort;
 use std::sync::Wait;
 use std::thread::Threads;
@@ -34,7 +35,7 @@ fn trace_of<R: AllocGlobal + Threads + Wait + Sync + Abort>(
         status,
         output,
         trace,
-    } = call_on(rt, store, &ask);
+    } = call(rt, store, &ask).expect(rt, "memory");
     let so = status == 0 && output.written().starts_with(b"epoch ");
     insist(rt, so, ask.words);
     owned(rt, text_of(rt, trace.expect(rt, "a trace").written()))
@@ -92,6 +93,7 @@ fn expect_behind<R: AllocGlobal + Threads + Wait + Sync + Abort>(
     let mut text = owned(rt, FORMATTED);
     let mut left = cut_off(rt, ran, trace, many, filling, &mut text);
     let next = trace_of(rt, &mut left, ask_for(RUNS[many % 4], EMPTY));
+    let_go(left);
     text.push_str(next.as_str()).expect(rt, "memory");
     if many == 29 && filling != Some(0) {
         expect_audit(rt, text.as_str(), "1 breaks line 129 wanted W 1/");
@@ -102,7 +104,7 @@ fn expect_behind<R: AllocGlobal + Threads + Wait + Sync + Abort>(
 
 // A store behind a run of one epoch, and its trace.
 fn ran<R: AllocGlobal + Threads + Wait + Sync + Abort>(rt: &R) -> (MemStore, String) {
-    let mut ran = left_after(rt, &formatted(rt, &[]), END, None);
+    let mut ran = new_store(rt);
     let trace = trace_of(rt, &mut ran, ask_for(RUNS[1], EMPTY));
     insist(rt, ran.moments() == 56, RUNS[1]);
     (ran, trace)
@@ -125,6 +127,7 @@ fn expect_each<R: AllocGlobal + Threads + Wait + Sync + Abort>(
 fn traces_in_a_row_fit_behind_a_crash(rt: HostRuntime) {
     let (ran, trace) = ran(&rt);
     expect_each(&rt, &ran, trace.as_str());
+    let_go(ran);
 }
 
 // The next number of a row, below this one.
@@ -170,19 +173,21 @@ fn run_on<R: AllocGlobal + Threads + Wait + Sync + Abort>(
         1 => Some(0),
         _ => Some(0xA5),
     };
-    *store = cut_off(rt, store, trace.as_str(), many, filling, text);
+    let left = cut_off(rt, store, trace.as_str(), many, filling, text);
+    let_go(replace(store, left));
 }
 
 // Ten such runs, drawn from this number on.
 fn expect_ten<R: AllocGlobal + Threads + Wait + Sync + Abort>(rt: &R, first: u64) {
     let mut row = first;
-    let mut store = left_after(rt, &formatted(rt, &[]), END, None);
+    let mut store = new_store(rt);
     let mut text = owned(rt, FORMATTED);
     for run in 0..10 {
         let tape = tape_of(&mut row);
         let ask = ask_with(RUNS[run % 4], PUT_AND_GET, &tape);
         run_on(rt, &mut store, ask, &mut row, &mut text);
     }
+    let_go(store);
     expect_audit(rt, text.as_str(), "0 fits/");
 }
 

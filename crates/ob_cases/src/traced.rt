@@ -4,11 +4,12 @@ ghost use Rattle.std.specs.Prelude.{◌≡◌};
 ghost use Rattle.ob_mem.specs.Memory.{disk_of_store};
 
 use crate::calling::{
-    EMPTY, RUNS, ask_for, ask_with, blank, expect, formatted, insist, left_after, replaced,
+    EMPTY, RUNS, ask_for, ask_with, blank, expect, formatted, insist, left_after, new_store,
+    replaced,
 };
 use crate::lines::{AGAIN, FORMATTED, ONE_EPOCH, TWO_EPOCHS};
 use ob_mem::{Fail, MemStore};
-use ob_top_calls::{Ask, CELLS, END};
+use ob_top_calls::{Ask, CELLS, let_go};
 use std::process::Abort;
 use std::sync::Wait;
 use std::thread::Threads;
@@ -40,6 +41,7 @@ fn expect_over<R: AllocGlobal + Threads + Wait + Sync + Abort>(
     requires { (disk_of_store store).out ≡ 0 }
 {
     expect(rt, &mut store, ask, wanted, list);
+    let_go(store);
 }
 
 // A run over a store that was just formatted, in each way, of which this call fails.
@@ -119,7 +121,7 @@ fn expect_found<R: AllocGlobal + Threads + Wait + Sync + Abort>(
 
 // A run of one epoch over a store that was just formatted.
 fn ran<R: AllocGlobal + Threads + Wait + Sync + Abort>(rt: &R) -> MemStore {
-    let mut ran = left_after(rt, &formatted(rt, &[]), END, None);
+    let mut ran = new_store(rt);
     let ask = ask_for(RUNS[1], EMPTY);
     expect(rt, &mut ran, ask, COMMITTED, (ONE_EPOCH, 104));
     ran
@@ -147,6 +149,7 @@ fn expect_left<R: AllocGlobal + Threads + Wait + Sync + Abort>(
     requires { (disk_of_store left).out ≡ 0 }
 {
     expect_found(rt, &mut left, words, found);
+    let_go(left);
 }
 
 fn expect_behind<R: AllocGlobal + Threads + Wait + Sync + Abort>(rt: &R, ran: &MemStore) {
@@ -159,7 +162,9 @@ fn expect_behind<R: AllocGlobal + Threads + Wait + Sync + Abort>(rt: &R, ran: &M
 
 #[test]
 fn a_run_behind_a_crash_shows_again_what_was_shown(rt: HostRuntime) {
-    expect_behind(&rt, &ran(&rt));
+    let ran = ran(&rt);
+    expect_behind(&rt, &ran);
+    let_go(ran);
 }
 
 // What is found where each byte of the gate is A5 hexadecimal, but for the one in this place.
@@ -188,7 +193,9 @@ fn expect_gates<R: AllocGlobal + Threads + Wait + Sync + Abort>(rt: &R, ran: &Me
 // A5 hexadecimal, and only there.
 #[test]
 fn a_gate_is_open_where_all_its_bytes_say_so(rt: HostRuntime) {
-    expect_gates(&rt, &ran(&rt));
+    let ran = ran(&rt);
+    expect_gates(&rt, &ran);
+    let_go(ran);
 }
 
 // Where the script or the store is refused the head alone is read.
