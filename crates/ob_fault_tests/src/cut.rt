@@ -1,8 +1,8 @@
 //! Traces that have too little room: what is still done, and what is told.
 
-use crate::playing::{call_on, expect, formatted, insist, insist_at, left_after};
+use crate::playing::{expect, formatted, insist, insist_at, left_after};
 use ob_mem::{MemSink, MemStore};
-use ob_top_calls::{Answer, Ask, END, NEVER, WIDE, ask_for, has, has_front, let_go};
+use ob_top_calls::{Answer, Ask, END, NEVER, WIDE, ask_for, call, has, has_front, let_go};
 use std::process::Abort;
 use std::sync::Wait;
 use std::thread::Threads;
@@ -95,7 +95,7 @@ fn expect_cut<R: AllocGlobal + Threads + Wait + Sync + Abort>(
     let mut store = left_after(rt, made, END, None);
     let mut ask = ask_for(ask.0, ask.1);
     ask.trace = Some(room);
-    let answer = call_on(rt, &mut store, &ask);
+    let answer = call(rt, &mut store, &ask).expect(rt, "memory");
     let status = if room < WHOLE { 7 } else { 0 };
     let so = answer.status == status
         && is_told(rt, &answer.output, room, told)
@@ -141,7 +141,7 @@ fn a_batch_of_its_own_is_delivered_behind_a_trace_that_ends(rt: HostRuntime) {
 // What a store that was just formatted answers.
 fn answer_of_new<R: AllocGlobal + Threads + Wait + Sync + Abort>(rt: &R, ask: &Ask<'_>) -> Answer {
     let mut store = formatted(rt, &[]);
-    let answer = call_on(rt, &mut store, ask);
+    let answer = call(rt, &mut store, ask).expect(rt, "memory");
     let_go(store);
     answer
 }

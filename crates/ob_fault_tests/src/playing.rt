@@ -5,7 +5,7 @@ ghost use Rattle.ob_mem.specs.Memory.{disk_of_store};
 
 use ob_mem::{Fail, MemStore};
 use ob_top_calls as calls;
-use ob_top_calls::{Answer, Ask, CELLS, END, ask_for, let_go};
+use ob_top_calls::{CELLS, END, ask_for, let_go};
 use std::process::Abort;
 use std::sync::Wait;
 use std::thread::Threads;
@@ -52,18 +52,6 @@ pub fn made_before(place: usize) -> (u64, usize) {
     }
 }
 
-/// Makes a call over a store with a tape of zeros.
-pub fn call_on<R: AllocGlobal + Threads + Wait + Sync + Abort>(
-    rt: &R,
-    store: &mut MemStore,
-    ask: &Ask<'_>,
-) -> Answer
-    requires { (disk_of_store store.old).out ≡ 0 }
-    ensures { (disk_of_store store.new).out ≡ 0 }
-{
-    calls::call(rt, store, ask).expect(rt, "memory")
-}
-
 /// Makes a call over a store with this script, and compares its status and what it tells.
 pub fn expect<R: AllocGlobal + Threads + Wait + Sync + Abort>(
     rt: &R,
@@ -76,7 +64,7 @@ pub fn expect<R: AllocGlobal + Threads + Wait + Sync + Abort>(
     requires { (disk_of_store store.old).out ≡ 0 }
     ensures { (disk_of_store store.new).out ≡ 0 }
 {
-    let answer = call_on(rt, store, &ask_for(words, script));
+    let answer = calls::call(rt, store, &ask_for(words, script)).expect(rt, "memory");
     let so = answer.was(u64::from(status), told) && store.starved() == 0;
     insist(rt, so, told);
 }

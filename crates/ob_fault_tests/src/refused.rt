@@ -2,11 +2,11 @@
 
 use crate::crashes::expect_next;
 use crate::playing::{
-    ONE_EPOCH, PUT, READS, RUN, STEPS, call_on, expect, formatted, insist, insist_at, left_after,
+    ONE_EPOCH, PUT, READS, RUN, STEPS, expect, formatted, insist, insist_at, left_after,
     made_before,
 };
 use ob_mem::{Fail, MemStore};
-use ob_top_calls::{END, NEVER, WIDE, ask_for, let_go};
+use ob_top_calls::{END, NEVER, WIDE, ask_for, call, let_go};
 use std::process::Abort;
 use std::sync::Wait;
 use std::thread::Threads;
@@ -33,7 +33,7 @@ fn is_told<R: AllocGlobal + Threads + Wait + Sync + Abort>(
     steps: usize,
 ) -> bool {
     let mut store = formatted(rt, &[fail]);
-    let answer = call_on(rt, &mut store, &ask_for(words, PUT));
+    let answer = call(rt, &mut store, &ask_for(words, PUT)).expect(rt, "memory");
     let failed = store.faults() > 0;
     if failed {
         let so = answer.was(5, "fault: store/") && store.moments() == steps.saturating_add(72);
@@ -108,7 +108,7 @@ fn expect_end<R: AllocGlobal + Threads + Wait + Sync + Abort>(rt: &R, row: &Ends
     ask.bad_read = bad_read;
     ask.bad_write = bad_write;
     ask.room = room;
-    let answer = call_on(rt, &mut store, &ask);
+    let answer = call(rt, &mut store, &ask).expect(rt, "memory");
     let so = answer.was(u64::from(status), told) && store.moments() == steps.saturating_add(72);
     insist(rt, so, told);
     expect_next(rt, &mut store, 1 + ended as u64, ended);

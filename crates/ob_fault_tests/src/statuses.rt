@@ -4,8 +4,9 @@ ghost use Rattle.std.specs.Prelude.{◌≡◌};
 ghost use Rattle.ob_mem.specs.Memory.{disk_of_store};
 
 use crate::harms::{harm_of, harm_store, number_of, parted};
-use crate::playing::{blank, call_on, expect, formatted, insist};
+use crate::playing::{blank, expect, formatted, insist};
 use ob_mem::{Fail, MemStore};
+use ob_top_calls as calls;
 use ob_top_calls::{Ask, CELLS, KEYS, NEVER, ask_for, let_go};
 use std::process::Abort;
 use std::sync::Wait;
@@ -122,23 +123,19 @@ fn is_written<R: AllocGlobal + Threads + Wait + Sync + Abort>(rt: &R, line: &str
     let (status, told) = parted(rt, wanted, " ");
     let mut store = stand(rt, found);
     let before = store.moments();
-    let answer = call_on(rt, &mut store, &ask_at(rt, found, call));
+    let answer = calls::call(rt, &mut store, &ask_at(rt, found, call)).expect(rt, "memory");
     insist(rt, answer.was(number_of(rt, status), told), line);
     let written = store.moments() != before;
     let_go(store);
     written
 }
 
-// Plays a row by which the store is neither written to nor synced.
-fn expect_idle<R: AllocGlobal + Threads + Wait + Sync + Abort>(rt: &R, line: &str) {
-    insist(rt, !is_written(rt, line), line);
-}
-
-// Want of memory alone, status 9, has no row: the store here has ample memory.
+// These neither write to the store nor sync it. Want of memory alone, status 9, has no row: the store
+// here has ample memory.
 #[test]
 fn each_refusal_of_words_is_told(rt: HostRuntime) {
     for row in WORDS.lines() {
-        expect_idle(&rt, row);
+        insist(&rt, !is_written(&rt, row), row);
     }
 }
 

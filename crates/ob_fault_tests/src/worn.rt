@@ -4,9 +4,9 @@ ghost use Rattle.std.specs.Prelude.{◌≡◌};
 ghost use Rattle.ob_mem.specs.Memory.{disk_of_store};
 
 use crate::harms::{Harm, harm_store};
-use crate::playing::{PUT, call_on, insist, new_store};
+use crate::playing::{PUT, insist, new_store};
 use ob_mem::MemStore;
-use ob_top_calls::{Answer, WIDE, ask_for, has, let_go};
+use ob_top_calls::{Answer, WIDE, ask_for, call, has, let_go};
 use std::process::Abort;
 use std::sync::Wait;
 use std::thread::Threads;
@@ -28,7 +28,7 @@ fn expect_worn<R: AllocGlobal + Threads + Wait + Sync + Abort>(
         status,
         output,
         trace,
-    } = call_on(rt, store, &ask);
+    } = call(rt, store, &ask).expect(rt, "memory");
     let trace = trace.expect(rt, "a trace");
     let so = status == 8 && has(&output, "fault: worn at 4611686018427387904/");
     insist(rt, so && has(&trace, shown), shown);
@@ -39,17 +39,13 @@ const READ: &str = "\
     O/R 0/R 1/R 2/R 3/R 4/R 5/R 6/R 7/R 8/R 17/R 18/R 19/R 20/R 21/R 22/R 23/R 24/R 25/R 26/R 27/\
     R 13/R 14/R 15/R 16/";
 
-fn expect_no_run<R: AllocGlobal + Threads + Wait + Sync + Abort>(rt: &R) {
-    let mut store = new_store(rt);
-    harm_store(rt, &mut store, Harm::Stamp(3, 0, LAST, 8));
-    expect_worn(rt, &mut store, READ);
-    insist(rt, store.moments() == 1, READ);
-    let_go(store);
-}
-
 #[test]
 fn no_run_begins_behind_the_last_generation(rt: HostRuntime) {
-    expect_no_run(&rt);
+    let mut store = new_store(&rt);
+    harm_store(&rt, &mut store, Harm::Stamp(3, 0, LAST, 8));
+    expect_worn(&rt, &mut store, READ);
+    insist(&rt, store.moments() == 1, READ);
+    let_go(store);
 }
 
 // The epoch's register has it, and area 1 the checkpoint, which is that of a new store: the opening
