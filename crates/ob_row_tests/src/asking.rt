@@ -5,7 +5,7 @@ ghost use Rattle.ob_mem.specs.Memory.{disk_of_store};
 
 use ob_mem::{Fail, MemSink, MemStore};
 use ob_top_calls as calls;
-use ob_top_calls::{Answer, Ask, CELLS, ask_for};
+use ob_top_calls::{Answer, Ask, CELLS, ask_for, let_go};
 use std::process::Abort;
 use std::sync::Wait;
 use std::thread::Threads;
@@ -121,6 +121,7 @@ pub fn left_after<R: AllocGlobal + Abort>(
 pub fn audited<R: AllocGlobal + Threads + Wait + Sync + Abort>(rt: &R, trace: &str) -> String {
     let mut store = blank(rt, 0, &[]);
     let Told { status, output, .. } = call(rt, &mut store, ask_for("audit", trace));
+    let_go(store);
     insist(rt, (status == 0) == (output.as_str() == "fits\n"), "audit");
     output
 }

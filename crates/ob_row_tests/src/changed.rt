@@ -5,7 +5,7 @@ ghost use Rattle.ob_mem.specs.Memory.{disk_of_store};
 
 use crate::asking::{EMPTY, RUNS, Told, audited, blank, call, drawn, expect_said, insist};
 use ob_mem::MemStore;
-use ob_top_calls::{Ask, ask_for};
+use ob_top_calls::{Ask, Txn, ask_for, let_go, push_client, push_txn};
 use std::process::Abort;
 use std::sync::Wait;
 use std::thread::Threads;
@@ -20,13 +20,16 @@ const WIDE: usize = 1_000_000;
 
 // A client's twenty transactions over 64 keys.
 fn push_txns<R: AllocGlobal + Abort>(rt: &R, script: &mut String, client: u64) {
-    for txn in 0..20_u64 {
-        let read = client.saturating_mul(7).saturating_add(txn * 3) % 64;
-        let written = client.saturating_mul(5).saturating_add(txn) % 64;
-        let text = format!(in rt.alloc();
-            "begin/get {read}/put {written} {client}x{txn}/commit/"
-        ).expect(rt, "memory");
-        script.push_str(text.as_str()).expect(rt, "memory");
+    for number in 0..20_u64 {
+        let read = client.wrapping_mul(7).wrapping_add(number.wrapping_mul(3));
+        let txn = Txn {
+            client,
+            number,
+            read: read % 64,
+            written: client.wrapping_mul(5).wrapping_add(number) % 64,
+            reads_back: false,
+        };
+        push_txn(rt.alloc(), script, txn).expect(rt, "memory");
     }
 }
 
@@ -34,8 +37,7 @@ fn push_txns<R: AllocGlobal + Abort>(rt: &R, script: &mut String, client: u64) {
 fn clients<R: AllocGlobal + Abort>(rt: &R) -> String {
     let mut script = String::new(rt.alloc());
     for client in 1..17_u64 {
-        let head = format!(in rt.alloc(); "client {client}/").expect(rt, "memory");
-        script.push_str(head.as_str()).expect(rt, "memory");
+        push_client(rt.alloc(), &mut script, client).expect(rt, "memory");
         push_txns(rt, &mut script, client);
     }
     script
@@ -74,6 +76,7 @@ fn trace_all<R: AllocGlobal + Threads + Wait + Sync + Abort>(
     let made = go_on(rt, &mut store, text, format);
     let ran = go_on(rt, &mut store, text, ask_for(RUNS[2], script.as_str()));
     go_on(rt, &mut store, text, ask_for(RUNS[2], EMPTY));
+    let_go(store);
     (made, ran)
 }
 

@@ -10,7 +10,7 @@ use crate::asking::{
 use crate::freshness::is_fresh;
 use crate::threes::{calls_behind, front_of, joined};
 use ob_mem::{Fail, MemStore};
-use ob_top_calls::{END, ask_for};
+use ob_top_calls::{END, ask_for, let_go};
 use std::process::Abort;
 use std::sync::Wait;
 use std::thread::Threads;
@@ -90,6 +90,7 @@ fn second_run<R: AllocGlobal + Threads + Wait + Sync + Abort>(rt: &R) -> (String
     let (mut store, formatted) = formatted(rt, &[], &[]);
     let first = empty_trace(rt, &mut store, &[]);
     let second = empty_trace(rt, &mut store, &[]);
+    let_go(store);
     (joined(rt, formatted.as_str(), first.as_str()), second)
 }
 
@@ -119,6 +120,7 @@ fn the_second_run_reads_where_the_first_one_filled(rt: HostRuntime) {
 fn expect_batch<R: AllocGlobal + Threads + Wait + Sync + Abort>(rt: &R, tape: &[u64], batch: &str) {
     let (mut store, _) = formatted(rt, &[], tape);
     let trace = empty_trace(rt, &mut store, &[]);
+    let_go(store);
     behind(rt, trace.as_str(), &[READS, RECORDED, batch]);
 }
 
@@ -197,6 +199,7 @@ fn expect_found<R: AllocGlobal + Threads + Wait + Sync + Abort>(
     let left = store.crash(81, &[(14, [byte; 128])]);
     let mut left = left.expect(rt, "memory");
     let trace = empty_trace(rt, &mut left, &[]);
+    let_go(left);
     behind(rt, trace.as_str(), &[READS, THIRD_BEGUN, batch]);
 }
 
@@ -206,6 +209,7 @@ fn where_a_records_last_sync_fails_nothing_more_is_done(rt: HostRuntime) {
     for &(byte, batch) in &FOUND {
         expect_found(&rt, &store, byte, batch);
     }
+    let_go(store);
 }
 
 // Lines that aren't fresh in the place of such as are, in the trace of a run that found both records
@@ -225,7 +229,9 @@ fn found_again<R: AllocGlobal + Threads + Wait + Sync + Abort>(rt: &R) -> (Strin
     let first = empty_trace(rt, &mut store, &[]);
     let front = front_of(rt, first.as_str(), 13);
     let mut left = left_after(rt, &store, 85, None);
+    let_go(store);
     let second = empty_trace(rt, &mut left, &[]);
+    let_go(left);
     (joined(rt, formatted.as_str(), front.as_str()), second)
 }
 
@@ -296,6 +302,8 @@ fn expect_same_left<R: AllocGlobal + Threads + Wait + Sync + Abort>(
     let mut one = left_after(rt, one, END, filling);
     let mut other = left_after(rt, other, END, filling);
     expect_same(rt, &mut one, &mut other);
+    let_go(one);
+    let_go(other);
 }
 
 // A store whose run was stopped by a failing call, behind so many syncs that were asked for, and whose
@@ -326,6 +334,8 @@ fn expect_unchanged<R: AllocGlobal + Threads + Wait + Sync + Abort>(
         expect_same_left(rt, &without, &with, filling);
     }
     expect_same(rt, &mut without, &mut with);
+    let_go(without);
+    let_go(with);
 }
 
 // Behind each write and sync of a run that fails.

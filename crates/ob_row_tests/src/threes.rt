@@ -14,7 +14,7 @@ use crate::asking::{
 };
 use crate::freshness::is_fresh;
 use ob_mem::{Fail, MemStore};
-use ob_top_calls::{END, ask_for};
+use ob_top_calls::{END, ask_for, let_go};
 use std::process::Abort;
 use std::sync::Wait;
 use std::thread::Threads;
@@ -284,10 +284,11 @@ fn third_of<R: AllocGlobal + Threads + Wait + Sync + Abort>(
     words: &str,
 ) -> Third {
     let left = cut_off(rt, &second.ran, moment, filling);
-    let third = run_over(rt, left, words, second.script);
+    let Ran { store, trace, .. } = run_over(rt, left, words, second.script);
+    let_go(store);
     let front = front_of(rt, second.ran.trace.as_str(), moment);
     let before = joined(rt, second.text.as_str(), front.as_str());
-    let whole = joined(rt, before.as_str(), third.trace.as_str());
+    let whole = joined(rt, before.as_str(), trace.as_str());
     Third {
         front,
         before,
