@@ -4,9 +4,7 @@ ghost use Rattle.std.specs.Prelude.{◌≡◌};
 ghost use Rattle.ob_mem.specs.Memory.{disk_of_store};
 
 use crate::crashes::{TOLD, TWO};
-use crate::playing::{
-    MIRRORED, blank, call_on, expect_alone, formatted, insist, let_both_go, ran,
-};
+use crate::playing::{MIRRORED, blank, call_on, expect_alone, formatted, insist, let_both_go, ran};
 use ob_mem::{BareStore, MemSink};
 use ob_mirrored::Room;
 use ob_top_calls::{CELLS, Noting, are_alike, ask_for, has, let_noting_go};

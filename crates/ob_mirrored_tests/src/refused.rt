@@ -163,7 +163,14 @@ fn a_read_that_fails_before_both_are_joined_is_told(rt: HostRuntime) {
 fn expect_no_store<R: AllocGlobal + Threads + Wait + Sync + Abort>(rt: &R) {
     let empty = blank(rt, CELLS, &[]);
     let ask = ask_for(MIRRORED, PUT);
-    let halves = run_over(rt, empty, blank(rt, CELLS, &[]), &ask, 3, "fault: not a store/");
+    let halves = run_over(
+        rt,
+        empty,
+        blank(rt, CELLS, &[]),
+        &ask,
+        3,
+        "fault: not a store/",
+    );
     insist(rt, asked(rt, &halves.first) == "R 0\n", "its head");
     insist(rt, asked(rt, &halves.second) == "", "nothing");
     let_both_go(halves);

@@ -66,7 +66,9 @@ fn drill_two<R: AllocGlobal + Threads + Wait + Sync + Abort>(rt: &R, fails: &[Fa
 #[test]
 fn two_transactions_leave_two_keys(rt: HostRuntime) {
     let Told {
-        drilled, faults, ..
+        drilled,
+        faults,
+        ..
     } = drill_two(&rt, &[]);
     let drilled = drilled.ok().expect(&rt, "a self-test");
     let went = drilled.epochs == 2 && faults == 0;
@@ -77,7 +79,9 @@ fn two_transactions_leave_two_keys(rt: HostRuntime) {
 #[test]
 fn a_store_that_fails_is_told(rt: HostRuntime) {
     let Told {
-        drilled, faults, ..
+        drilled,
+        faults,
+        ..
     } = drill_two(&rt, &[Fail::Write(0)]);
     let fault = drilled.err().expect(&rt, "a refusal");
     let told = fault == Fault::StoreFault { unsure: None };
@@ -87,7 +91,9 @@ fn a_store_that_fails_is_told(rt: HostRuntime) {
 #[test]
 fn a_self_test_begins_with_its_format(rt: HostRuntime) {
     let Told {
-        drilled, begins, ..
+        drilled,
+        begins,
+        ..
     } = drill_two(&rt, &[]);
     insist(&rt, drilled.is_ok() && begins, "a format");
 }

@@ -1,9 +1,7 @@
 //! What calls do to their store, event by event: on new stores, behind crashes, and where they are
 //! refused. One lane reads: which of several makes a read isn't fixed.
 
-use crate::playing::{
-    expect, expect_asked, go_on_behind, number_of, parted, play, play_all,
-};
+use crate::playing::{expect, expect_asked, go_on_behind, number_of, parted, play, play_all};
 use ob_mem::Fail;
 use ob_top_calls::{CELLS, let_noting_go};
 use std::process::Abort;

@@ -21,7 +21,11 @@ fn write_digits<R: Abort>(rt: &R, store: &mut Noting, cell: usize)
     let bytes = <[u8; 128] as FromHex>::from_hex(own)
         .ok()
         .expect(rt, "digits");
-    insist(rt, store.store.write(cell as u64, &bytes).is_ok(), "a write");
+    insist(
+        rt,
+        store.store.write(cell as u64, &bytes).is_ok(),
+        "a write",
+    );
 }
 
 // The store after two epochs.
