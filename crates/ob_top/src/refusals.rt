@@ -4,10 +4,10 @@ ghost use Rattle.ob_top.specs.Refusals.{RefusedRunsFit};
 
 use ob_store::Store;
 
-/// So it is of runs of which some were refused in front of their opening or in it, at an image that
-/// a crash left as the others, with what waited there: each still shows its watch a run of the same
-/// public history. But for one case: the last note of a refused opening is the write that opens its
-/// generation's gate, and the next run that shows a sync found that generation.
+/// So it is where some of those runs were refused, before their opening or in it: such a run began
+/// as the others did, and what waited in its store then might have been left by a crash too. But
+/// for one case: the last note of a refused opening is the write that opens its generation's gate,
+/// and the next run that shows a sync found that generation.
 pub fn refused_runs_fit<S: Store>()
     ensures { RefusedRunsFit (λ store. S.disk store) }
 {}
