@@ -1,15 +1,17 @@
 -- What is merely known of the halves' events is known of them: it can be so in one way.
-use Rattle.std.proofs.Common.{◌≡◌, ◌≤◌, ℕ, zero, suc, List, [], ◌∷◌, ◌++◌, Option, Some, None, length, drop, refl, sym, ◌∙◌, ap, subst}
+use Rattle.std.proofs.Common.{◌≡◌, ◌⊎◌, ◌≤◌, inl, inr, ⊎_elim, arith, ℕ, zero, suc, List, [], ◌∷◌, ◌++◌, Option, Some, None, length, drop, refl, sym, ◌∙◌, ap, subst}
 use Rattle.std.specs.Coded.{Coded, Coded-set, code_by, coded×, coded_list, coded_ℕ, le_prop, Unit-prop}
 use Rattle.std.specs.Borrow.{GName}
 use Rattle.std.proofs.Math.Logic.{∥∥₁_elim, ∥∥₁_map}
 use Rattle.std.proofs.Math.Seq.{drop-append_seam}
+use Rattle.ob_base.specs.Causes.{Rose}
 use Rattle.ob_store.specs.declared.event.Event.{Event}
 use Rattle.ob_store.specs.declared.event.Event.TheVariants.{Read, Write, Sync}
 use Rattle.ob_store.specs.Disk.{Disk}
 use Rattle.ob_store.specs.Calls.{Notes, TellsOn}
 use Rattle.ob_mirror.specs.Begun.{event_cell, events_before, half_before, event_kind, told_before}
-use Rattle.ob_mirror.specs.Telling.{Follows, TellsStill, changes}
+use Rattle.ob_mirror.specs.Telling.{BeginsWith, Follows, HasRead, LeavesOutReads, TellsStill, changes}
+use Rattle.ob_mirror.proofs.Leaves.{leaves_changes, no_read}
 
 -- ---- events as numbers
 
@@ -64,7 +66,39 @@ half_is a b s t is =
     let told = told_are a.seen b.seen s t (tails a.faults b.faults (told_before a.seen s) (told_before b.seen t) is) in
     (heads a.faults b.faults (told_before a.seen s) (told_before b.seen t) is, told.0, told.1)
 
+-- ---- whether some of the reads are left out
+
+same_number : (m n : ℕ) → (m ≡ n) ⊎ (m ≡ n → ⊥)
+same_number zero zero = inl refl
+same_number zero (suc n) = inr (λ is. omega (arith, is))
+same_number (suc m) zero = inr (λ is. omega (arith, is))
+same_number (suc m) (suc n) = ⊎_elim (λ is. inl (ap (λ (k : ℕ). suc k) is)) (λ no. inr (λ is. no (omega (arith, is)))) (same_number m n)
+
+event_or : (x y : Event) → (x ≡ y) ⊎ (x ≡ y → ⊥)
+event_or x y = ⊎_elim
+    (λ kind. ⊎_elim (λ cell. inl (same_event x y kind cell)) (λ no. inr (λ is. no (ap event_cell is))) (same_number (event_cell x) (event_cell y)))
+    (λ no. inr (λ is. no (ap event_kind is))) (same_number (event_kind x) (event_kind y))
+
+begins_or : (event : Event) (P : List Event → Type 0) (others : List Event) → ((rest : List Event) → P rest ⊎ (P rest → ⊥)) → BeginsWith event P others ⊎ (BeginsWith event P others → ⊥)
+begins_or event P [] either = inr (λ begins. begins)
+begins_or event P (x ∷ rest) either = ⊎_elim
+    (λ is. ⊎_elim (λ so. inl (is, so)) (λ no. inr (λ begins. no begins.1)) (either rest))
+    (λ no. inr (λ begins. no begins.0)) (event_or x event)
+
+leaves_or : (made others : List Event) → LeavesOutReads made others ⊎ (LeavesOutReads made others → ⊥)
+leaves_or [] [] = inl refl
+leaves_or [] (x ∷ rest) = inr (λ is. let many = ap length is in omega (arith, many))
+leaves_or (Read cell ∷ made) others = ⊎_elim
+    (λ begins. inl (inl begins))
+    (λ no. ⊎_elim (λ leaves. inl (inr leaves)) (λ none. inr (λ so. ⊎_elim no none so)) (leaves_or made others))
+    (begins_or (Read cell) (LeavesOutReads made) others (λ rest. leaves_or made rest))
+leaves_or (Write cell ∷ made) others = begins_or (Write cell) (LeavesOutReads made) others (λ rest. leaves_or made rest)
+leaves_or (Sync ∷ made) others = begins_or Sync (LeavesOutReads made) others (λ rest. leaves_or made rest)
+
 -- ---- what is merely known
+
+leaves_once : (made others : List Event) → ∥ LeavesOutReads made others ∥₁ → LeavesOutReads made others
+leaves_once made others kept = ⊎_elim (λ leaves. leaves) (λ no. absurd (∥∥₁_elim kept (λ x y. absurd x) (λ leaves. no leaves))) (leaves_or made others)
 
 still_once : (a b : Disk) → ∥ TellsStill a b ∥₁ → TellsStill a b
 still_once a b kept = record { faults = ∥∥₁_elim kept le_prop (λ k. k.faults); seen = ∥∥₁_elim kept (on_once a.seen b.seen a.faults b.faults) (λ k. k.seen) }
@@ -80,31 +114,34 @@ notes_once events old None = Unit-prop
 notes_once events (Some old) (Some new) = Coded-set events_code new (old ++ events)
 notes_once events None (Some new) = λ x y. absurd x
 
-record Own (made : List Event) (old new : Option (List Event)) : Type 0 where
+record Own (made : List Event) (before now : ℕ) (old new : Option (List Event)) : Type 0 where
   own : List Event
   noted : Notes own old new
-  same : changes own ≡ changes made
+  same : LeavesOutReads made own
+  failed : HasRead own → Rose before now
 
-own_once : (made : List Event) (old new : Option (List Event)) → ∥ Own made old new ∥₁ → Own made old new
-own_once made old None kept = record { own = made; noted = tt; same = refl }
-own_once made (Some old) (Some new) kept =
+own_once : (made : List Event) (before now : ℕ) (old new : Option (List Event)) → ∥ Own made before now old new ∥₁ → Own made before now old new
+own_once made before now old None kept = record { own = changes made; noted = tt; same = leaves_changes made; failed = λ has. absurd (no_read made has) }
+own_once made before now (Some old) (Some new) kept =
     let behind = drop (length old) new in
-    let is : (k : Own made (Some old) (Some new)) → behind ≡ k.own = (λ k. ap (drop (length old)) k.noted ∙ drop-append_seam old k.own) in
+    let is : (k : Own made before now (Some old) (Some new)) → behind ≡ k.own = (λ k. ap (drop (length old)) k.noted ∙ drop-append_seam old k.own) in
     record {
       own = behind;
       noted = ∥∥₁_elim kept (Coded-set events_code new (old ++ behind)) (λ k. k.noted ∙ ap (λ (es : List Event). old ++ es) (sym (is k)));
-      same = ∥∥₁_elim kept (Coded-set events_code (changes behind) (changes made)) (λ k. ap changes (is k) ∙ k.same);
+      same = leaves_once made behind (∥∥₁_map kept (λ k. subst (LeavesOutReads made) (sym (is k)) k.same));
+      failed = λ has. ∥∥₁_elim kept le_prop (λ k. k.failed (subst HasRead (is k) has));
     }
-own_once made None (Some new) kept = absurd (∥∥₁_elim kept (λ x y. absurd x) (λ k. k.noted))
+own_once made before now None (Some new) kept = absurd (∥∥₁_elim kept (λ x y. absurd x) (λ k. k.noted))
 
 follows_once : (made : List Event) (a c b d : Disk) → ∥ Follows made a c b d ∥₁ → Follows made a c b d
 follows_once made a c b d kept =
-    let own = own_once made b.seen d.seen (∥∥₁_map kept (λ k. record { own = k.own; noted = k.second; same = k.same })) in
+    let own = own_once made a.faults c.faults b.seen d.seen (∥∥₁_map kept (λ k. record { own = k.own; noted = k.second; same = k.same; failed = k.failed })) in
     record {
       own = own.own;
       first = ∥∥₁_elim kept (notes_once made a.seen c.seen) (λ k. k.first);
       second = own.noted;
       same = own.same;
+      failed = own.failed;
       first_still = still_once a c (∥∥₁_map kept (λ k. k.first_still));
       second_still = still_once b d (∥∥₁_map kept (λ k. k.second_still));
     }
@@ -126,6 +163,7 @@ follows_from made a e c b f d s t is follows =
       first = subst (λ (x : Option (List Event)). Notes made x c.seen) one.1 follows.first;
       second = subst (λ (x : Option (List Event)). Notes follows.own x d.seen) two.1 follows.second;
       same = follows.same;
+      failed = subst (λ (n : ℕ). HasRead follows.own → Rose n c.faults) one.0 follows.failed;
       first_still = still_from a e c one.0 one.1 follows.first_still;
       second_still = still_from b f d two.0 two.1 follows.second_still;
     }

@@ -17,11 +17,11 @@ pub mended_from : {A B L M : Type 0} {ga : Ghosts A L} {gb : Ghosts B M} (asked 
 mended_from asked b seen faults f g s t new mended first second =
     subst (λ (x : Option (Hand _)). IsPlaceMended asked b seen faults x t new) first (subst (λ (y : Option (SecondLane _)). IsPlaceMended asked b seen faults f y new) second mended)
 
-module _ {L M : Type 0} (seen_a : L → Option (List Event)) (seen_b : M → Option (List Event)) where
-  pub lanes_still : (f g : Option (Hand L)) (s t : Option (SecondLane M)) → g ≡ f → t ≡ s → TellLanes seen_a seen_b f s → TellLanes seen_a seen_b g t
+module _ {L M : Type 0} (seen_a : L → Option (List Event)) (faults_a : L → ℕ) (seen_b : M → Option (List Event)) where
+  pub lanes_still : (f g : Option (Hand L)) (s t : Option (SecondLane M)) → g ≡ f → t ≡ s → TellLanes seen_a faults_a seen_b f s → TellLanes seen_a faults_a seen_b g t
   lanes_still f g s t first second told =
-      subst (λ (x : Option (Hand L)). TellLanes seen_a seen_b x t) (sym first) (subst (λ (y : Option (SecondLane M)). TellLanes seen_a seen_b f y) (sym second) told)
+      subst (λ (x : Option (Hand L)). TellLanes seen_a faults_a seen_b x t) (sym first) (subst (λ (y : Option (SecondLane M)). TellLanes seen_a faults_a seen_b f y) (sym second) told)
 
-  pub told_still : (asked : SealedJobs) (f g : Option (Hand L)) (s t : Option (SecondLane M)) → g ≡ f → t ≡ s → TellPlaces seen_a seen_b asked f s → TellPlaces seen_a seen_b asked g t
+  pub told_still : (asked : SealedJobs) (f g : Option (Hand L)) (s t : Option (SecondLane M)) → g ≡ f → t ≡ s → TellPlaces seen_a faults_a seen_b asked f s → TellPlaces seen_a faults_a seen_b asked g t
   told_still asked f g s t first second told =
-      subst (λ (x : Option (Hand L)). TellPlaces seen_a seen_b asked x t) (sym first) (subst (λ (y : Option (SecondLane M)). TellPlaces seen_a seen_b asked f y) (sym second) told)
+      subst (λ (x : Option (Hand L)). TellPlaces seen_a faults_a seen_b asked x t) (sym first) (subst (λ (y : Option (SecondLane M)). TellPlaces seen_a faults_a seen_b asked f y) (sym second) told)

@@ -81,6 +81,21 @@ cause_refused : (outcome : Result (List ℕ) Fault) (P : Type 0) → (is_refused
 cause_refused (Ok plain) P on = tt
 cause_refused (Err fault) P on = fault_refused fault P on
 
+-- a read that was refused raised the count
+refused_cause : (outcome : Result (List ℕ) Fault) (before now : ℕ) → is_refused outcome ≡ true → IfErr outcome (λ f. IsStoreFault f → Rose before now) → 0 < now
+refused_cause (Ok plain) before now is cause = absurd (let wrong : false ≡ true = is in cc)
+refused_cause (Err (StoreFault unsure)) before now is cause = let rose = cause tt in omega (arith, rose)
+refused_cause (Err (Damaged cell check kept computed)) before now is cause = absurd (let wrong : false ≡ true = is in cc)
+refused_cause (Err Memory) before now is cause = absurd (let wrong : false ≡ true = is in cc)
+refused_cause (Err Usage) before now is cause = absurd (let wrong : false ≡ true = is in cc)
+refused_cause (Err (BadScript line)) before now is cause = absurd (let wrong : false ≡ true = is in cc)
+refused_cause (Err (BadParams field)) before now is cause = absurd (let wrong : false ≡ true = is in cc)
+refused_cause (Err NotStore) before now is cause = absurd (let wrong : false ≡ true = is in cc)
+refused_cause (Err (StashFull rows)) before now is cause = absurd (let wrong : false ≡ true = is in cc)
+refused_cause (Err (Worn number)) before now is cause = absurd (let wrong : false ≡ true = is in cc)
+refused_cause (Err SourceFault) before now is cause = absurd (let wrong : false ≡ true = is in cc)
+refused_cause (Err SinkFault) before now is cause = absurd (let wrong : false ≡ true = is in cc)
+
 -- slots that stand at the places of others
 same_places : (old new : List Slot) → length new ≡ length old → ((i : ℕ) → i < length old → (slot_at new i).place ≡ (slot_at old i).place) → slot_places new ≡ slot_places old
 same_places [] [] many each = refl
@@ -169,8 +184,8 @@ read_within claims round asked a seen faults None None read = tt
 
 -- lanes that told so, the first half's having read since
 pub places_told : {L M : Type 0} (claims : Claims) (round : Round) (asked : SealedJobs) (a : Disk) (seen_a : L → Option (List Event)) (faults_a : L → ℕ) (seen_b : M → Option (List Event)) (out back : Option (Hand L)) (second : Option (SecondLane M))
-    → TellLanes seen_a seen_b out second → IsPlaceRead a seen_a faults_a claims round asked out back → TellPlaces seen_a seen_b asked back second
-places_told claims round asked a seen_a faults_a seen_b (Some out) (Some back) (Some second) told read = part_read seen_a seen_b asked out back second told read.0.seen
+    → TellLanes seen_a faults_a seen_b out second → IsPlaceRead a seen_a faults_a claims round asked out back → TellPlaces seen_a faults_a seen_b asked back second
+places_told claims round asked a seen_a faults_a seen_b (Some out) (Some back) (Some second) told read = part_read seen_a faults_a seen_b asked out back second told read.0.later (λ i lt is. refused_cause (slot_at back.part.items i).outcome (faults_a out.lane) (faults_a back.lane) is (read.0.read i blank lt).read.cause) read.0.seen
 places_told claims round asked a seen_a faults_a seen_b (Some out) (Some back) None told read = tt
 places_told claims round asked a seen_a faults_a seen_b (Some out) None second told read = absurd read
 places_told claims round asked a seen_a faults_a seen_b None (Some back) second told read = absurd read

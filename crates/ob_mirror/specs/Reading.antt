@@ -18,7 +18,7 @@ use Rattle.ob_lanes.specs.declared.hand.Hand.{Hand}
 use Rattle.ob_mirror.specs.declared.lane.MirrorLane.{MirrorLane}
 use Rattle.ob_mirror.specs.declared.lane.SecondLane.{SecondLane}
 use Rattle.ob_mirror.specs.Both.{saturating_sum}
-use Rattle.ob_mirror.specs.Telling.{LaneTells, OnlyReads, TellsReads, changes}
+use Rattle.ob_mirror.specs.Telling.{LaneTells, TellsReads, TellsSome, ToldRead, changes}
 
 -- whether a read was refused
 abbrev pub is_refused : Result (List ℕ) Fault → Bool
@@ -100,18 +100,20 @@ IsPlaceMended asked b seen faults (Some first) None new = Unit {0}
 IsPlaceMended asked b seen faults None second new = new ≡ None
 
 -- Lanes of both halves that were those of a mirror's tell so.
-abbrev pub TellLanes : {L M : Type 0} → (L → Option (List Event)) → (M → Option (List Event)) → Option (Hand L) → Option (SecondLane M) → Type 0
-TellLanes seen_a seen_b (Some first) (Some second) = ∥ LaneTells second.reads.events (seen_a first.lane) (seen_b second.lane) ∥₁
-TellLanes seen_a seen_b (Some first) None = Unit {0}
-TellLanes seen_a seen_b None second = Unit {0}
+abbrev pub TellLanes : {L M : Type 0} → (L → Option (List Event)) → (L → ℕ) → (M → Option (List Event)) → Option (Hand L) → Option (SecondLane M) → Type 0
+TellLanes seen_a faults_a seen_b (Some first) (Some second) = ∥ LaneTells second.reads.events (seen_a first.lane) (seen_b second.lane) (faults_a first.lane) ∥₁
+TellLanes seen_a faults_a seen_b (Some first) None = Unit {0}
+TellLanes seen_a faults_a seen_b None second = Unit {0}
 
 -- And where the first half's has read the jobs of its part since then, and the second's log doesn't have these reads yet.
-pub record LaneTellsPart {L M : Type 0} (seen_a : L → Option (List Event)) (seen_b : M → Option (List Event)) (asked : SealedJobs) (first : Hand L) (second : SecondLane M) : Type 0 where
+pub record LaneTellsPart {L M : Type 0} (seen_a : L → Option (List Event)) (faults_a : L → ℕ) (seen_b : M → Option (List Event)) (asked : SealedJobs) (first : Hand L) (second : SecondLane M) : Type 0 where
   pub only : changes second.reads.events ≡ []
   pub same : TellsReads (second.reads.events ++ reads_of asked (slot_places first.part.items)) (seen_a first.lane)
-  pub again : OnlyReads (seen_b second.lane)
+  pub again : TellsSome second.reads.events (seen_b second.lane)
+  pub failed : ToldRead (seen_b second.lane) → 0 < faults_a first.lane
+  pub refused : (i : ℕ) → i < length first.part.items → is_refused (slot_at first.part.items i).outcome ≡ true → 0 < faults_a first.lane
 
-abbrev pub TellPlaces : {L M : Type 0} → (L → Option (List Event)) → (M → Option (List Event)) → SealedJobs → Option (Hand L) → Option (SecondLane M) → Type 0
-TellPlaces seen_a seen_b asked (Some first) (Some second) = ∥ LaneTellsPart seen_a seen_b asked first second ∥₁
-TellPlaces seen_a seen_b asked (Some first) None = Unit {0}
-TellPlaces seen_a seen_b asked None second = Unit {0}
+abbrev pub TellPlaces : {L M : Type 0} → (L → Option (List Event)) → (L → ℕ) → (M → Option (List Event)) → SealedJobs → Option (Hand L) → Option (SecondLane M) → Type 0
+TellPlaces seen_a faults_a seen_b asked (Some first) (Some second) = ∥ LaneTellsPart seen_a faults_a seen_b asked first second ∥₁
+TellPlaces seen_a faults_a seen_b asked (Some first) None = Unit {0}
+TellPlaces seen_a faults_a seen_b asked None second = Unit {0}

@@ -24,5 +24,5 @@ pub struct MirrorLane<A: Store, B: Store> {
     /// The second half's.
     pub second: SecondLane<B::Lane>,
     pub ghost tells: { ∥ LaneTells second.reads.events (A.lane_seen first)
-        (B.lane_seen second.lane) ∥₁ },
+        (B.lane_seen second.lane) (A.lane_faults first) ∥₁ },
 }

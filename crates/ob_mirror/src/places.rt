@@ -131,7 +131,7 @@ fn part_place<A: Store, B: Store>(
     place: &mut Option<Hand<MirrorLane<A, B>>>,
 ) -> (Option<Hand<A::Lane>>, Option<SecondLane<B::Lane>>)
     ensures parted { IsParted place.old result.0 result.1 }
-    ensures told { TellLanes A.lane_seen B.lane_seen result.0 result.1 }
+    ensures told { TellLanes A.lane_seen A.lane_faults B.lane_seen result.0 result.1 }
 {
     match place.take() {
         Some(hand) => {
@@ -151,7 +151,7 @@ fn join_place<A: Store, B: Store>(
     asked: &SealedJobs,
 ) -> Option<Hand<MirrorLane<A, B>>>
     requires within { HasPlacesOfJobs asked.now first }
-    requires told { TellPlaces A.lane_seen B.lane_seen asked.now first second }
+    requires told { TellPlaces A.lane_seen A.lane_faults B.lane_seen asked.now first second }
     ensures joined { IsPlaceMended asked.now (B.disk store.now) B.lane_seen B.lane_faults first
         second result }
 {
@@ -187,7 +187,7 @@ fn part_at<A: Store, B: Store>(
     ensures many_firsts { length firsts.new ≡ length firsts.old }
     ensures many_seconds { length seconds.new ≡ length seconds.old }
     ensures parted { IsParted (hand_at hands.old i) (hand_at firsts.new i) (lane_at seconds.new i) }
-    ensures told { TellLanes A.lane_seen B.lane_seen (hand_at firsts.new i)
+    ensures told { TellLanes A.lane_seen A.lane_faults B.lane_seen (hand_at firsts.new i)
         (lane_at seconds.new i) }
     ensures hands { (j : ℕ) → j ≢ i → hand_at hands.new j ≡ hand_at hands.old j }
     ensures firsts { (j : ℕ) → j ≢ i → hand_at firsts.new j ≡ hand_at firsts.old j }
@@ -211,7 +211,7 @@ fn part_all<A: Store, B: Store>(
     ensures many_seconds { length seconds.new ≡ length seconds.old }
     ensures parted { (i : ℕ) → i < length hands.old → IsParted (hand_at hands.old i)
         (hand_at firsts.new i) (lane_at seconds.new i) }
-    ensures told { (i : ℕ) → i < length hands.old → TellLanes A.lane_seen B.lane_seen
+    ensures told { (i : ℕ) → i < length hands.old → TellLanes A.lane_seen A.lane_faults B.lane_seen
         (hand_at firsts.new i) (lane_at seconds.new i) }
 {
     for i in 0..hands.len() {
@@ -232,7 +232,7 @@ fn join_at<A: Store, B: Store>(
     requires first { i < length firsts.old }
     requires second { i < length seconds.old }
     requires within { HasPlacesOfJobs asked.now (hand_at firsts.old i) }
-    requires told { TellPlaces A.lane_seen B.lane_seen asked.now (hand_at firsts.old i)
+    requires told { TellPlaces A.lane_seen A.lane_faults B.lane_seen asked.now (hand_at firsts.old i)
         (lane_at seconds.old i) }
     ensures many { length hands.new ≡ length hands.old }
     ensures many_firsts { length firsts.new ≡ length firsts.old }
@@ -257,7 +257,7 @@ fn join_all<A: Store, B: Store>(
     requires firsts { length hands.old ≤ length firsts.old }
     requires seconds { length hands.old ≤ length seconds.old }
     requires within { (i : ℕ) → i < length hands.old → HasPlacesOfJobs asked.now (hand_at firsts.old i) }
-    requires told { (i : ℕ) → i < length hands.old → TellPlaces A.lane_seen B.lane_seen asked.now
+    requires told { (i : ℕ) → i < length hands.old → TellPlaces A.lane_seen A.lane_faults B.lane_seen asked.now
         (hand_at firsts.old i) (lane_at seconds.old i) }
     ensures many { length hands.new ≡ length hands.old }
     ensures joined { (i : ℕ) → i < length hands.old → IsPlaceMended asked.now (B.disk store.now)

@@ -19,9 +19,10 @@ pub fn halves_stand<'a, A: Store, B: Store>(old: &Mirror<'a, A, B>, new: &Mirror
 }
 
 /// Of any two states of one mirror: since its halves were put together the first was asked for just
-/// what the mirror's log has, and the second to write and to sync what the first was, in the same
-/// order, and for reads beside. Neither's count of faults has fallen. That it is one mirror is told
-/// by its references, which stay from call to call, whatever code it was lent to.
+/// what the mirror's log has, and the second for the same in the same order, with some of the reads
+/// left out: all of them, unless the first's count of faults rose. Neither's count has fallen. That
+/// it is one mirror is told by its references, which stay from call to call, whatever code it was
+/// lent to.
 pub fn halves_are_asked<'a, A: Store, B: Store>(old: &Mirror<'a, A, B>, new: &Mirror<'a, A, B>)
     ensures { (⟦<Mirror<'a, A, B> as Store>⟧.disk new.now).anchors
         ≡ (⟦<Mirror<'a, A, B> as Store>⟧.disk old.now).anchors
@@ -33,8 +34,8 @@ pub fn halves_are_asked<'a, A: Store, B: Store>(old: &Mirror<'a, A, B>, new: &Mi
     let _ = new;
 }
 
-/// From call to call of a mirror the second half was asked for the writes and syncs that the first
-/// was, in their order, and so for any calls one behind another.
+/// From call to call of a mirror the second half was asked for what the first was, in its order, with
+/// some of the reads left out, and so for any calls one behind another.
 pub fn halves_follow<A: Store, B: Store>()
     ensures { HalvesFollow ⟦<A as Store>⟧ ⟦<B as Store>⟧ }
 {}

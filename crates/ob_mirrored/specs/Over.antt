@@ -103,8 +103,9 @@ module _ {X A B : Type 0} (disk : X → Disk) (first_of : X → A) (second_of : 
     pub none_failed : (disk lent).faults ≡ 0
     pub made : List Event
     pub told : (disk left).seen ≡ Some made
-    -- The first half was asked for just these calls, and the second to write and to sync what the first was, in the same order, and for reads
-    -- beside: where each tells its calls, and it goes on to tell them unless its own count of faults rose. That doesn't fall.
+    -- The first half was asked for just these calls, and the second for the same in the same order, with some of the reads left out: all of
+    -- them, unless the first's count of faults rose. So it is where each tells its calls, and it goes on to tell them unless its own count
+    -- of faults rose. That doesn't fall.
     pub follows : Follows made (one a) (one c) (two b) (two d)
     pub run : RunDone ring_kind ring_lives ring_audits disk (reading_head [] by) tape keys lent left before after t u status
     -- The store's fault is told only where a call of the mirror was refused: a read that the second half served is none.

@@ -14,7 +14,7 @@ join_at-requires-clause-told g c =
     let i = c.loop-i.i in
     let so_far = c.loop-i.invariant in
     let lt = c.loop-i-test.true in
-    told_still g.A.Store.lane_seen g.B.Store.lane_seen c.args.asked.now _ _ _ _ (so_far.firsts i (omega arith)) (so_far.seconds i (omega arith)) (c.requires.told i (omega (arith, lt, so_far.many)))
+    told_still g.A.Store.lane_seen g.A.Store.lane_faults g.B.Store.lane_seen c.args.asked.now _ _ _ _ (so_far.firsts i (omega arith)) (so_far.seconds i (omega arith)) (c.requires.told i (omega (arith, lt, so_far.many)))
 
 pub loop-i-preserved : goal.loop-i-preserved
 loop-i-preserved g c =

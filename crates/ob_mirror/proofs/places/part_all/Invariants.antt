@@ -9,6 +9,6 @@ invariant-loop-i g l = record {
   many_firsts : length l.firsts ≡ length l.initial.firsts;
   many_seconds : length l.seconds ≡ length l.initial.seconds;
   parted : (j : ℕ) → j < l.i → IsParted (hand_at l.initial.hands j) (hand_at l.firsts j) (lane_at l.seconds j);
-  told : (j : ℕ) → j < l.i → TellLanes g.A.Store.lane_seen g.B.Store.lane_seen (hand_at l.firsts j) (lane_at l.seconds j);
+  told : (j : ℕ) → j < l.i → TellLanes g.A.Store.lane_seen g.A.Store.lane_faults g.B.Store.lane_seen (hand_at l.firsts j) (lane_at l.seconds j);
   left : (j : ℕ) → l.i ≤ j → hand_at l.hands j ≡ hand_at l.initial.hands j;
 }

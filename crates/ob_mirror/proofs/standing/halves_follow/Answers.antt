@@ -13,7 +13,7 @@ returns g c =
       none = λ a b. follows_none (one a) (two b);
       then = λ made more a c e b d f p q. follows_then made more (one a) (one c) (one e) (two b) (two d) (two f) p q;
       lane = λ a c b d result made. follows_lane seen_a faults_a seen_b faults_b one two a c b d result made;
-      absorb = λ reads first second a c b d none told again back given. follows_absorb seen_a faults_a seen_b faults_b reads first second (one a) (one c) (two b) (two d) none told again back given;
+      absorb = λ reads first second a c b d told back given. follows_absorb seen_a faults_a seen_b faults_b reads first second (one a) (one c) (two b) (two d) told back given;
       write = λ cell bytes result a c b d asked. follows_write cell bytes result (one a) (one c) (two b) (two d) asked;
       sync = λ result a c b d asked. follows_sync result (one a) (one c) (two b) (two d) asked;
     }

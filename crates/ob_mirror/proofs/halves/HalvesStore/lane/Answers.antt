@@ -20,7 +20,7 @@ invariant_of-self-in-Ok-lane-2 g c =
     }
 
 pub invariant_of-result : goal.invariant_of-result
-invariant_of-result g c = record { tells = lanes_new c.new.result.events _ _ _ _ c.new.ensures c.in-Ok.ensures.fresh_seen c.in-Ok-lane.ensures.fresh_seen }
+invariant_of-result g c = record { tells = lanes_new c.new.result.events _ _ _ _ _ c.new.ensures c.in-Ok.ensures.fresh_seen c.in-Ok-lane.ensures.fresh_seen }
 
 pub invariant_of-self-in-Err-lane-clause-follows : goal.invariant_of-self-in-Err-lane-clause-follows
 invariant_of-self-in-Err-lane-clause-follows g c =
