@@ -20,7 +20,7 @@ use Rattle.ob_mirror.specs.Both.{AreAsked}
 use Rattle.ob_mirror.specs.Joins.{IsCopy}
 use Rattle.ob_mirror.specs.Lanes.{AreLanesMade}
 use Rattle.ob_mirror.specs.Standing.{EachStands}
-use Rattle.ob_mirror.specs.Telling.{Follows, HasRead, LaneTells, LeavesOutReads, TellsReads, TellsSome, TellsStill, ToldRead, changes}
+use Rattle.ob_mirror.specs.Telling.{Follows, HasSomeRead, LaneTells, LeavesOutReads, TellsReads, TellsSome, TellsStill, ToldRead, changes}
 use Rattle.ob_mirror.proofs.Leaves.{leaves_changes, leaves_join, read_either}
 
 woven_even : (a b : Clock) (part : ℕ) → part % 2 ≡ 0 → woven_moments a b part ≡ a (part / 2)
@@ -116,7 +116,7 @@ follows_then made more a c e b d f p q = record {
 }
 
 -- a lane's events were noted, and are some of these reads
-lane_row : (reads : List Event) (lane old new : Option (List Event)) → changes reads ≡ [] → TellsSome reads lane → NotesLane lane old new → (own : List Event) × Notes own old new × LeavesOutReads reads own × (HasRead own → ToldRead lane)
+lane_row : (reads : List Event) (lane old new : Option (List Event)) → changes reads ≡ [] → TellsSome reads lane → NotesLane lane old new → (own : List Event) × Notes own old new × LeavesOutReads reads own × (HasSomeRead own → ToldRead lane)
 lane_row reads (Some events) old new none some back = (events, back, some, λ has. has)
 lane_row reads None old None none some back = ([], tt, subst (LeavesOutReads reads) none (leaves_changes reads), λ has. absurd has)
 lane_row reads None old (Some x) none some back = absurd (let wrong : Some x ≡ None = back in cc)

@@ -6,7 +6,7 @@ use Rattle.ob_lanes.specs.declared.hand.SealedJobs.{SealedJobs}
 use Rattle.ob_lanes.specs.declared.hand.Slot.{Slot}
 use Rattle.ob_lanes.specs.Hands.{reads_of, slot_at, slot_places}
 use Rattle.ob_mirror.specs.Reading.{failed_in, is_refused}
-use Rattle.ob_mirror.specs.Telling.{BeginsWith, HasRead, LeavesOutReads, changes}
+use Rattle.ob_mirror.specs.Telling.{BeginsWith, HasSomeRead, LeavesOutReads, changes}
 
 -- what begins so, with more behind it
 begins_join : (event : Event) (P Q : List Event → Type 0) (others more : List Event) → ((rest : List Event) → P rest → Q (rest ++ more)) → BeginsWith event P others → BeginsWith event Q (others ++ more)
@@ -33,7 +33,7 @@ leaves_changes (Read cell ∷ xs) = inr (leaves_changes xs)
 leaves_changes (Write cell ∷ xs) = (refl, leaves_changes xs)
 leaves_changes (Sync ∷ xs) = (refl, leaves_changes xs)
 
-pub no_read : (xs : List Event) → HasRead (changes xs) → ⊥
+pub no_read : (xs : List Event) → HasSomeRead (changes xs) → ⊥
 no_read [] has = has
 no_read (Read cell ∷ xs) has = no_read xs has
 no_read (Write cell ∷ xs) has = no_read xs has
@@ -48,7 +48,7 @@ leaves_same (Read cell ∷ xs) others p = ⊎_elim
 leaves_same (Write cell ∷ xs) others p = begins_is (Write cell) (LeavesOutReads xs) (λ (es : List Event). changes es ≡ Write cell ∷ changes xs) others (λ rest r. ap (λ (es : List Event). Write cell ∷ es) (leaves_same xs rest r)) p
 leaves_same (Sync ∷ xs) others p = begins_is Sync (LeavesOutReads xs) (λ (es : List Event). changes es ≡ Sync ∷ changes xs) others (λ rest r. ap (λ (es : List Event). Sync ∷ es) (leaves_same xs rest r)) p
 
-pub read_either : (xs ys : List Event) (P : Type 0) → (HasRead xs → P) → (HasRead ys → P) → HasRead (xs ++ ys) → P
+pub read_either : (xs ys : List Event) (P : Type 0) → (HasSomeRead xs → P) → (HasSomeRead ys → P) → HasSomeRead (xs ++ ys) → P
 read_either [] ys P one two has = two has
 read_either (Read cell ∷ xs) ys P one two has = one tt
 read_either (Write cell ∷ xs) ys P one two has = read_either xs ys P one two has
@@ -67,12 +67,12 @@ module _ (asked : SealedJobs) where
   leaves_failed [] = refl
   leaves_failed (x ∷ xs) = failed_one x xs (is_refused x.outcome) (leaves_failed xs)
 
-  again_one : (x : Slot) (xs : List Slot) (refused : Bool) (P : Type 0) → (refused ≡ true → P) → (HasRead (reads_of asked (slot_places (failed_in xs))) → P)
-      → HasRead (reads_of asked (slot_places (cond refused (x ∷ failed_in xs) (failed_in xs)))) → P
+  again_one : (x : Slot) (xs : List Slot) (refused : Bool) (P : Type 0) → (refused ≡ true → P) → (HasSomeRead (reads_of asked (slot_places (failed_in xs))) → P)
+      → HasSomeRead (reads_of asked (slot_places (cond refused (x ∷ failed_in xs) (failed_in xs)))) → P
   again_one x xs true P one rest has = one refl
   again_one x xs false P one rest has = rest has
 
   -- where one is made again, that of a slot failed
-  pub again_failed : (slots : List Slot) (P : Type 0) → ((i : ℕ) → i < length slots → is_refused (slot_at slots i).outcome ≡ true → P) → HasRead (reads_of asked (slot_places (failed_in slots))) → P
+  pub again_failed : (slots : List Slot) (P : Type 0) → ((i : ℕ) → i < length slots → is_refused (slot_at slots i).outcome ≡ true → P) → HasSomeRead (reads_of asked (slot_places (failed_in slots))) → P
   again_failed [] P on has = absurd has
   again_failed (x ∷ xs) P on has = again_one x xs (is_refused x.outcome) P (λ is. on zero (omega arith) is) (λ more. again_failed xs P (λ i lt is. on (suc i) (omega (arith, lt)) is) more) has

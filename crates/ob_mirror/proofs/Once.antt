@@ -10,7 +10,7 @@ use Rattle.ob_store.specs.declared.event.Event.TheVariants.{Read, Write, Sync}
 use Rattle.ob_store.specs.Disk.{Disk}
 use Rattle.ob_store.specs.Calls.{Notes, TellsOn}
 use Rattle.ob_mirror.specs.Begun.{event_cell, events_before, half_before, event_kind, told_before}
-use Rattle.ob_mirror.specs.Telling.{BeginsWith, Follows, HasRead, LeavesOutReads, TellsStill, changes}
+use Rattle.ob_mirror.specs.Telling.{BeginsWith, Follows, HasSomeRead, LeavesOutReads, TellsStill, changes}
 use Rattle.ob_mirror.proofs.Leaves.{leaves_changes, no_read}
 
 -- ---- events as numbers
@@ -118,7 +118,7 @@ record Own (made : List Event) (before now : ℕ) (old new : Option (List Event)
   own : List Event
   noted : Notes own old new
   same : LeavesOutReads made own
-  failed : HasRead own → Rose before now
+  failed : HasSomeRead own → Rose before now
 
 own_once : (made : List Event) (before now : ℕ) (old new : Option (List Event)) → ∥ Own made before now old new ∥₁ → Own made before now old new
 own_once made before now old None kept = record { own = changes made; noted = tt; same = leaves_changes made; failed = λ has. absurd (no_read made has) }
@@ -129,7 +129,7 @@ own_once made before now (Some old) (Some new) kept =
       own = behind;
       noted = ∥∥₁_elim kept (Coded-set events_code new (old ++ behind)) (λ k. k.noted ∙ ap (λ (es : List Event). old ++ es) (sym (is k)));
       same = leaves_once made behind (∥∥₁_map kept (λ k. subst (LeavesOutReads made) (sym (is k)) k.same));
-      failed = λ has. ∥∥₁_elim kept le_prop (λ k. k.failed (subst HasRead (is k) has));
+      failed = λ has. ∥∥₁_elim kept le_prop (λ k. k.failed (subst HasSomeRead (is k) has));
     }
 own_once made before now None (Some new) kept = absurd (∥∥₁_elim kept (λ x y. absurd x) (λ k. k.noted))
 
@@ -163,7 +163,7 @@ follows_from made a e c b f d s t is follows =
       first = subst (λ (x : Option (List Event)). Notes made x c.seen) one.1 follows.first;
       second = subst (λ (x : Option (List Event)). Notes follows.own x d.seen) two.1 follows.second;
       same = follows.same;
-      failed = subst (λ (n : ℕ). HasRead follows.own → Rose n c.faults) one.0 follows.failed;
+      failed = subst (λ (n : ℕ). HasSomeRead follows.own → Rose n c.faults) one.0 follows.failed;
       first_still = still_from a e c one.0 one.1 follows.first_still;
       second_still = still_from b f d two.0 two.1 follows.second_still;
     }

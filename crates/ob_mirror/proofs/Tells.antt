@@ -18,7 +18,7 @@ use Rattle.ob_mirror.specs.declared.lane.SecondLane.{SecondLane}
 use Rattle.ob_mirror.specs.Asked.{IsAbsorbed}
 use Rattle.ob_mirror.specs.Mirrored.{Agree}
 use Rattle.ob_mirror.specs.Reading.{LaneTellsPart, TellPlaces, failed_in, is_refused}
-use Rattle.ob_mirror.specs.Telling.{Follows, HasRead, LaneTells, LeavesOutReads, TellsReads, TellsSome, TellsStill, ToldRead, changes}
+use Rattle.ob_mirror.specs.Telling.{Follows, HasSomeRead, LaneTells, LeavesOutReads, TellsReads, TellsSome, TellsStill, ToldRead, changes}
 use Rattle.ob_mirror.proofs.Alone.{changes_join, follows_absorb, follows_none, follows_then}
 use Rattle.ob_mirror.proofs.Leaves.{again_failed, leaves_failed, leaves_join, read_either}
 
@@ -41,9 +41,9 @@ some_on reads more own now (Some es) (Some fs) is leaves some noted =
 some_on reads more own now None (Some fs) is leaves some noted = absurd noted
 
 -- the lane had told a read, or tells one now
-told_either : (own : List Event) (old new : Option (List Event)) (P : Type 0) → (ToldRead old → P) → (HasRead own → P) → Notes own old new → ToldRead new → P
+told_either : (own : List Event) (old new : Option (List Event)) (P : Type 0) → (ToldRead old → P) → (HasSomeRead own → P) → Notes own old new → ToldRead new → P
 told_either own old None P one two noted told = absurd told
-told_either own (Some es) (Some fs) P one two noted told = read_either es own P one two (subst HasRead noted told)
+told_either own (Some es) (Some fs) P one two noted told = read_either es own P one two (subst HasSomeRead noted told)
 told_either own None (Some fs) P one two noted told = absurd noted
 
 none_same : (lane : Option (List Event)) → TellsNone lane → TellsReads [] lane
@@ -55,7 +55,7 @@ none_some (Some es) none = none
 none_some None none = tt
 
 none_told : (lane : Option (List Event)) → TellsNone lane → ToldRead lane → ⊥
-none_told (Some es) none told = subst HasRead none told
+none_told (Some es) none told = subst HasSomeRead none told
 none_told None none told = told
 
 -- new lanes

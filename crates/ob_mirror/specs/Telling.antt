@@ -27,11 +27,11 @@ LeavesOutReads (Write cell ∷ events) others = BeginsWith (Write cell) (LeavesO
 LeavesOutReads (Sync ∷ events) others = BeginsWith Sync (LeavesOutReads events) others
 
 -- one of these events is a read
-abbrev pub HasRead : List Event → Type 0
-HasRead [] = ⊥
-HasRead (Read cell ∷ events) = Unit {0}
-HasRead (Write cell ∷ events) = HasRead events
-HasRead (Sync ∷ events) = HasRead events
+abbrev pub HasSomeRead : List Event → Type 0
+HasSomeRead [] = ⊥
+HasSomeRead (Read cell ∷ events) = Unit {0}
+HasSomeRead (Write cell ∷ events) = HasSomeRead events
+HasSomeRead (Sync ∷ events) = HasSomeRead events
 
 -- A half's count of faults doesn't fall, and it goes on to tell its calls, unless that count rose.
 pub record TellsStill (old new : Disk) : Type 0 where
@@ -45,7 +45,7 @@ pub record Follows (made : List Event) (a c b d : Disk) : Type 0 where
   pub first : Notes made a.seen c.seen
   pub second : Notes own b.seen d.seen
   pub same : LeavesOutReads made own
-  pub failed : HasRead own → Rose a.faults c.faults
+  pub failed : HasSomeRead own → Rose a.faults c.faults
   pub first_still : TellsStill a c
   pub second_still : TellsStill b d
 
@@ -61,7 +61,7 @@ TellsSome reads None = Unit {0}
 
 -- it tells a read
 abbrev pub ToldRead : Option (List Event) → Type 0
-ToldRead (Some events) = HasRead events
+ToldRead (Some events) = HasSomeRead events
 ToldRead None = ⊥
 
 -- A mirror's lane has these reads and nothing else in its log, and the first half's tells just them; the second's tells some of

@@ -46,7 +46,7 @@ use Rattle.ob_admitted.specs.Refused.{notes_at, notes_of_reads, notes_of_stop}
 use Rattle.ob_admitted.specs.Stopped.{AreAllShown, IsGateSure, IsNextBegun, IsStopShown, StopsBegun, StopsReading, begun_row, opening_row, public_of_found, reads_of_opening}
 use Rattle.ob_top.proofs.Rowing.{part}
 use Rattle.ob_top.specs.Parts.{head_cells}
-use Rattle.ob_top.specs.Refusals.{AreGatesSure, AreRunsOrRefusals, CameToHead, IsBegunWithin, IsNextSyncedAt, RefusedRunsFit, StoppedInOpening, notes_of_opening}
+use Rattle.ob_top.specs.Refusals.{AreGatesSure, AreRunsOrRefusals, CameToHead, BeganWithin, IsNextSyncedAt, RefusedRunsFit, StoppedInOpening, notes_when_stopped}
 use Rattle.ob_top.specs.Rows.{AreRowsTold, AreTapesOf, IsRowRun, TracedRun}
 use Rattle.ob_top.specs.Runs.{notes_of_head}
 
@@ -167,10 +167,10 @@ module _ {S : Type 0} (disk : S → Disk) (keys : Keys) (p : Params) where
     pub stop : IsStopShown keys q (disk r.old) (disk r.new) notes
     pub stops : RingStops keys q (disk r.old) (disk r.new)
 
-  opening_part : (r : TracedRun S) (stopped : StoppedInOpening disk keys p r) → IsStopPart p r (notes_of_opening disk keys p r stopped)
-  opening_part r stopped = subst (λ (q : Params). IsStopPart q r (notes_of_opening disk keys p r stopped)) stopped.params (by_stood (subst (λ (q : Params). Stands ring_kind keys q (disk r.old).cells stopped.at) (sym stopped.params) stopped.stood))
+  opening_part : (r : TracedRun S) (stopped : StoppedInOpening disk keys p r) → IsStopPart p r (notes_when_stopped disk keys p r stopped)
+  opening_part r stopped = subst (λ (q : Params). IsStopPart q r (notes_when_stopped disk keys p r stopped)) stopped.params (by_stood (subst (λ (q : Params). Stands ring_kind keys q (disk r.old).cells stopped.at) (sym stopped.params) stopped.stood))
     where
-      by_stood : Stands ring_kind keys (stopped.went).p (disk r.old).cells stopped.at → IsStopPart (stopped.went).p r (notes_of_opening disk keys p r stopped)
+      by_stood : Stands ring_kind keys (stopped.went).p (disk r.old).cells stopped.at → IsStopPart (stopped.went).p r (notes_when_stopped disk keys p r stopped)
       by_stood stood =
           let stops = (stopped.went).stops in
           record {
@@ -178,7 +178,7 @@ module _ {S : Type 0} (disk : S → Disk) (keys : Keys) (p : Params) where
             stops = (stopped.went).stops_life stopped.tells;
           }
 
-  opening_shown : (r : TracedRun S) → (r.by).head ≡ head_cells → (stopped : StoppedInOpening disk keys p r) → Shows (notes_of_opening disk keys p r stopped) r.first r.last
+  opening_shown : (r : TracedRun S) → (r.by).head ≡ head_cells → (stopped : StoppedInOpening disk keys p r) → Shows (notes_when_stopped disk keys p r stopped) r.first r.last
   opening_shown r head_is stopped =
       let stops = (stopped.went).stops in
       let head = subst (λ (cells : List ℕ). Shows (notes_of_head cells) r.first stops.between) head_is stops.head in
@@ -270,10 +270,10 @@ module _ {S : Type 0} (disk : S → Disk) (keys : Keys) (p : Params) where
           sure = λ are. more.sure are;
         }
 
-    opening_row_of : (begun : IsBegunWithin disk keys p may_leave r) (stopped : StoppedInOpening disk keys p r) → IsRow may_leave (r ∷ runs) (inr (begun, inl stopped), later)
+    opening_row_of : (begun : BeganWithin disk keys p may_leave r) (stopped : StoppedInOpening disk keys p r) → IsRow may_leave (r ∷ runs) (inr (begun, inl stopped), later)
     opening_row_of begun stopped =
         let x = opening_part r stopped in
-        let notes = notes_of_opening disk keys p r stopped in
+        let notes = notes_when_stopped disk keys p r stopped in
         let from : AreRunsFrom disk keys p may_leave (Stopped r.old r.new ∷ more.parts) = ((begun.begun, begun.within), x.stops, more.from) in
         record {
           parts = Stopped r.old r.new ∷ more.parts;
@@ -287,7 +287,7 @@ module _ {S : Type 0} (disk : S → Disk) (keys : Keys) (p : Params) where
               (λ found in_ring lacks. more.next (λ image. StandsAt (tagging keys) 1 image found.generation) (are.0 found in_ring lacks)) (more.sure are.1);
         }
 
-    head_row_of : (begun : IsBegunWithin disk keys p may_leave r) (came : CameToHead disk keys p r) → IsRow may_leave (r ∷ runs) (inr (begun, inr came), later)
+    head_row_of : (begun : BeganWithin disk keys p may_leave r) (came : CameToHead disk keys p r) → IsRow may_leave (r ∷ runs) (inr (begun, inr came), later)
     head_row_of begun came =
         let x = head_part r begun.head came in
         let notes = take x.count head_notes in

@@ -50,13 +50,13 @@ module _ {S : Type 0} (disk : S → Disk) (keys : Keys) (p : Params) where
     pub stood : Stands ring_kind keys p (disk r.old).cells at
 
   -- the notes that it showed
-  abbrev pub notes_of_opening : (r : TracedRun S) → StoppedInOpening r → List Note
-  notes_of_opening r stopped =
+  abbrev pub notes_when_stopped : (r : TracedRun S) → StoppedInOpening r → List Note
+  notes_when_stopped r stopped =
       head_notes ++ notes_of_stop keys (r.by).lanes (stopped.went).p (disk ((stopped.went).stops).read) (disk r.new) ((stopped.went).stops).between r.last stopped.fault ((stopped.went).stops).stops
 
   -- It was to read the head. It began at an image that might have been left; and where writes waited there, so might each that a crash would then
   -- have left.
-  pub record IsBegunWithin (may_leave : Image → Type 0) (r : TracedRun S) : Type 0 where
+  pub record BeganWithin (may_leave : Image → Type 0) (r : TracedRun S) : Type 0 where
     pub head : (r.by).head ≡ head_cells
     pub begun : may_leave (disk r.old).cells
     pub within : (c : Image) → (disk r.old).may_leave c → may_leave c
@@ -65,7 +65,7 @@ module _ {S : Type 0} (disk : S → Disk) (keys : Keys) (p : Params) where
 
   -- it served, or it was refused
   abbrev pub IsRunOrRefusal : (may_leave : Image → Type 0) → TracedRun S → Type 0
-  IsRunOrRefusal may_leave r = IsRowRun disk keys p may_leave r ⊎ (IsBegunWithin may_leave r × (StoppedInOpening r ⊎ CameToHead r))
+  IsRunOrRefusal may_leave r = IsRowRun disk keys p may_leave r ⊎ (BeganWithin may_leave r × (StoppedInOpening r ⊎ CameToHead r))
 
   -- the first at one of these images, each later one at one that the run before left
   abbrev pub AreRunsOrRefusals : (Image → Type 0) → List (TracedRun S) → Type 0
@@ -77,7 +77,7 @@ module _ {S : Type 0} (disk : S → Disk) (keys : Keys) (p : Params) where
   IsNextSyncedAt IsSo may_leave [] are = Unit {0}
   IsNextSyncedAt IsSo may_leave (r ∷ runs) (inl served, later) = IsSo (disk r.old).cells
   IsNextSyncedAt IsSo may_leave (r ∷ runs) (inr (begun, inl stopped), later) =
-      (Has (notes_of_opening r stopped) Sync → IsSo (disk r.old).cells) × ((Has (notes_of_opening r stopped) Sync → ⊥) → IsNextSyncedAt IsSo (disk r.new).may_leave runs later)
+      (Has (notes_when_stopped r stopped) Sync → IsSo (disk r.old).cells) × ((Has (notes_when_stopped r stopped) Sync → ⊥) → IsNextSyncedAt IsSo (disk r.new).may_leave runs later)
   IsNextSyncedAt IsSo may_leave (r ∷ runs) (inr (begun, inr came), later) = IsNextSyncedAt IsSo (disk r.new).may_leave runs later
 
   -- The one case that an audit leaves out is none of theirs: of a refused opening the last note is the write that opens its generation's gate, without
@@ -86,7 +86,7 @@ module _ {S : Type 0} (disk : S → Disk) (keys : Keys) (p : Params) where
   AreGatesSure may_leave [] are = Unit {0}
   AreGatesSure may_leave (r ∷ runs) (inl served, later) = AreGatesSure (disk r.new).may_leave runs later
   AreGatesSure may_leave (r ∷ runs) (inr (begun, inl stopped), later) =
-      ((found : Found) → IsFoundInRing keys p (disk r.old).cells found → length (begun_row p found) ≡ suc (length (notes_of_opening r stopped)) → IsNextSyncedAt (λ image. StandsAt (tagging keys) 1 image found.generation) (disk r.new).may_leave runs later)
+      ((found : Found) → IsFoundInRing keys p (disk r.old).cells found → length (begun_row p found) ≡ suc (length (notes_when_stopped r stopped)) → IsNextSyncedAt (λ image. StandsAt (tagging keys) 1 image found.generation) (disk r.new).may_leave runs later)
       × AreGatesSure (disk r.new).may_leave runs later
   AreGatesSure may_leave (r ∷ runs) (inr (begun, inr came), later) = AreGatesSure (disk r.new).may_leave runs later
 
