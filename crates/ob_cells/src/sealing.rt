@@ -17,10 +17,11 @@ const ROW: u64 = 48;
 // what else it has to.
 const LESS: usize = 3;
 
-// A run, a sealer of the generation that its cells are sealed in, and how many threads seal them at
-// most.
-#[derive(Clone, Copy)]
-pub(crate) struct Task<'a, P> {
+// A run, a sealer of the generation that its cells are sealed in, and what starts threads to seal
+// them, so many at most, the calling one among them.
+#[derive(Drop)]
+pub(crate) struct Task<'a, R, P> {
+    pub(crate) rt: &'a R,
     pub(crate) sealer: &'a Sealer,
     pub(crate) run: &'a CellRun<'a, P>,
     pub(crate) threads: usize,
@@ -74,7 +75,7 @@ fn behind(start: Start, rows: usize) -> Start
 }
 
 // Seals a run's cells from one on, as far as it and the rows go, by the calling thread alone.
-fn seal_in_turn<P: Pieces>(task: &Task<'_, P>, start: Start, rows: &mut [Row])
+fn seal_in_turn<R, P: Pieces>(task: &Task<'_, R, P>, start: Start, rows: &mut [Row])
     requires can { CanSealRows task.now.run.now.base task.now.run.now.many start.cell start.number
         rows.old }
     ensures { AreRowsSealedAs task.now.sealer.now.keys task.now.run.now.base
@@ -95,15 +96,13 @@ fn share_of(rows: usize, threads: usize) -> usize
     (rows.saturating_add(LESS) / threads).min(rows - 1)
 }
 
-// The same by so many threads, the calling one among them: it starts the others, then does what
+// The same by so many threads as the task says: the calling one starts the others, then does what
 // else there is to do, and then seals its own share.
 #[cycle(threads)]
 pub(crate) fn seal_rows<R: Threads + Sync, P: Pieces + Sync, F: FnMut() -> A, A>(
-    rt: &R,
-    task: &Task<'_, P>,
+    task: &Task<'_, R, P>,
     start: Start,
     rows: &mut [Row],
-    threads: usize,
     meanwhile: &mut F,
 ) -> A
     requires can { CanSealRows task.now.run.now.base task.now.run.now.many start.cell start.number
@@ -114,28 +113,30 @@ pub(crate) fn seal_rows<R: Threads + Sync, P: Pieces + Sync, F: FnMut() -> A, A>
         task.now.run.now.many start.cell rows.old rows.new }
     ensures done { F.step meanwhile.old result meanwhile.new }
 {
-    if threads < 2 || rows.is_empty() {
+    if task.threads < 2 || rows.is_empty() {
         let done = meanwhile();
         seal_in_turn(task, start, rows);
         return done;
     }
-    let few = share_of(rows.len(), threads);
+    let few = share_of(rows.len(), task.threads);
     let next = behind(start, few);
     let (apart, rest) = rows.split_at_mut(few);
-    seal_apart(rt, task, start, next, apart, rest, threads - 1, meanwhile)
+    let fewer = Task {
+        threads: task.threads - 1,
+        ..*task
+    };
+    seal_apart(&fewer, start, next, apart, rest, meanwhile)
 }
 
-// Some rows in a thread of their own, and the others from the calling thread on: that starts all
-// threads, one behind the other, so that none waits until another one runs.
+// Some rows in a thread of their own, and the others by so many threads as the task says: the
+// calling one starts them all, one behind the other, so that none waits until another one runs.
 #[cycle(threads)]
 fn seal_apart<R: Threads + Sync, P: Pieces + Sync, F: FnMut() -> A, A>(
-    rt: &R,
-    task: &Task<'_, P>,
+    task: &Task<'_, R, P>,
     start: Start,
     next: Start,
     apart: &mut [Row],
     rest: &mut [Row],
-    threads: usize,
     meanwhile: &mut F,
 ) -> A
     requires apart { CanSealRows task.now.run.now.base task.now.run.now.many start.cell start.number
@@ -168,6 +169,6 @@ fn seal_apart<R: Threads + Sync, P: Pieces + Sync, F: FnMut() -> A, A>(
             (P.plain task.entry.now.run.now.pieces.now) task.entry.now.run.now.many next.cell
             rest.entry.now rest.exit.now
             × F.step meanwhile.entry.now result meanwhile.exit.now }
-    { seal_rows(rt, task, next, rest, threads, meanwhile) };
-    join_mut(rt, &mut there, &mut here).1
+    { seal_rows(task, next, rest, meanwhile) };
+    join_mut(task.rt, &mut there, &mut here).1
 }

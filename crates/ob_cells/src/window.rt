@@ -8,15 +8,18 @@ use std::alloc::Global;
 /// The sealed slots of a bucket, or 48 sealed cells of a run that follow each other.
 pub type Row = [[u8; 128]; 48];
 
-/// Where cells are sealed before they are written: rows for 1,536 cells of a run, or for the slots
-/// of 32 buckets, and how many threads seal at most, from 1 to 16.
+/// Where cells are sealed before they are written: rows for two windows of a run, of 1,536 cells
+/// each, or for the slots of 32 buckets, and how many threads seal at most, from 1 to 16.
 #[derive(Drop)]
 pub struct Bench {
-    /// Room for the next cells of a run, or for the slots of 32 buckets.
+    /// Room for a window of a run, or for the slots of 32 buckets.
     pub rows: Vec<Row>,
+    /// Room for another window of a run.
+    pub other_rows: Vec<Row>,
     /// How many threads seal at most.
     pub threads: usize,
     ghost whole: { vec_len rows ≡ 32 },
+    ghost other_whole: { vec_len other_rows ≡ 32 },
     ghost some: { 1 ≤ threads },
     ghost few: { threads ≤ 16 },
 }
@@ -32,6 +35,7 @@ impl Bench {
     {
         Ok(Bench {
             rows: vec![in alloc; [[0; 128]; 48]; 32]?,
+            other_rows: vec![in alloc; [[0; 128]; 48]; 32]?,
             threads,
         })
     }

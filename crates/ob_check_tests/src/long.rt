@@ -29,7 +29,7 @@ struct Left {
 
 // A store with room for a run of so many cells and some more, where these calls fail.
 fn roomy_store(rt: &impl Abort, alloc: Global, many: u64, fails: &[Fail]) -> MemStore
-    requires { many ≤ 3000 }
+    requires { many ≤ 3100 }
     ensures { (disk_of_store result).out ≡ 0 }
 {
     let fails = fails.to_vec(alloc).expect(rt, "memory");
@@ -41,9 +41,9 @@ fn new_sink(rt: &impl Abort, alloc: Global) -> MemSink {
     MemSink::new(alloc, 50000, Vec::new(alloc)).expect(rt, "memory")
 }
 
-// The plain bytes of 3,000 cells, but for the last 31.
+// The plain bytes of 3,100 cells, but for the last 31.
 fn plain_bytes(rt: &impl Abort, alloc: Global) -> Vec<u8> {
-    let mut bytes = vec![in alloc; 0u8; 287969].expect(rt, "memory");
+    let mut bytes = vec![in alloc; 0u8; 297569].expect(rt, "memory");
     for i in 0..bytes.len() {
         bytes[i] = (i % 251) as u8;
     }
@@ -52,7 +52,7 @@ fn plain_bytes(rt: &impl Abort, alloc: Global) -> Vec<u8> {
 
 // A run of so many cells, sealed one behind the other.
 fn one_by_one(rt: &impl Abort, alloc: Global, cut: &Cut<'_>, many: u64, fails: &[Fail]) -> Left
-    requires { many ≤ 3000 }
+    requires { many ≤ 3100 }
 {
     let mut store = roomy_store(rt, alloc, many, fails);
     let mut sealer = new_sealer(3);
@@ -76,7 +76,7 @@ fn on_bench<R: Abort + Threads + Sync>(
     bench: &mut Bench,
     fails: &[Fail],
 ) -> Left
-    requires { many ≤ 3000 }
+    requires { many ≤ 3100 }
 {
     let run = CellRun {
         base: BASE,
@@ -105,7 +105,7 @@ fn cells_of(rt: &impl Abort, alloc: Global, store: &mut MemStore, many: u64) -> 
 
 // Whether both left the same, in so many cells.
 fn are_alike(rt: &impl Abort, alloc: Global, one: &mut Left, other: &mut Left, many: u64) -> bool
-    requires { many ≤ 3000 }
+    requires { many ≤ 3100 }
 {
     let first = cells_of(rt, alloc, &mut one.store, many + 100);
     let second = cells_of(rt, alloc, &mut other.store, many + 100);
@@ -125,7 +125,7 @@ fn is_same_on<R: Abort + Threads + Sync>(
     bench: &mut Bench,
     fails: &[Fail],
 ) -> bool
-    requires { many ≤ 3000 }
+    requires { many ≤ 3100 }
 {
     let mut want = one_by_one(rt, alloc, cut, many, fails);
     let mut left = on_bench(rt, alloc, cut, many, bench, fails);
@@ -140,7 +140,7 @@ fn is_same_by_threads<R: Abort + Threads + Sync>(
     many: u64,
     fails: &[Fail],
 ) -> bool
-    requires { many ≤ 3000 }
+    requires { many ≤ 3100 }
 {
     for threads in &[1, 2, 16] {
         let mut bench = Bench::new(alloc, *threads).expect(rt, "memory");
@@ -153,9 +153,9 @@ fn is_same_by_threads<R: Abort + Threads + Sync>(
 
 // Whether it is so where a write fails: of the first, of those about a window's end, of the last.
 fn is_so_refused<R: Abort + Threads + Sync>(rt: &R, alloc: Global, cut: &Cut<'_>, many: u64) -> bool
-    requires { (1 ≤ many) × (many ≤ 3000) }
+    requires { (1 ≤ many) × (many ≤ 3100) }
 {
-    for &at in &[0, 63, 767, 768, 1023, 1024, 1535, 1536] {
+    for &at in &[0, 63, 1023, 1024, 1535, 1536, 3071] {
         if at < many - 1 && !is_same_by_threads(rt, alloc, cut, many, &[Fail::Write(at)]) {
             return false;
         }
@@ -163,7 +163,7 @@ fn is_so_refused<R: Abort + Threads + Sync>(rt: &R, alloc: Global, cut: &Cut<'_>
     is_same_by_threads(rt, alloc, cut, many, &[Fail::Write(many - 1)])
 }
 
-const MANY: &[u64] = &[1, 63, 64, 768, 769, 1024, 1025, 1536, 1537, 3000];
+const MANY: &[u64] = &[1, 63, 64, 1024, 1025, 1536, 3000, 3073];
 
 // Whether runs of so many cells leave the same by threads, where no write fails, or where one does.
 fn are_same<R: Abort + Threads + Sync>(rt: &R, alloc: Global, refused: bool) -> bool {

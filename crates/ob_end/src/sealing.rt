@@ -23,9 +23,10 @@ fn seal_bucket(sealer: &Sealer, p: &Params, ring: &Ring, bucket: u32, number: u6
 {
     let home = ring.tables().metas.get(bucket).home();
     let first = slot_cell(p, home, bucket, 0);
+    let mut seals = sealer.run_from(number);
     for j in 0..(p.real + p.dummies) as usize {
         let plain = ring.plain_of(bucket, j as u8);
-        slots[j] = sealer.seal_at(first + j as u64, number + j as u64, &plain);
+        slots[j] = seals.seal(first + j as u64, &plain);
     }
 }
 

@@ -1,4 +1,4 @@
-use Rattle.std.proofs.Common.{◌≡◌, ◌≤◌, ◌+◌, ◌∙◌, ℕ, arith, subst, sym}
+use Rattle.std.proofs.Common.{◌≤◌, ◌+◌, ◌∙◌, ℕ, arith, subst, sym}
 use Rattle.ob_seal.specs.Sealing.{Sealing}
 use Rattle.ob_cells.specs.Windows.{AreRowsSealed, few_from}
 use Rattle.ob_cells.proofs.RunParts.{Turning, notes_refused, turning_on}
@@ -29,7 +29,7 @@ returns-in_err-at-2-clause-does g c =
     let e = c.in_ok-at.ensures in
     let few : at + few_from run.many at ≤ run.many = (let le = turning.within in omega arith) in
     let on : Turning run.base run.many next plain before mid old new begun then = subst (λ (x : ℕ). Turning run.base run.many x plain before mid old new begun then) (sym e.next)
-    (turning_on run.base run.many at (few_from run.many at) plain before c.loop-at.sealer mid old (g.S.Store.disk c.loop-at.store) new begun (g.W.Watch.trace c.loop-at.watch) then few turning c.requires.room e.run.seals.all next e.serves e.run e.does) in
+    (turning_on run.base run.many at (few_from run.many at) plain before c.loop-at.sealer mid old (g.S.Store.disk c.loop-at.store) new begun (g.W.Watch.trace c.loop-at.watch) then few turning (omega (arith, c.requires.can.1.1)) e.run.seals.all next e.serves e.run e.does) in
     let less : next + few_from run.many next ≤ run.many = (let le = on.within in omega arith) in
     notes_refused run.base run.many next (few_from run.many next) plain before mid c.write_and_seal-in-loop-at.new.sealer old new (g.S.Store.disk c.write_and_seal-in-loop-at.new.store) begun then (g.W.Watch.trace c.write_and_seal-in-loop-at.new.watch) less on
     c.write_and_seal-in-loop-at.result c.from_residual-in_err-at-2.result c.from_residual-in_err-at-2.ensures.0 c.write_and_seal-in-loop-at.ensures.does
@@ -56,11 +56,11 @@ loop-at-preserved g c =
     let f = c.in_ok-at-2.ensures in
     let few : at + few_from run.many at ≤ run.many = (let le = turning.within in omega arith) in
     let on : Turning run.base run.many next plain before mid old new begun then = subst (λ (x : ℕ). Turning run.base run.many x plain before mid old new begun then) (sym e.next)
-    (turning_on run.base run.many at (few_from run.many at) plain before c.loop-at.sealer mid old (g.S.Store.disk c.loop-at.store) new begun (g.W.Watch.trace c.loop-at.watch) then few turning c.requires.room e.run.seals.all next e.serves e.run e.does) in
+    (turning_on run.base run.many at (few_from run.many at) plain before c.loop-at.sealer mid old (g.S.Store.disk c.loop-at.store) new begun (g.W.Watch.trace c.loop-at.watch) then few turning (omega (arith, c.requires.can.1.1)) e.run.seals.all next e.serves e.run e.does) in
     let less : next + few_from run.many next ≤ run.many = (let le = on.within in omega arith) in
     record {
       turning = subst (λ (x : ℕ). Turning run.base run.many x plain before last old later begun after) (sym f.next)
-          (turning_on run.base run.many next (few_from run.many next) plain before mid last old new later begun then after less on c.requires.room f.run.seals.all end f.serves f.run f.does);
+          (turning_on run.base run.many next (few_from run.many next) plain before mid last old new later begun then after less on (omega (arith, c.requires.can.1.1)) f.run.seals.all end f.serves f.run f.does);
       one = c.write_and_seal-in-loop-at.ensures.many ∙ c.loop-at.invariant.one;
       other = c.write_and_seal.ensures.many ∙ c.loop-at.invariant.other;
       ready = subst (λ (x : ℕ). AreRowsSealed last.keys run.base last.generation last.next plain run.many x rows) (sym f.next)

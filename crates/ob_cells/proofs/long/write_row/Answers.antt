@@ -1,4 +1,4 @@
-use Rattle.std.proofs.Common.{rules, ◌≡◌, ◌<◌, ◌+◌, ◌∙◌, ℕ, List, [], arith, get_or, get_or-take, length, subst, sym, take}
+use Rattle.std.proofs.Common.{rules, ◌≡◌, ◌+◌, ℕ, List, [], arith, get_or, get_or-take, length, subst, sym, take}
 use Rattle.std.proofs.lemmas.List.{length-take-le}
 use Rattle.ob_cells.specs.Windows.{IsSlotSealed}
 use Rattle.ob_cells.specs.Writes.{WritesRun}
