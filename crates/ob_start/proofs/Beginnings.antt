@@ -1,5 +1,5 @@
 -- How a generation is begun.
-use Rattle.std.proofs.Common.{◌≡◌, ℕ, suc, ◌+◌, ◌^◌, ◌<◌, List, [], ◌∷◌, Option, Result, arith, refl, sym, ◌∙◌, subst, add-one}
+use Rattle.std.proofs.Common.{◌≡◌, ℕ, suc, ◌+◌, ◌^◌, ◌<◌, List, [], ◌∷◌, length, Option, Result, arith, refl, sym, ◌∙◌, subst, add-one}
 use Rattle.ob_store.specs.declared.event.Event.{Event}
 use Rattle.ob_store.specs.declared.event.Event.TheVariants as event
 use Rattle.ob_store.specs.declared.watch.Note.TheVariants.{Sync}
@@ -7,7 +7,7 @@ use Rattle.ob_store.specs.Disk.{Disk, Image}
 use Rattle.ob_store.specs.Images.{Same, Shrinks, Elapses, Passes, IsSynced, LeavesOnly}
 use Rattle.ob_store.specs.Calls.{GoesOn, Keeps, Notes}
 use Rattle.ob_store.specs.Lines.{Trace}
-use Rattle.ob_store.specs.Told.{Tells, Does}
+use Rattle.ob_store.specs.Told.{Tells, Does, events_of}
 use Rattle.ob_store.proofs.Moments.{passed_none, passed_still}
 use Rattle.ob_store.proofs.Doing.{does_then}
 use Rattle.ob_seal.specs.declared.keys.Keys.{Keys}
@@ -16,15 +16,17 @@ use Rattle.ob_twin.specs.declared.set_err.SetErr.{SetErr}
 use Rattle.ob_twin.specs.Bodies.{Tagging}
 use Rattle.ob_twin.specs.Keyed.{tagging}
 use Rattle.ob_twin.specs.Register.{place_of, StandsAt, KeepsAt, IsPut, OldOrNew}
-use Rattle.ob_twin.specs.Opening.{is_closed_first}
+use Rattle.ob_twin.specs.Opening.{GatesAre, is_closed_first}
 use Rattle.ob_twin.specs.Orders.{set_notes, SetDoes}
 use Rattle.ob_twin.specs.Refused.{SetLeaves}
+use Rattle.ob_twin.specs.Stages.{SetMoments}
 use Rattle.ob_twin.proofs.Moves.{under_next}
 use Rattle.ob_twin.proofs.Frames.{register_moved}
 use Rattle.ob_twin.proofs.Sets.{set_does, put_stands, leaves_either}
 use Rattle.ob_start.specs.Orders.{begin_notes}
-use Rattle.ob_start.specs.Beginning.{BeginsFrom}
+use Rattle.ob_start.specs.Beginning.{BeginsFrom, IsBeginStage, IsBegun, IsSyncedLeft, WhereStood}
 use Rattle.ob_start.proofs.Early.{sync_first}
+use Rattle.ob_start.proofs.Moments.{behind_known, few_set, stages_known}
 
 -- a sync that leaves no new image
 pub still : (old new : Disk) → GoesOn old new → Elapses old new → Shrinks old new → Keeps old new → Passes Same old new
@@ -53,18 +55,34 @@ next_number keys g m old mid new small same is put stands =
     let at : m ≡ g = omega (arith, is) in
     subst (λ n. KeepsAt (tagging keys) 1 old n new) (sym (add-one g)) (next_stands (tagging keys) g old mid new small same (subst (λ n. StandsAt (tagging keys) 1 old n) at stands) put)
 
--- from the sync on
-pub begins : {S : Type 0} (disk : S → Disk) (keys : Keys) (g : ℕ) (old mid new : S) (r : Result (Unit {0}) SetErr) → Notes (event.Sync ∷ []) (disk old).seen (disk mid).seen → Passes Same (disk old) (disk mid) → Keeps (disk old) (disk mid) → ((disk old).tells → IsSynced (disk mid))
+-- from the sync on, and how many stages it has
+pub begins : {S : Type 0} (disk : S → Disk) (keys : Keys) (known : Open) (g : ℕ) (old mid new : S) (r : Result (Unit {0}) SetErr) → ((disk old).tells → GatesAre known 1 (disk old).cells) → Notes (event.Sync ∷ []) (disk old).seen (disk mid).seen
+    → Passes Same (disk old) (disk mid) → Keeps (disk old) (disk mid) → ((disk old).tells → IsSynced (disk mid))
     → ((m : ℕ) → g + 1 ≡ m + 1 → (disk mid).tells → IsSynced (disk mid) → StandsAt (tagging keys) 1 (disk mid).cells m → LeavesOnly (disk mid) (disk new) (SetLeaves (tagging keys) 1 (disk mid).cells m (g + 1) r))
-    → BeginsFrom disk keys g old new
-begins disk keys g old mid new r seen until keeps settled set = record {
-  synced = mid;
-  called = sync_first (disk old) (disk mid) seen;
-  until = until;
-  keeps = keeps;
-  settled = settled;
-  since = λ tells stands.
-      subst (λ n. LeavesOnly (disk mid) (disk new) (OldOrNew (tagging keys) 1 (disk mid).cells g n)) (add-one g)
-      (leaves_either (tagging keys) 1 g (g + 1) (disk mid).cells (disk mid) (disk new) r
-      (set g refl (keeps.tells tells) (settled tells) (stands_again (tagging keys) 1 g (disk mid).cells (disk old).cells (keeps.cells tells) stands)));
+    → (moments : SetMoments disk (tagging keys) (is_closed_first known (place_of (g + 1))) 1 (g + 1) mid new r) → (from : BeginsFrom disk keys g old new) × (from.ends ≡ (moments.stages).ends) × (from.synced ≡ mid)
+begins disk keys known g old mid new r gates seen until keeps settled set moments = (
+  record {
+    synced = mid;
+    called = sync_first (disk old) (disk mid) seen;
+    until = until;
+    keeps = keeps;
+    settled = settled;
+    since = λ tells stands.
+        subst (λ n. LeavesOnly (disk mid) (disk new) (OldOrNew (tagging keys) 1 (disk mid).cells g n)) (add-one g)
+        (leaves_either (tagging keys) 1 g (g + 1) (disk mid).cells (disk mid) (disk new) r
+        (set g refl (keeps.tells tells) (settled tells) (stands_again (tagging keys) 1 g (disk mid).cells (disk old).cells (keeps.cells tells) stands)));
+    ends = (moments.stages).ends;
+    stages = stages_known disk keys known g old mid new gates keeps settled (moments.stages).ends (few_set r (length (moments.stages).ends) (moments.stages).many) (moments.stages).spans;
+  },
+  refl,
+  refl,
+)
+
+-- done
+pub begun : {S : Type 0} (disk : S → Disk) (keys : Keys) (known : Open) (g : ℕ) (old mid new : S) → ((disk old).tells → GatesAre known 1 (disk old).cells) → Keeps (disk old) (disk mid) → ((disk old).tells → IsSynced (disk mid))
+    → (from : BeginsFrom disk keys g old new) → length from.ends ≡ 3 → from.synced ≡ mid → ((image : Image) → (disk new).left_since (disk new).moment image → (disk new).may_leave image) → ((disk old).tells → IsSynced (disk new))
+    → Notes (events_of (set_notes (is_closed_first known (place_of (g + 1))) 1 (g + 1))) (disk mid).seen (disk new).seen → ((disk old).tells → IsSyncedLeft keys (suc g) (disk old).cells 0 (disk new).cells) → IsBegun disk keys g old new from
+begun disk keys known g old mid new gates keeps settled from many synced only durable made set = record {
+  three = many;
+  behind = subst (λ s. WhereStood keys g (disk old) (λ closes. IsBeginStage disk keys closes (suc g) s 3 (new, new))) (sym synced) (behind_known disk keys known g old mid new gates keeps settled only durable made set);
 }

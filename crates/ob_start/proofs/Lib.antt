@@ -7,3 +7,4 @@ pub mod InClear
 pub mod Shutting
 pub mod Clearing
 pub mod Stops
+pub mod Moments

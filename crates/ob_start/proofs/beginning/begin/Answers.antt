@@ -1,4 +1,4 @@
-use Rattle.std.proofs.Common.{suc, inl, inr, None, refl, Ok, arith, Err, add-one, subst, sym, ◌+◌, ◌∙◌}
+use Rattle.std.proofs.Common.{suc, inl, inr, None, refl, Ok, arith, Err, add-one, ap, length, subst, sym, ◌+◌, ◌∙◌}
 use Rattle.ob_start.specs.Beginning.{BeginStops, IsSyncedLeft}
 use Rattle.ob_start.proofs.Stops.{set_leaves, set_stops, sync_stops}
 use Rattle.ob_base.specs.declared.fault.Fault.TheVariants.{StoreFault}
@@ -13,7 +13,7 @@ use Rattle.ob_twin.specs.Orders.{set_notes}
 use Rattle.ob_twin.proofs.Clear.{both_clear, clear_but, none_clear, set_clear}
 use Rattle.ob_store.proofs.Lanes.{first_none}
 use Rattle.ob_start.specs.Orders.{begin_notes}
-use Rattle.ob_start.proofs.Beginnings.{still, begin_does, next_number, next_stands, begins}
+use Rattle.ob_start.proofs.Beginnings.{still, begin_does, begun, next_number, next_stands, begins}
 use Rattle.ob_store.specs.Calls.{IsFailed, IsStoreFault}
 use Rattle.ob_store.proofs.Serving.{serves_err, serves_ok, serves_then}
 use Rattle.ob_store.proofs.Keeping.{serves_none}
@@ -53,12 +53,6 @@ returns-in-Ok-set-clause-stands g c = λ tells stands.
     next_stands (tagging c.args.sealer.now.keys) c.args.generation (g.S.Store.disk c.args.store.now).cells (g.S.Store.disk c.sync_noted.new.store).cells (g.S.Store.disk c.set.new.store).cells
     (omega arith) (keeps.cells tells) stands (c.in-Ok-set.ensures.done (keeps.tells tells))
 
-pub returns-in-Ok-set-clause-leaves : goal.returns-in-Ok-set-clause-leaves
-returns-in-Ok-set-clause-leaves g c =
-    let e = c.sync_noted.ensures in
-    begins g.S.Store.disk c.args.sealer.now.keys c.args.generation c.args.store.now c.sync_noted.new.store c.set.new.store c.set.result c.in-Ok.ensures.told.seen
-    (still (g.S.Store.disk c.args.store.now) (g.S.Store.disk c.sync_noted.new.store) e.serves.goes e.time e.crash e.keeps) e.keeps c.in-Ok.ensures.durable c.set.ensures.old_or_new
-
 pub returns-in-Err-set-clause-does : goal.returns-in-Err-set-clause-does
 returns-in-Err-set-clause-does g c =
     let known = c.args.gates.now.generation in
@@ -69,8 +63,8 @@ returns-in-Err-set-clause-does g c =
 pub returns-in-Err-set-clause-leaves : goal.returns-in-Err-set-clause-leaves
 returns-in-Err-set-clause-leaves g c =
     let e = c.sync_noted.ensures in
-    inr (begins g.S.Store.disk c.args.sealer.now.keys c.args.generation c.args.store.now c.sync_noted.new.store c.set.new.store c.set.result c.in-Ok.ensures.told.seen
-    (still (g.S.Store.disk c.args.store.now) (g.S.Store.disk c.sync_noted.new.store) e.serves.goes e.time e.crash e.keeps) e.keeps c.in-Ok.ensures.durable c.set.ensures.old_or_new)
+    inr (begins g.S.Store.disk c.args.sealer.now.keys c.args.gates.now.generation c.args.generation c.args.store.now c.sync_noted.new.store c.set.new.store c.set.result c.requires.told c.in-Ok.ensures.told.seen
+    (still (g.S.Store.disk c.args.store.now) (g.S.Store.disk c.sync_noted.new.store) e.serves.goes e.time e.crash e.keeps) e.keeps c.in-Ok.ensures.durable c.set.ensures.old_or_new c.set.ensures.moments).0
 
 -- ---- what each of them says of the store
 
@@ -162,3 +156,15 @@ returns-in-Err-set-clause-stops g c =
     subst (λ n. BeginStops keys known n old new k m (Err (StoreFault None))) (add-one c.args.generation)
     (set_stops keys known (c.args.generation + 1) old new mid k l m c.in-Ok.ensures.told c.sync_noted.ensures.keeps c.in-Ok.ensures.durable c.set.ensures.passes c.in-Err-set.field-0 c.in-Err-set.ensures.does c.in-Err-set.ensures.stops
     (λ image left m is told settled stands. (c.in-Err-set.ensures.old_or_new m (is ∙ sym (add-one m)) told settled stands).each image (g.met.S.Store.counts_now c.set.new.store mid.moment image c.set.ensures.serves.goes.later left)))
+
+-- ---- from its first sync on
+
+pub returns-in-Ok-set-clause-leaves : goal.returns-in-Ok-set-clause-leaves
+returns-in-Ok-set-clause-leaves g c =
+    let e = c.sync_noted.ensures in
+    let from = begins g.S.Store.disk c.args.sealer.now.keys c.args.gates.now.generation c.args.generation c.args.store.now c.sync_noted.new.store c.set.new.store (Ok tt) c.requires.told c.in-Ok.ensures.told.seen
+    (still (g.S.Store.disk c.args.store.now) (g.S.Store.disk c.sync_noted.new.store) e.serves.goes e.time e.crash e.keeps) e.keeps c.in-Ok.ensures.durable c.in-Ok-set.ensures.old_or_new c.in-Ok-set.ensures.moments in (
+      from.0,
+      begun g.S.Store.disk c.args.sealer.now.keys c.args.gates.now.generation c.args.generation c.args.store.now c.sync_noted.new.store c.set.new.store c.requires.told e.keeps c.in-Ok.ensures.durable from.0
+          (ap length from.1 ∙ c.in-Ok-set.ensures.moments.stages.many) from.2 (g.met.S.Store.only_now c.set.new.store) (λ tells. c.in-Ok-set.ensures.durable (e.keeps.tells tells)) c.in-Ok-set.ensures.does.seen (returns-in-Ok-set-clause-stops g c),
+    )
