@@ -1,5 +1,5 @@
 -- What stands behind what was found: the planner, the register, the images.
-use Rattle.std.proofs.Common.{◌≡◌, inl, inr, ⊎_elim, ℕ, suc, ◌*◌, ◌%◌, ◌+◌, List, ◌∷◌, ◌++◌, Option, Result, Err, sym, ◌∙◌, ap, subst, arith}
+use Rattle.std.proofs.Common.{◌≡◌, inl, inr, ⊎_elim, ℕ, suc, ◌*◌, ◌%◌, ◌+◌, Bool, List, [], ◌∷◌, ◌++◌, length, Option, Result, Err, sym, ◌∙◌, ap, subst, arith}
 use Rattle.std.proofs.lemmas.List.{map-append}
 use mathlib.Core.Path.{fun_ext}
 use Rattle.ob_base.specs.declared.params.Params.{Params}
@@ -19,11 +19,15 @@ use Rattle.ob_store.proofs.Events.{joined}
 use Rattle.ob_store.proofs.Moments.{then_on, weakened}
 use Rattle.ob_seal.specs.declared.keys.Keys.{Keys}
 use Rattle.ob_twin.specs.Keyed.{tagging}
-use Rattle.ob_twin.specs.Register.{KeepsAt, OldOrNew, StandsAt}
+use Rattle.ob_twin.specs.Opening.{is_closed_first}
+use Rattle.ob_twin.specs.Register.{KeepsAt, OldOrNew, StandsAt, place_of}
+use Rattle.ob_twin.specs.Stages.{AreSpans}
+use Rattle.ob_twin.proofs.Stages.{spans_more}
 use Rattle.ob_check.specs.Written.{area_of}
-use Rattle.ob_start.specs.Beginning.{BeginsFrom, ReadsThenSync}
+use Rattle.ob_start.specs.Beginning.{BeginsFrom, IsBeginStage, IsBegun, IsSyncedLeft, ReadsThenSync}
 use Rattle.ob_start.specs.Orders.{registers_notes}
 use Rattle.ob_start.proofs.Early.{AreRead, noted_reads, reads_called}
+use Rattle.ob_start.proofs.Moments.{stood_before}
 use Rattle.ob_tables.specs.Content.{content_of}
 use Rattle.ob_ring.specs.Ring.{Kept}
 use Rattle.ob_stand.specs.Stands.{OneOf, RingStanding, Stands, with_generation}
@@ -33,7 +37,7 @@ use Rattle.ob_recover.specs.declared.found.Found.{Found}
 use Rattle.ob_recover.specs.Finds.{IsFoundInRing, ObeysFound, finding_notes}
 use Rattle.ob_recover.specs.Repeats.{IsPlannerOf, IsReplayed}
 use Rattle.ob_recover.proofs.FindLaws.{keeps_both, number_found, reads_both}
-use Rattle.ob_opening.specs.OpeningRuns.{BeginsAt, BeginsFirst, OpensFrom, RepeatsBehind}
+use Rattle.ob_opening.specs.OpeningRuns.{BeginsAt, BeginsFirst, BeginsInStages, OpensFrom, RepeatsBehind}
 use Rattle.ob_opening.proofs.Movings.{kept_in, leaves_on}
 
 -- ---- the planner
@@ -87,8 +91,9 @@ finding_read p epoch a b seen =
 module _ {S : Type 0} (disk : S → Disk) (keys : Keys) (p : Params) where
   -- the register says it all
   opens_by : (old synced new : S) → ReadsThenSync (disk old) (disk synced) → Passes Same (disk old) (disk synced) → Keeps (disk old) (disk synced) → ((disk old).tells → IsSynced (disk synced))
-      → ((g : ℕ) → (disk old).tells → StandsAt (tagging keys) 1 (disk old).cells g → LeavesOnly (disk synced) (disk new) (OldOrNew (tagging keys) 1 (disk synced).cells g (suc g))) → OpensFrom disk keys p old new
-  opens_by old synced new called until keeps settled register = record {
+      → ((g : ℕ) → (disk old).tells → StandsAt (tagging keys) 1 (disk old).cells g → LeavesOnly (disk synced) (disk new) (OldOrNew (tagging keys) 1 (disk synced).cells g (suc g))) → ((disk old).tells → BeginsInStages disk keys p old synced new)
+      → OpensFrom disk keys p old new
+  opens_by old synced new called until keeps settled register in_stages = record {
     synced = synced;
     called = called;
     until = until;
@@ -99,38 +104,85 @@ module _ {S : Type 0} (disk : S → Disk) (keys : Keys) (p : Params) where
         weakened (disk synced) (disk new) (OldOrNew (tagging keys) 1 (disk synced).cells s.generation (suc s.generation)) (OneOf keys p s (with_generation s (suc s.generation)))
         (one_of keys p s (disk synced).cells (stands_all keys p s (disk synced).cells (disk old).cells (keeps.cells tells) stands))
         (register s.generation tells stands.generation);
+    in_stages = in_stages;
   }
 
-  -- a begin
-  pub begun_opens : (g : ℕ) (old new : S) → ((h : ℕ) → (disk old).tells → StandsAt (tagging keys) 1 (disk old).cells h → g ≡ h) → BeginsFrom disk keys g old new → OpensFrom disk keys p old new
-  begun_opens g old new number b = opens_by old b.synced new b.called b.until b.keeps b.settled (λ h tells stands.
-      subst (λ n. LeavesOnly (disk b.synced) (disk new) (OldOrNew (tagging keys) 1 (disk b.synced).cells n (suc n))) (number h tells stands)
-      (b.since tells (subst (λ n. StandsAt (tagging keys) 1 (disk old).cells n) (sym (number h tells stands)) stands)))
+  module _ (found : Found) (old : S) (is : (disk old).tells → IsFoundInRing keys p (disk old).cells found) where
+    number : (h : ℕ) → (disk old).tells → StandsAt (tagging keys) 1 (disk old).cells h → found.generation ≡ h
+    number h tells stands = generation_is keys p (disk old).cells found h (is tells) stands
 
-  -- and then reads, of a store that was settled with the next generation
-  pub opens_then : (old mid new : S) → OpensFrom disk keys p old mid → ((c : Image) → (disk mid).left_since (disk mid).moment c → (disk mid).may_leave c) → Passes Same (disk mid) (disk new) → ((disk old).tells → IsSynced (disk mid))
-      → ((g : ℕ) → (disk old).tells → StandsAt (tagging keys) 1 (disk old).cells g → KeepsAt (tagging keys) 1 (disk old).cells (suc g) (disk mid).cells) → OpensFrom disk keys p old new
-  opens_then old mid new o only reads durable kept = opens_by old o.synced new o.called o.until o.keeps o.settled (λ g tells stands.
-      let P : Image → Type 0 = OldOrNew (tagging keys) 1 (disk o.synced).cells g (suc g) in
-      let now = kept g tells stands in
-      let here : KeepsAt (tagging keys) 1 (disk o.synced).cells (suc g) (disk mid).cells = record { stands = now.stands; rest = λ k off. now.rest k off ∙ sym (o.keeps.cells tells k) } in
-      then_on (disk o.synced) (disk mid) (disk new) P (o.register g tells stands)
-      (leaves_on (disk mid) (disk new) P only reads (λ c left. inr (kept_in keys (disk mid) (disk o.synced).cells (suc g) (durable tells) here c left)) (λ told. inr here)))
+    -- a begin
+    pub begun_opens : (new : S) → BeginsFrom disk keys found.generation old new → OpensFrom disk keys p old new
+    begun_opens new b = opens_by old b.synced new b.called b.until b.keeps b.settled
+        (λ h tells stands.
+        subst (λ n. LeavesOnly (disk b.synced) (disk new) (OldOrNew (tagging keys) 1 (disk b.synced).cells n (suc n))) (number h tells stands)
+        (b.since tells (subst (λ n. StandsAt (tagging keys) 1 (disk old).cells n) (sym (number h tells stands)) stands)))
+        (λ tells. record { found = found; found_in = is tells; ends = b.ends; stages = λ stands. b.stages tells stands found.gates.generation (is tells).generation_gates })
+
+    -- and then reads, of a store that was settled with the next generation
+    module _ (mid new : S) (b : BeginsFrom disk keys found.generation old mid) (whole : IsBegun disk keys found.generation old mid b) (only : (c : Image) → (disk mid).left_since (disk mid).moment c → (disk mid).may_leave c)
+        (counts : (c : Image) → (disk mid).may_leave c → (disk mid).left_since (disk mid).moment c) (reads : Passes Same (disk mid) (disk new)) where
+      abbrev closes : Bool
+      closes = is_closed_first found.gates.generation (place_of (suc found.generation))
+
+      abbrev Stage : ℕ → S × S → Type 0
+      Stage stage x = IsBeginStage disk keys closes (suc found.generation) b.synced stage x
+
+      -- the images are those that were left before
+      repeats_stage : Stage 3 (mid, mid) → Stage 3 (mid, new)
+      repeats_stage last = record {
+        made = last.made;
+        left = λ lacking is image since.
+            ⊎_elim
+            (λ before. last.left lacking is image before)
+            (λ now. let (d, may, same) = now in subst (λ (i : Image). IsSyncedLeft keys (suc found.generation) (disk b.synced).cells lacking i) (sym same) (last.left lacking is d (counts d may)))
+            (reads.since (disk mid).moment image (λ part. omega arith) since);
+      }
+
+      all_stages : (disk old).tells → StandsAt (tagging keys) 1 (disk old).cells found.generation → AreSpans Stage 0 b.synced (b.ends ++ new ∷ []) new
+      all_stages tells stands =
+          let known = (is tells).generation_gates in
+          let at : 3 ≡ 0 + length b.ends = (let three = whole.three in omega (arith, three)) in
+          spans_more Stage 0 b.synced b.ends mid new (b.stages tells stands found.gates.generation known)
+          (subst (λ (n : ℕ). Stage n (mid, new)) at (repeats_stage (whole.behind tells stands found.gates.generation known)))
+
+      pub opens_then : ((disk old).tells → IsSynced (disk mid)) → ((g : ℕ) → (disk old).tells → StandsAt (tagging keys) 1 (disk old).cells g → KeepsAt (tagging keys) 1 (disk old).cells (suc g) (disk mid).cells) → OpensFrom disk keys p old new
+      unfolding begun_opens opens_by
+      opens_then durable kept =
+          let o : OpensFrom disk keys p old mid = begun_opens mid b in
+          opens_by old o.synced new o.called o.until o.keeps o.settled
+          (λ g tells stands.
+          let P : Image → Type 0 = OldOrNew (tagging keys) 1 (disk o.synced).cells g (suc g) in
+          let now = kept g tells stands in
+          let here : KeepsAt (tagging keys) 1 (disk o.synced).cells (suc g) (disk mid).cells = record { stands = now.stands; rest = λ k off. now.rest k off ∙ sym (o.keeps.cells tells k) } in
+          then_on (disk o.synced) (disk mid) (disk new) P (o.register g tells stands)
+          (leaves_on (disk mid) (disk new) P only reads (λ c left. inr (kept_in keys (disk mid) (disk o.synced).cells (suc g) (durable tells) here c left)) (λ told. inr here)))
+          (λ tells. record { found = found; found_in = is tells; ends = b.ends ++ new ∷ []; stages = λ stands. all_stages tells stands })
 
   -- reads before it
+  stages_behind : (old mid synced new : S) → Keeps (disk old) (disk mid) → (disk old).tells → BeginsInStages disk keys p mid synced new → BeginsInStages disk keys p old synced new
+  stages_behind old mid synced new keeps tells s = record {
+    found = s.found;
+    found_in = found_same keys p s.found (disk mid).cells (disk old).cells (λ k. sym (keeps.cells tells k)) s.found_in;
+    ends = s.ends;
+    stages = λ stands. s.stages (register_same keys s.found.generation (disk old).cells (disk mid).cells (keeps.cells tells) stands);
+  }
+
   pub opens_behind : (old mid new : S) → AreRead (disk old).seen (disk mid).seen → Passes Same (disk old) (disk mid) → Keeps (disk old) (disk mid) → OpensFrom disk keys p mid new → OpensFrom disk keys p old new
   opens_behind old mid new read passes keeps o = opens_by old o.synced new (reads_called (disk old) (disk mid) (disk o.synced) read o.called) (reads_both (disk old) (disk mid) (disk o.synced) passes o.until) (keeps_both (disk old) (disk mid) (disk o.synced) keeps o.keeps) (λ tells. o.settled (keeps.tells tells))
       (λ g tells stands. o.register g (keeps.tells tells) (register_same keys g (disk old).cells (disk mid).cells (keeps.cells tells) stands))
+      (λ tells. stages_behind old mid o.synced new keeps tells (o.in_stages (keeps.tells tells)))
 
   -- ---- the generation, made sure of
 
-  pub begins_then : (steps : List Note) (g : ℕ) (old mid new : S) → BeginsFrom disk keys g old mid → ((disk old).tells → IsSynced (disk mid)) → ((disk old).tells → StandsAt (tagging keys) 1 (disk old).cells g → KeepsAt (tagging keys) 1 (disk old).cells (suc g) (disk mid).cells)
+  pub begins_then : (steps : List Note) (g : ℕ) (old mid new : S) (from : BeginsFrom disk keys g old mid) → IsBegun disk keys g old mid from → ((disk old).tells → IsSynced (disk mid)) → ((disk old).tells → StandsAt (tagging keys) 1 (disk old).cells g → KeepsAt (tagging keys) 1 (disk old).cells (suc g) (disk mid).cells)
       → Notes (events_of steps) (disk old).seen (disk mid).seen → GoesOn (disk mid) (disk new) → Keeps (disk mid) (disk new) → Passes Same (disk mid) (disk new) → BeginsAt disk keys steps g old new
-  begins_then steps g old mid new from durable kept seen goes keeps passes = record {
+  begins_then steps g old mid new from whole durable kept seen goes keeps passes = record {
     between = mid;
     sure = λ tells stands c left. (kept_in keys (disk mid) (disk old).cells (suc g) (durable tells) (kept tells stands) c left).stands;
     begun = seen;
     from = from;
+    whole = whole;
     settled = durable;
     cells = kept;
     later = goes;
@@ -150,7 +202,10 @@ module _ {S : Type 0} (disk : S → Disk) (keys : Keys) (p : Params) where
       keeps = keeps_both (disk old) (disk mid) (disk b.from.synced) keeps b.from.keeps;
       settled = λ tells. b.from.settled (keeps.tells tells);
       since = λ tells stands. b.from.since (keeps.tells tells) (register_same keys g (disk old).cells (disk mid).cells (keeps.cells tells) stands);
+      ends = b.from.ends;
+      stages = stood_before keys g (disk old) (disk mid) (λ closes. AreSpans (IsBeginStage disk keys closes (suc g) b.from.synced) 0 b.from.synced b.from.ends b.between) keeps b.from.stages;
     };
+    whole = record { three = b.whole.three; behind = stood_before keys g (disk old) (disk mid) (λ closes. IsBeginStage disk keys closes (suc g) b.from.synced 3 (b.between, b.between)) keeps b.whole.behind };
     settled = λ tells. b.settled (keeps.tells tells);
     cells = λ tells stands.
         let now = b.cells (keeps.tells tells) (register_same keys g (disk old).cells (disk mid).cells (keeps.cells tells) stands) in

@@ -13,8 +13,10 @@ use Rattle.ob_store.specs.Told.{Tells, TellsFirst, events_of}
 use Rattle.ob_seal.specs.declared.keys.Keys.{Keys}
 use Rattle.ob_twin.specs.declared.gates.Gates.{Gates}
 use Rattle.ob_twin.specs.Keyed.{tagging}
-use Rattle.ob_twin.specs.Register.{KeepsAt, OldOrNew, StandsAt}
-use Rattle.ob_start.specs.Beginning.{BeginsFrom, ReadsThenSync}
+use Rattle.ob_twin.specs.Opening.{is_closed_first}
+use Rattle.ob_twin.specs.Register.{KeepsAt, OldOrNew, StandsAt, place_of}
+use Rattle.ob_twin.specs.Stages.{AreSpans}
+use Rattle.ob_start.specs.Beginning.{BeginsFrom, IsBeginStage, IsBegun, ReadsThenSync}
 use Rattle.ob_start.specs.Orders.{begin_notes, registers_notes}
 use Rattle.ob_tables.specs.Content.{content_of}
 use Rattle.ob_stand.specs.Stands.{OneOf, RingStanding, Stands, with_generation}
@@ -88,6 +90,7 @@ pub record BeginsAt {S : Type 0} (disk : S → Disk) (keys : Keys) (steps : List
   pub sure : (disk old).tells → StandsAt (tagging keys) 1 (disk old).cells generation → (c : Image) → (disk between).may_leave c → StandsAt (tagging keys) 1 c (suc generation)
   pub begun : Notes (events_of steps) (disk old).seen (disk between).seen
   pub from : BeginsFrom disk keys generation old between
+  pub whole : IsBegun disk keys generation old between from
   pub settled : (disk old).tells → IsSynced (disk between)
   pub cells : (disk old).tells → StandsAt (tagging keys) 1 (disk old).cells generation → KeepsAt (tagging keys) 1 (disk old).cells (suc generation) (disk between).cells
   pub later : GoesOn (disk between) (disk new)
@@ -122,9 +125,18 @@ RefusedWrites disk keys p old new tape_old tape_new present drawn _ = IsReadAlon
 
 -- ---- what a crash leaves
 
+-- This was found, and from that store on, where the first sync had succeeded, the opening came in the stages in which the generation behind it begins;
+-- and then, if it came so far, in the one in which batches are shown again.
+pub record BeginsInStages {S : Type 0} (disk : S → Disk) (keys : Keys) (p : Params) (old synced new : S) : Type 0 where
+  pub found : Found
+  pub found_in : IsFoundInRing keys p (disk old).cells found
+  pub ends : List S
+  pub stages : StandsAt (tagging keys) 1 (disk old).cells found.generation
+      → AreSpans (IsBeginStage disk keys (is_closed_first (found.gates).generation (place_of (suc found.generation))) (suc found.generation) synced) 0 synced ends new
+
 -- The first sync succeeded, and the store was this one then: no write waited, and up to it only reads were called for. Until then a crash
--- leaves what it might have left before; from then on the register stands at the old generation or the next one, and an image stands for
--- what was read, at one of the two.
+-- leaves what it might have left before; from then on the register stands at the old generation or the next one, by its stages, and an image
+-- stands for what was read, at one of the two.
 pub record OpensFrom {S : Type 0} (disk : S → Disk) (keys : Keys) (p : Params) (old new : S) : Type 0 where
   pub synced : S
   pub called : ReadsThenSync (disk old) (disk synced)
@@ -133,6 +145,7 @@ pub record OpensFrom {S : Type 0} (disk : S → Disk) (keys : Keys) (p : Params)
   pub settled : (disk old).tells → IsSynced (disk synced)
   pub register : (g : ℕ) → (disk old).tells → StandsAt (tagging keys) 1 (disk old).cells g → LeavesOnly (disk synced) (disk new) (OldOrNew (tagging keys) 1 (disk synced).cells g (suc g))
   pub since : (s : RingStanding) → (disk old).tells → Stands keys p s (disk old).cells → LeavesOnly (disk synced) (disk new) (OneOf keys p s (with_generation s (suc s.generation)))
+  pub in_stages : (disk old).tells → BeginsInStages disk keys p old synced new
 
 -- a refused one may have left all images as they were
 abbrev pub OpeningLeaves : {S L : Type 0} → (S → Disk) → Keys → Params → S → S → Result (Opening L) Fault → Type 0

@@ -2,7 +2,7 @@ use Rattle.std.proofs.Common.{◌≡◌, ◌<◌, ◌≤◌, ◌^◌, ℕ, suc, 
 use Rattle.ob_base.specs.Planned.{most_jobs}
 use Rattle.ob_cells.specs.Jobs.{Manned}
 use Rattle.ob_seal.specs.Sealing.{Sealing}
-use Rattle.ob_start.specs.Beginning.{BeginLeaves, BeginStops, BeginsFrom, IsSyncedLeft}
+use Rattle.ob_start.specs.Beginning.{BeginLeaves, BeginStops, BeginsFrom, IsBegun, IsSyncedLeft}
 use Rattle.ob_store.specs.Calls.{IsStoreFault}
 use Rattle.ob_store.proofs.Serving.{goes_then, serves_err, serves_ok, serves_then}
 use Rattle.ob_tables.specs.Content.{content_of}
@@ -38,8 +38,7 @@ returns-in-Err-clause-leaves g c =
     let found = c.args.found in
     let old = c.args.store.now in
     let mid = c.begin.new.store in
-    let number : (h : ℕ) → (g.S.Store.disk old).tells → StandsAt (tagging keys) 1 (g.S.Store.disk old).cells h → found.generation ≡ h = λ h tells stands. generation_is keys p (g.S.Store.disk old).cells found h (c.requires.gates tells) stands in
-    ⊎_elim (λ still. inl still) (λ begun. inr (begun_opens g.S.Store.disk keys p found.generation old mid number begun))
+    ⊎_elim (λ still. inl still) (λ begun. inr (begun_opens g.S.Store.disk keys p found old c.requires.gates mid begun))
     (subst (λ (s : Sealing). BeginLeaves g.S.Store.disk s.keys found.generation old mid (Err c.in-Err.fault)) c.new-known.ensures c.in-Err.ensures.leaves)
 
 pub returns-in-Err-clause-does : goal.returns-in-Err-clause-does
@@ -81,8 +80,8 @@ returns-in-Err-replay-clause-leaves g c =
     λ tells stands. subst (λ (s : Sealing). KeepsAt (tagging s.keys) 1 (g.S.Store.disk old).cells (suc found.generation) (g.S.Store.disk mid).cells) c.new-known.ensures
     (c.in-Ok.ensures.stands tells (subst (λ (s : Sealing). StandsAt (tagging s.keys) 1 (g.S.Store.disk old).cells found.generation) (sym c.new-known.ensures) stands)) in
     let number : (h : ℕ) → (g.S.Store.disk old).tells → StandsAt (tagging keys) 1 (g.S.Store.disk old).cells h → found.generation ≡ h = λ h tells stands. generation_is keys p (g.S.Store.disk old).cells found h (c.requires.gates tells) stands in
-    let begun = subst (λ (s : Sealing). BeginsFrom g.S.Store.disk s.keys found.generation old mid) c.new-known.ensures c.in-Ok.ensures.leaves in
-    inr (opens_then g.S.Store.disk keys p old mid new (begun_opens g.S.Store.disk keys p found.generation old mid number begun) (g.met.S.Store.only_now mid) c.in-Err-replay.ensures.passes c.in-Ok.ensures.durable
+    let begun = subst (λ (s : Sealing). (from : BeginsFrom g.S.Store.disk s.keys found.generation old mid) × IsBegun g.S.Store.disk s.keys found.generation old mid from) c.new-known.ensures c.in-Ok.ensures.leaves in
+    inr (opens_then g.S.Store.disk keys p found old c.requires.gates mid new begun.0 begun.1 (g.met.S.Store.only_now mid) (λ image left. g.met.S.Store.counts_now mid (g.S.Store.disk mid).moment image (λ part. omega arith) left) c.in-Err-replay.ensures.passes c.in-Ok.ensures.durable
     (λ h tells stands.
     let at = number h tells stands in
     subst (λ n. KeepsAt (tagging keys) 1 (g.S.Store.disk old).cells (suc n) (g.S.Store.disk mid).cells) at (kept tells (subst (λ n. StandsAt (tagging keys) 1 (g.S.Store.disk old).cells n) (sym at) stands))))
@@ -99,10 +98,10 @@ returns-in-Err-replay-clause-begins_err g c =
     λ tells stands. subst (λ (s : Sealing). KeepsAt (tagging s.keys) 1 (g.S.Store.disk old).cells (suc found.generation) (g.S.Store.disk mid).cells) c.new-known.ensures
     (c.in-Ok.ensures.stands tells (subst (λ (s : Sealing). StandsAt (tagging s.keys) 1 (g.S.Store.disk old).cells found.generation) (sym c.new-known.ensures) stands)) in
     let number : (h : ℕ) → (g.S.Store.disk old).tells → StandsAt (tagging keys) 1 (g.S.Store.disk old).cells h → found.generation ≡ h = λ h tells stands. generation_is keys p (g.S.Store.disk old).cells found h (c.requires.gates tells) stands in
-    let begun = subst (λ (s : Sealing). BeginsFrom g.S.Store.disk s.keys found.generation old mid) c.new-known.ensures c.in-Ok.ensures.leaves in
+    let begun = subst (λ (s : Sealing). (from : BeginsFrom g.S.Store.disk s.keys found.generation old mid) × IsBegun g.S.Store.disk s.keys found.generation old mid from) c.new-known.ensures c.in-Ok.ensures.leaves in
     inr (record {
-      begins = begins_then g.S.Store.disk keys p (next_notes found) found.generation old mid new begun c.in-Ok.ensures.durable kept c.in-Ok.ensures.does.all.seen c.in-Err-replay.ensures.serves.goes c.in-Err-replay.ensures.keeps c.in-Err-replay.ensures.passes;
-      opens = opens_then g.S.Store.disk keys p old mid new (begun_opens g.S.Store.disk keys p found.generation old mid number begun) (g.met.S.Store.only_now mid) c.in-Err-replay.ensures.passes c.in-Ok.ensures.durable
+      begins = begins_then g.S.Store.disk keys p (next_notes found) found.generation old mid new begun.0 begun.1 c.in-Ok.ensures.durable kept c.in-Ok.ensures.does.all.seen c.in-Err-replay.ensures.serves.goes c.in-Err-replay.ensures.keeps c.in-Err-replay.ensures.passes;
+      opens = opens_then g.S.Store.disk keys p found old c.requires.gates mid new begun.0 begun.1 (g.met.S.Store.only_now mid) (λ image left. g.met.S.Store.counts_now mid (g.S.Store.disk mid).moment image (λ part. omega arith) left) c.in-Err-replay.ensures.passes c.in-Ok.ensures.durable
           (λ h tells stands.
           let at = number h tells stands in
           subst (λ n. KeepsAt (tagging keys) 1 (g.S.Store.disk old).cells (suc n) (g.S.Store.disk mid).cells) at (kept tells (subst (λ n. StandsAt (tagging keys) 1 (g.S.Store.disk old).cells n) (sym at) stands)));
@@ -151,8 +150,8 @@ returns-clause-leaves g c =
     λ tells stands. subst (λ (s : Sealing). KeepsAt (tagging s.keys) 1 (g.S.Store.disk old).cells (suc found.generation) (g.S.Store.disk mid).cells) c.new-known.ensures
     (c.in-Ok.ensures.stands tells (subst (λ (s : Sealing). StandsAt (tagging s.keys) 1 (g.S.Store.disk old).cells found.generation) (sym c.new-known.ensures) stands)) in
     let number : (h : ℕ) → (g.S.Store.disk old).tells → StandsAt (tagging keys) 1 (g.S.Store.disk old).cells h → found.generation ≡ h = λ h tells stands. generation_is keys p (g.S.Store.disk old).cells found h (c.requires.gates tells) stands in
-    let begun = subst (λ (s : Sealing). BeginsFrom g.S.Store.disk s.keys found.generation old mid) c.new-known.ensures c.in-Ok.ensures.leaves in
-    (opens_then g.S.Store.disk keys p old mid new (begun_opens g.S.Store.disk keys p found.generation old mid number begun) (g.met.S.Store.only_now mid) c.in-Ok-replay.ensures.passes c.in-Ok.ensures.durable
+    let begun = subst (λ (s : Sealing). (from : BeginsFrom g.S.Store.disk s.keys found.generation old mid) × IsBegun g.S.Store.disk s.keys found.generation old mid from) c.new-known.ensures c.in-Ok.ensures.leaves in
+    (opens_then g.S.Store.disk keys p found old c.requires.gates mid new begun.0 begun.1 (g.met.S.Store.only_now mid) (λ image left. g.met.S.Store.counts_now mid (g.S.Store.disk mid).moment image (λ part. omega arith) left) c.in-Ok-replay.ensures.passes c.in-Ok.ensures.durable
     (λ h tells stands.
     let at = number h tells stands in
     subst (λ n. KeepsAt (tagging keys) 1 (g.S.Store.disk old).cells (suc n) (g.S.Store.disk mid).cells) at (kept tells (subst (λ n. StandsAt (tagging keys) 1 (g.S.Store.disk old).cells n) (sym at) stands))))
@@ -168,7 +167,8 @@ returns-clause-begins g c =
     let kept : (g.S.Store.disk old).tells → StandsAt (tagging keys) 1 (g.S.Store.disk old).cells found.generation → KeepsAt (tagging keys) 1 (g.S.Store.disk old).cells (suc found.generation) (g.S.Store.disk mid).cells =
     λ tells stands. subst (λ (s : Sealing). KeepsAt (tagging s.keys) 1 (g.S.Store.disk old).cells (suc found.generation) (g.S.Store.disk mid).cells) c.new-known.ensures
     (c.in-Ok.ensures.stands tells (subst (λ (s : Sealing). StandsAt (tagging s.keys) 1 (g.S.Store.disk old).cells found.generation) (sym c.new-known.ensures) stands)) in
-    begins_then g.S.Store.disk keys p (next_notes found) found.generation old mid new (subst (λ (s : Sealing). BeginsFrom g.S.Store.disk s.keys found.generation old mid) c.new-known.ensures c.in-Ok.ensures.leaves) c.in-Ok.ensures.durable kept
+    let begun = subst (λ (s : Sealing). (from : BeginsFrom g.S.Store.disk s.keys found.generation old mid) × IsBegun g.S.Store.disk s.keys found.generation old mid from) c.new-known.ensures c.in-Ok.ensures.leaves in
+    begins_then g.S.Store.disk keys p (next_notes found) found.generation old mid new begun.0 begun.1 c.in-Ok.ensures.durable kept
     c.in-Ok.ensures.does.all.seen c.in-Ok-replay.ensures.serves.goes c.in-Ok-replay.ensures.keeps c.in-Ok-replay.ensures.passes
 
 pub returns-clause-tape : goal.returns-clause-tape
