@@ -17,7 +17,9 @@ use Rattle.ob_store.proofs.Lanes.{first_none}
 use Rattle.ob_serial.specs.Vaults.{Standing}
 use Rattle.ob_start.specs.Orders.{registers_notes}
 use Rattle.ob_start.proofs.Early.{AreRead, reads_called}
-use Rattle.ob_start.specs.Beginning.{BeginsFrom, BeginLeaves, IsBeginFault, IsWornFault}
+use Rattle.ob_start.specs.Beginning.{BeginsFrom, BeginLeaves, IsBeginFault, IsBeginStage, IsWornFault}
+use Rattle.ob_start.proofs.Moments.{stood_before}
+use Rattle.ob_twin.specs.Stages.{AreSpans}
 use Rattle.ob_flat.specs.Orders.{found_notes}
 use Rattle.ob_flat.specs.declared.opening.Opening.{Opening}
 use Rattle.ob_flat.specs.Openings.{OpensFrom, BeginsNext, ReadsAlone, IsOpening}
@@ -96,7 +98,7 @@ module _ {S : Type 0} (disk : S → Disk) (keys : Keys) (p : Params) (at : Stand
       (subst (λ n. LeavesOnly (disk b.synced) (disk new) (OldOrNew (tagging keys) 1 (disk b.synced).cells g n)) (sym (add-one g)) (b.since tells stands.begun))
 
   pub begin_before : (r : Result ℕ Fault) → BeginLeaves disk keys g old new r → LeavesOnly (disk old) (disk new) (StandsAsBefore keys p (disk old))
-  begin_before (Ok next) leaves = from_sync leaves
+  begin_before (Ok next) leaves = from_sync leaves.0
   begin_before (Err refused) leaves = ⊎_elim (λ passes. reads_before keys p (disk old) (disk new) at (g, stands) all only passes) from_sync leaves
 
 pub keeps_both : (a b c : Disk) → Keeps a b → Keeps b c → Keeps a c
@@ -116,6 +118,8 @@ module _ {S : Type 0} (disk : S → Disk) (keys : Keys) (g : ℕ) (old mid new :
     keeps = keeps_both (disk old) (disk mid) (disk b.synced) keeps b.keeps;
     settled = λ tells. b.settled (keeps.tells tells);
     since = λ tells stands. b.since (keeps.tells tells) (register_kept g tells stands);
+    ends = b.ends;
+    stages = stood_before keys g (disk old) (disk mid) (λ closes. AreSpans (IsBeginStage disk keys closes (suc g) b.synced) 0 b.synced b.ends new) keeps b.stages;
   }
 
   pub begins_or_not : Passes Same (disk mid) (disk new) ⊎ BeginsFrom disk keys g mid new

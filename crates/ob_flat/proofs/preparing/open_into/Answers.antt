@@ -236,12 +236,12 @@ returns-clause-opening g c =
           (g.met.S.Store.only_now c.read_values.new.store) c.begin.result c.begin.ensures.leaves);
       since = opens_from g.S.Store.disk sealed_by p numbers.generation c.args.store.now c.read_values.new.store c.begin.new.store read passes keeps
           (λ h at tells stands. number_found sealed_by 1 old.cells h numbers.generation stands.begun (c.in-Ok.ensures.value tells).generation_whole (c.in-Ok.ensures.value tells).generation_counts)
-          begun.leaves;
+          begun.leaves.0;
       register = begins_next g.S.Store.disk sealed_by numbers.generation c.args.store.now c.read_values.new.store c.begin.new.store read passes keeps
           (λ h tells at. number_found sealed_by 1 old.cells h numbers.generation at (c.in-Ok.ensures.value tells).generation_whole (c.in-Ok.ensures.value tells).generation_counts)
           _ (generation_is ∙ begun.next.0)
           (λ tells at. (begun.stands tells at).stands)
-          begun.leaves;
+          begun.leaves.0;
       order =
           let shown_one = g.W.Watch.trace c.read_registers.new.watch in
           let shown_mid = g.W.Watch.trace c.read_values.new.watch in
