@@ -29,7 +29,7 @@ found_live p word_of s pending found allowed (inr one) = subst (λ (acts : List 
 
 -- what an opening of which the generation began leaves until then
 pub opens_of : {S : Type 0} (disk : S → Disk) (keys : Keys) (p : Params) (old new : S) (h : BeginsBehind disk keys p old new) → OpensFrom disk keys p old (h.begins).between
-opens_of disk keys p old new h = begun_opens disk keys p (h.found).generation old (h.begins).between (λ g told stands. generation_is keys p (disk old).cells h.found g (h.found_in told) stands) (h.begins).from
+opens_of disk keys p old new h = begun_opens disk keys p h.found old h.found_in (h.begins).between (h.begins).from
 
 module _ {S : Type 0} (disk : S → Disk) (only_now : (x : S) (c : Image) → (disk x).left_since (disk x).moment c → (disk x).may_leave c) (keys : Keys) (p : Params) (word_of : WordId → ℕ) (s : LifeState) (pending : Option LifeAct) (old : S)
     (tells : (disk old).tells) (left : IsLeftAt keys p word_of s pending (disk old).cells) (all : (c : Image) → (disk old).may_leave c → IsLeftAt keys p word_of s pending c) where
@@ -78,15 +78,16 @@ module _ {S : Type 0} (disk : S → Disk) (only_now : (x : S) (c : Image) → (d
   by_one c (inl was) = inl (here_stands c was)
   by_one c (inr is) = inr (opens, refl, begun_stands c is)
 
+  pub begun_left : (c : Image) → OneOf keys p st next c → IsLeftAt keys p word_of t (Some opens) c
+  begun_left c one = record {
+    allowed = λ y e. subst (λ (z : LifeAct). IsActAllowed p word_of t z) (same_act opens y e) (omega arith);
+    stands = λ i same. by_one i (subst (OneOf keys p st next) same one);
+  }
+
   pub beginning : (a x : S) → LeavesOnly (disk a) (disk x) (OneOf keys p st next) → IsOpeningStage disk keys p word_of s (f.found, Some opens) a x
   beginning a x leaves = record {
     is_life = live;
-    leaves = weakened (disk a) (disk x) (OneOf keys p st next) (IsLeftAt keys p word_of t (Some opens))
-        (λ c one. record {
-          allowed = λ y e. subst (λ (z : LifeAct). IsActAllowed p word_of t z) (same_act opens y e) (omega arith);
-          stands = λ i same. by_one i (subst (OneOf keys p st next) same one);
-        })
-        leaves;
+    leaves = weakened (disk a) (disk x) (OneOf keys p st next) (IsLeftAt keys p word_of t (Some opens)) begun_left leaves;
   }
 
   -- ---- the repeats
@@ -103,15 +104,19 @@ module _ {S : Type 0} (disk : S → Disk) (only_now : (x : S) (c : Image) → (d
       (moved p word_of st.content st.records begun behind (length t.log) there
       (record { table = (f.here.life).table; slots = (f.here.life).slots; homes = (f.here.life).homes; book = (f.here.life).book; kept = (f.here.life).kept; log = (f.here.life).log; words = (f.here.life).words })))
 
+  pub again_live : IsLife p word_of s (f.found ++ opens ∷ repeats)
+  again_live = life_goes_on p word_of s f.found (opens ∷ repeats) live (omega arith, repeats_live p word_of begun (length t.log) (omega arith))
+
+  pub again_left : (c : Image) → Stands keys p next c → IsLeftAt keys p word_of (reached p word_of s (f.found ++ opens ∷ repeats)) None c
+  again_left c stands = record {
+    allowed = λ y e. none_pending (IsActAllowed p word_of (reached p word_of s (f.found ++ opens ∷ repeats)) y) y e;
+    stands = λ i same. inl (behind_stands i (subst (Stands keys p next) same stands));
+  }
+
   repeating : (a x : S) → LeavesOnly (disk a) (disk x) (Stands keys p next) → IsOpeningStage disk keys p word_of s (f.found ++ opens ∷ repeats, None) a x
   repeating a x leaves = record {
-    is_life = life_goes_on p word_of s f.found (opens ∷ repeats) live (omega arith, repeats_live p word_of begun (length t.log) (omega arith));
-    leaves = weakened (disk a) (disk x) (Stands keys p next) (IsLeftAt keys p word_of (reached p word_of s (f.found ++ opens ∷ repeats)) None)
-        (λ c stands. record {
-          allowed = λ y e. none_pending (IsActAllowed p word_of (reached p word_of s (f.found ++ opens ∷ repeats)) y) y e;
-          stands = λ i same. inl (behind_stands i (subst (Stands keys p next) same stands));
-        })
-        leaves;
+    is_life = again_live;
+    leaves = weakened (disk a) (disk x) (Stands keys p next) (IsLeftAt keys p word_of (reached p word_of s (f.found ++ opens ∷ repeats)) None) again_left leaves;
   }
 
   -- ---- by how far it came

@@ -1,7 +1,7 @@
 -- An opening comes in stages behind the head's read; and a run that was cut off in a stage is a part of a row of runs.
 use Rattle.std.specs.Prelude.{◌≡◌, ℕ, suc, List, [], ◌∷◌, ◌++◌, length, Option, Some, None}
 use Rattle.std.specs.Ordering.{nat_cmp}
-use Rattle.std.proofs.Common.{arith, refl, sym, subst, inl, inr}
+use Rattle.std.proofs.Common.{arith, refl, sym, subst, inl, inr, ⊎_elim}
 use Rattle.std.proofs.lemmas.List.{append-nil}
 use Rattle.ob_base.specs.declared.params.Params.{Params}
 use Rattle.ob_fetch.specs.Fetches.{RunIsAt}
@@ -14,7 +14,7 @@ use Rattle.ob_schedule.specs.Schedule.{Fills}
 use Rattle.ob_seal.specs.declared.keys.Keys.{Keys}
 use Rattle.ob_serial.specs.Serial.{Map}
 use Rattle.ob_serial.specs.Vaults.{VaultCall}
-use Rattle.ob_stand.specs.Stands.{RingStanding}
+use Rattle.ob_stand.specs.Stands.{OneOf, RingStanding, Stands, with_generation}
 use Rattle.ob_store.specs.Disk.{Clock, Disk, Image, NotAfter}
 use Rattle.ob_store.specs.Images.{Passes, Same}
 use Rattle.ob_store.specs.declared.event.Event.{Event}
@@ -29,7 +29,7 @@ use Rattle.ob_vault.specs.Seen.{RingPublic}
 use Rattle.ob_vault.specs.Shapes.{Shape}
 use Rattle.ob_vault.specs.Spans.{IsCutIn, IsSeenIn, span}
 use Rattle.ob_vault.specs.Staged.{CutRunsAreTold, IsCalledToSync, IsOpeningCut, RingOpensStaged}
-use Rattle.ob_vault.specs.Stages.{BeginsBehind, HowFar, IsOpeningStage, stages_done}
+use Rattle.ob_vault.specs.Stages.{BeginsBehind, HowFar, stages_done}
 
 module _ {S : Type 0} (disk : S → Disk) (counts_now : (x : S) (t : Clock) (c : Image) → NotAfter t (disk x).moment → (disk x).may_leave c → (disk x).left_since t c) (only_now : (x : S) (c : Image) → (disk x).left_since (disk x).moment c → (disk x).may_leave c) where
   -- ---- an opening
@@ -53,37 +53,37 @@ module _ {S : Type 0} (disk : S → Disk) (counts_now : (x : S) (t : Clock) (c :
       abbrev then : LifeState
       then = reached p word_of s found
 
-      finding : (x : S) → IsOpeningStage disk keys p word_of s ([], pending) read x → IsStoppedInLife keys p word_of s pending (span disk (read, x))
-      finding x stage = record {
+      finding : (a x : S) → ((c : Image) → (disk x).left_since (disk a).moment c → IsLeftAt keys p word_of s pending c) → IsStoppedInLife keys p word_of s pending (span disk (a, x))
+      finding a x each = record {
         found = found;
         finds = (opening.f disk only_now keys p word_of s pending read told read_left read_all).finds;
         made = [];
         in_flight = pending;
         part = inl (refl, refl);
-        is_life = stage.is_life;
-        images = λ c since. (stage.leaves).each c since;
+        is_life = tt;
+        images = each;
       }
 
-      beginning : (a x : S) → IsOpeningStage disk keys p word_of s (found, Some (Open (suc then.generation))) a x → IsStoppedInLife keys p word_of s pending (span disk (a, x))
-      beginning a x stage = record {
+      beginning : (a x : S) → ((c : Image) → (disk x).left_since (disk a).moment c → IsLeftAt keys p word_of then (Some (Open (suc then.generation))) c) → IsStoppedInLife keys p word_of s pending (span disk (a, x))
+      beginning a x each = record {
         found = found;
         finds = (opening.f disk only_now keys p word_of s pending read told read_left read_all).finds;
         made = found;
         in_flight = Some (Open (suc then.generation));
         part = inr (opening_acts then, refl, inr (Open (suc then.generation), repeated (length then.log), refl, refl));
-        is_life = stage.is_life;
-        images = λ c since. (stage.leaves).each c since;
+        is_life = opening.live disk only_now keys p word_of s pending read told read_left read_all;
+        images = each;
       }
 
-      repeating : (a x : S) → IsOpeningStage disk keys p word_of s (found ++ opening_acts then, None) a x → IsStoppedInLife keys p word_of s pending (span disk (a, x))
-      repeating a x stage = record {
+      repeating : (a x : S) → ((c : Image) → (disk x).left_since (disk a).moment c → IsLeftAt keys p word_of (reached p word_of s (found ++ opening_acts then)) None c) → IsStoppedInLife keys p word_of s pending (span disk (a, x))
+      repeating a x each = record {
         found = found;
         finds = (opening.f disk only_now keys p word_of s pending read told read_left read_all).finds;
         made = found ++ opening_acts then;
         in_flight = None;
         part = inr ([], sym (append-nil (found ++ opening_acts then)), inl refl);
-        is_life = stage.is_life;
-        images = λ c since. (stage.leaves).each c since;
+        is_life = opening.again_live disk only_now keys p word_of s pending read told read_left read_all;
+        images = each;
       }
 
     -- what might be left of the store before was left at that moment
@@ -94,25 +94,48 @@ module _ {S : Type 0} (disk : S → Disk) (counts_now : (x : S) (t : Clock) (c :
     abbrev Stops : S × S → Type 0
     Stops x = RingStops keys p (span disk (old, old)) (span disk x)
 
+    -- it only read
     find_stops : (disk old).tells → (x : S) → Passes Same (disk read) (disk x) → Stops (read, x)
     find_stops tells x until word_of s pending left all =
         let every = now_left word_of s pending all in
-        finding word_of s pending tells left every x
-        (opening.finding disk only_now keys p word_of s pending read (told word_of s pending tells left every) (read_left word_of s pending tells left every) (read_all word_of s pending tells left every) x until)
+        finding word_of s pending tells left every read x
+        (λ c since. (opening.finding disk only_now keys p word_of s pending read (told word_of s pending tells left every) (read_left word_of s pending tells left every) (read_all word_of s pending tells left every) x until).leaves.each c since)
 
-    begin_stops : (disk old).tells → (x : S) (o : OpensFrom disk keys p read x) → Stops (o.synced, x)
-    begin_stops tells x o word_of s pending left all =
+    -- also from the head on
+    pub read_stops : (disk old).tells → (x : S) → Passes Same (disk old) (disk x) → Stops (old, x)
+    read_stops tells x until word_of s pending left all =
+        let every = now_left word_of s pending all in
+        finding word_of s pending tells left every old x
+        (λ c since. ⊎_elim (λ before. every c (only_now old c before)) (λ now. subst (λ (i : Image). IsLeftAt keys p word_of s pending i) (sym now.2) (every now.0 now.1)) (until.since (disk old).moment c (λ part. omega arith) since))
+
+    -- each image stood at the old generation or the next one
+    pub stage_stops : (disk old).tells → (a x : S) → ((st : RingStanding) → Stands keys p st (disk read).cells → (c : Image) → (disk x).left_since (disk a).moment c → OneOf keys p st (with_generation st (suc st.generation)) c) → Stops (a, x)
+    stage_stops tells a x one word_of s pending left all =
         let every = now_left word_of s pending all in
         let here = told word_of s pending tells left every in
         let cells = read_left word_of s pending tells left every in
         let each = read_all word_of s pending tells left every in
-        beginning word_of s pending tells left every o.synced x (opening.beginning disk only_now keys p word_of s pending read here cells each o.synced x (opening.synced disk only_now keys p word_of s pending read here cells each new x o))
+        let f = opening.f disk only_now keys p word_of s pending read here cells each in
+        beginning word_of s pending tells left every a x (λ c since. opening.begun_left disk only_now keys p word_of s pending read here cells each c (one f.here.standing f.here.stands c since))
+
+    begin_stops : (disk old).tells → (x : S) (o : OpensFrom disk keys p read x) → Stops (o.synced, x)
+    begin_stops tells x o = stage_stops tells o.synced x (λ st stands c since. (o.since st (head.keeps.tells tells) stands).each c since)
+
+    -- each stood at the next one
+    pub again_stops : (disk old).tells → (a x : S) → ((st : RingStanding) → Stands keys p st (disk read).cells → (c : Image) → (disk x).left_since (disk a).moment c → Stands keys p (with_generation st (suc st.generation)) c) → Stops (a, x)
+    again_stops tells a x next word_of s pending left all =
+        let every = now_left word_of s pending all in
+        let here = told word_of s pending tells left every in
+        let cells = read_left word_of s pending tells left every in
+        let each = read_all word_of s pending tells left every in
+        let f = opening.f disk only_now keys p word_of s pending read here cells each in
+        repeating word_of s pending tells left every a x (λ c since. opening.again_left disk only_now keys p word_of s pending read here cells each c (next f.here.standing f.here.stands c since))
 
     repeat_stops : (disk old).tells → (begins : BeginsBehind disk keys p read new) → Stops ((begins.begins).between, new)
     repeat_stops tells begins word_of s pending left all =
         let every = now_left word_of s pending all in
         repeating word_of s pending tells left every (begins.begins).between new
-        (opening.last_stage disk only_now keys p word_of s pending read (told word_of s pending tells left every) (read_left word_of s pending tells left every) (read_all word_of s pending tells left every) new begins)
+        (λ c since. (opening.last_stage disk only_now keys p word_of s pending read (told word_of s pending tells left every) (read_left word_of s pending tells left every) (read_all word_of s pending tells left every) new begins).leaves.each c since)
 
     -- the stores at the ends of its stages
     abbrev ends_of : HowFar disk keys p read new → List S
