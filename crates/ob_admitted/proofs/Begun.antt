@@ -101,14 +101,14 @@ module _ (keys : Keys) (p : Params) (word_of : WordId → ℕ) (slot : ℕ → �
     reads_are : reads_of_opening p found.epoch ≡ opening_reads p f false x
     reads_are = ap (λ (e : ℕ). reads_of_opening p e) (epoch_is ∙ sym (epoch_at p f s.epoch))
 
-    settled : is_settled p f false x 0 b.count ≡ true
+    pub settled : is_settled p f false x 0 b.count ≡ true
     settled = lt-ltb (length (opening_reads p f false x)) b.count (subst (λ (n : ℕ). n < b.count) (ap (λ (ns : List Note). length ns) reads_are) b.settled)
 
     lacking_is : (lack : ℕ) → length (begun_row p found) - b.count ≡ lack → length (opening_step p f false x) - b.count ≡ lack
     lacking_is lack is = ap (λ (ns : List Note). length ns - b.count) (sym step_is) ∙ is
 
     -- of one that stopped before its repeats
-    short_shows : b.count ≤ length (begun_row p found) → notes ≡ take b.count (opening_step p f false x)
+    pub short_shows : b.count ≤ length (begun_row p found) → notes ≡ take b.count (opening_step p f false x)
     short_shows short = b.notes_are ∙ take_front b.count (begun_row p found) again short ∙ ap (λ (ns : List Note). take b.count ns) step_is
 
   -- ---- its images
@@ -124,7 +124,7 @@ module _ (keys : Keys) (p : Params) (word_of : WordId → ℕ) (slot : ℕ → �
     words = (stands.life).words;
   }
 
-  stands_old : (c : Image) → SameOutside 1 c old.cells → StandsAt (tagging keys) 1 c found.generation → StandsInLife keys p word_of s c
+  pub stands_old : (c : Image) → SameOutside 1 c old.cells → StandsAt (tagging keys) 1 c found.generation → StandsInLife keys p word_of s c
   stands_old c rest number = record {
     standing = st;
     stands = (open_begins keys p st (suc st.generation) c old.cells stands.stands).old (record { stands = subst (λ (n : ℕ). StandsAt (tagging keys) 1 c n) same.generation number; rest = rest });
@@ -166,14 +166,14 @@ module _ (keys : Keys) (p : Params) (word_of : WordId → ℕ) (slot : ℕ → �
 
   -- ---- one that stopped before its repeats
 
-  abbrev run : HistoryRun
+  abbrev pub run : HistoryRun
   run = record { mirrored = false; found = x; steps = 0; shown = b.count }
 
-  abbrev short_run : (f : AllFills) → b.count ≤ length (begun_row p found) → IsRunShown p f s gates notes
+  abbrev pub short_run : (f : AllFills) → b.count ≤ length (begun_row p found) → IsRunShown p f s gates notes
   short_run f short = record { run = run; alone = refl; finds = refl; shows = short_shows f short }
 
   -- what is found behind it where the generation hasn't begun
-  short_finds : (f : AllFills) (lack : ℕ) → length (begun_row p found) - b.count ≡ suc lack → (c : Image) → IsBegunLeft keys found.generation old.cells (suc lack) c → StandsAt (tagging keys) 1 c found.generation → (g : Gates) → AreGatesIn g c
+  pub short_finds : (f : AllFills) (lack : ℕ) → length (begun_row p found) - b.count ≡ suc lack → (c : Image) → IsBegunLeft keys found.generation old.cells (suc lack) c → StandsAt (tagging keys) 1 c found.generation → (g : Gates) → AreGatesIn g c
       → MayFind p f (Some run) (found_of_life p s (gates_open g))
   short_finds f lack is c left number g are =
       let y : RunFound = found_of_life p s (gates_open g) in
@@ -185,7 +185,7 @@ module _ (keys : Keys) (p : Params) (word_of : WordId → ℕ) (slot : ℕ → �
   abbrev lacking : ℕ
   lacking = length (begun_row p found) - b.count
 
-  left_by : (lack : ℕ) → lacking ≡ lack → (c : Image) → new.may_leave c → IsBegunLeft keys found.generation old.cells lack c
+  pub left_by : (lack : ℕ) → lacking ≡ lack → (c : Image) → new.may_leave c → IsBegunLeft keys found.generation old.cells lack c
   left_by lack is c will = subst (λ (n : ℕ). IsBegunLeft keys found.generation old.cells n c) is (b.left c will)
 
   -- the row behind one that showed its first sync
@@ -394,7 +394,7 @@ module _ (keys : Keys) (p : Params) (word_of : WordId → ℕ) (slot : ℕ → �
         shown = openings.all_notes keys p word_of f s old.cells notes opening;
       }
 
-      shown_so : Shown p word_of slot f ranked before gates notes (λ acts next. IsRepeatedLeft p word_of s gates acts next)
+      pub shown_so : Shown p word_of slot f ranked before gates notes (λ acts next. IsRepeatedLeft p word_of s gates acts next)
       shown_so = one_run p word_of slot f ranked before gates notes here (inr (inr repeated_run))
 
       abbrev history : HistoryRun
@@ -403,7 +403,7 @@ module _ (keys : Keys) (p : Params) (word_of : WordId → ℕ) (slot : ℕ → �
       abbrev after : Option HistoryRun → Option HistoryRun
       after latest = cond (is_settled p f history.mirrored history.found history.steps history.shown) (Some history) latest
 
-      found_so : (latest : Option HistoryRun) → MayFind p f latest x → (c : Image) → new.may_leave c → (xs : List LifeAct) → Finds None xs → (g : Gates) → AreGatesIn g c → MayFind p f (after latest) (found_of_life p (reached p word_of then xs) (gates_open g))
+      pub found_so : (latest : Option HistoryRun) → MayFind p f latest x → (c : Image) → new.may_leave c → (xs : List LifeAct) → Finds None xs → (g : Gates) → AreGatesIn g c → MayFind p f (after latest) (found_of_life p (reached p word_of then xs) (gates_open g))
       found_so latest finds_here c will xs finds g are =
           let settled_is : Bool = is_settled p f history.mirrored history.found history.steps history.shown in
           let here_finds : MayFind p f latest history.found = subst (λ (y : RunFound). MayFind p f latest y) (sym shown_so.0.finds) finds_here in

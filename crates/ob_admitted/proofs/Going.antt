@@ -160,21 +160,21 @@ module _ {S : Type 0} (disk : S → Disk) (keys : Keys) (p : Params) (word_of : 
   gates = gates_open (((is.shown).found_in).found).gates
 
   module _ (f : AllFills) (here : IsLifeFilled p word_of slot f before) (filled : Filled p word_of f s (serves ++ made)) where
-    alone : IsAlone disk keys p word_of slot f before ranked here most old found opened calls steps behind refused words seen new stands o notes is.shown run m told.2.1 filled
+    pub alone : IsAlone disk keys p word_of slot f before ranked here most old found opened calls steps behind refused words seen new stands o notes is.shown run m told.2.1 filled
     alone = (left_as_shown disk keys p word_of slot f before ranked here most old found opened calls steps behind refused words seen new stands o notes is.shown run m told.2.1 filled [] (serves ++ (made ++ [])) (inl refl) refl noted None
         (record { stays = λ g e. absurd (no_gates g e); shown = λ g e. absurd (no_gates g e) })).alone
 
     abbrev run_is : IsServedRun p word_of f s gates notes
     run_is = served_run disk keys p word_of slot f before ranked here most old found opened calls steps behind refused words seen new stands o notes is.shown run m told.2.1 filled alone
 
-    shown_so : Shown p word_of slot f ranked before gates notes (λ acts next. IsServedLeft p word_of f s gates notes run_is acts next)
+    pub shown_so : Shown p word_of slot f ranked before gates notes (λ acts next. IsServedLeft p word_of f s gates notes run_is acts next)
     shown_so = one_run p word_of slot f ranked before gates notes here (inl run_is)
 
     abbrev history : HistoryRun
     history = shown_so.0.run
 
     -- the next one finds it so
-    found_so : (xs : List LifeAct) → Finds flies xs → (c : Image) → (disk new).may_leave c → StandsInLife keys p word_of (reached p word_of then xs) c → (g : Gates) → AreGatesIn g c
+    pub found_so : (xs : List LifeAct) → Finds flies xs → (c : Image) → (disk new).may_leave c → StandsInLife keys p word_of (reached p word_of then xs) c → (g : Gates) → AreGatesIn g c
         → LeavesFound p f history (found_of_life p (reached p word_of then xs) (gates_open g))
     found_so xs finds c may stands_then g are =
         let acts : List LifeAct = serves ++ (made ++ xs) in

@@ -24,10 +24,11 @@ use Rattle.ob_histories.specs.Histories.{lines_of_notes}
 use Rattle.ob_histories.specs.Laws.{AreAdmitted}
 use Rattle.ob_histories.specs.Texts.{with_feed}
 use Rattle.ob_admitted.specs.Rows.{lines_of_runs}
+use Rattle.ob_top.proofs.Refusing.{refused_runs_fit}
 use Rattle.ob_top.proofs.Rowing.{rows_fit}
 use Rattle.ob_top.proofs.Writing.{written_lines}
 use Rattle.ob_top.specs.Audits.{AuditDone, IsAuditRefused, IsAuditTold, verdict_status}
-use Rattle.ob_top.specs.Fitting.{AnswersFits, AreTracesWhole, IsFitting, IsTraceWhole, TraceSink, TracesFit, WasWritten, WereWritten}
+use Rattle.ob_top.specs.Fitting.{AnswersFits, AreTracesFit, AreTracesWhole, IsFitting, IsTraceWhole, RefusedTracesFit, TraceSink, TracesFit, WasWritten, WereWritten}
 use Rattle.ob_top.specs.Outside.{Outside}
 use Rattle.ob_top.specs.Rows.{AreRowsTold, TracedRun}
 
@@ -97,14 +98,23 @@ fitting lines bytes admitted same few =
     let fits : FitsWhole (2 ^ 32) bytes = subst (FitsWhole (2 ^ 32)) same (lines_are.fits lines admitted (subst (λ (text : List ℕ). length text ≤ 2 ^ 32) (sym same) few)) in
     record { fits = fits; answered = λ before after status came done. done_fits bytes before after status fits came done }
 
--- ---- the law
+-- ---- the laws
+
+rows_fitting : {S W : Type 0} (flow : W → Flow) (p : Params) (runs : List (TracedRun S)) (rows : List (List Note)) → AreRowsTold runs rows → AreAdmitted (lines_of_runs p rows) → AreTracesFit flow p runs
+rows_fitting flow p runs rows told admitted sink t u shown whole sinks wholes = (
+  start_line p ++ lines_of (format_notes p),
+  was_written flow (start_line p) sink t u (format_notes p) whole shown.0,
+  map run_text rows,
+  were_written flow runs sinks rows wholes told,
+  λ few. fitting (lines_of_runs p rows) ((start_line p ++ lines_of (format_notes p)) ++ flat_map (λ text. text) (map run_text rows)) admitted (lines_text p rows) few,
+)
 
 pub traces_fit : {S W : Type 0} (disk : S → Disk) (flow : W → Flow) → TracesFit disk flow
-traces_fit disk flow keys p made_by blank made runs formatted tells are word_of tapes sink t u shown whole sinks wholes =
-    let (rows, told, history, admitted) = rows_fit disk keys p made_by blank made runs formatted tells are word_of tapes in (
-      start_line p ++ lines_of (format_notes p),
-      was_written flow (start_line p) sink t u (format_notes p) whole shown.0,
-      map run_text rows,
-      were_written flow runs sinks rows wholes told,
-      λ few. fitting (lines_of_runs p rows) ((start_line p ++ lines_of (format_notes p)) ++ flat_map (λ text. text) (map run_text rows)) admitted (lines_text p rows) few,
-    )
+traces_fit disk flow keys p made_by blank made runs formatted tells are word_of tapes =
+    let (rows, told, history, admitted) = rows_fit disk keys p made_by blank made runs formatted tells are word_of tapes in
+    rows_fitting flow p runs rows told admitted
+
+pub refused_traces_fit : {S W : Type 0} (disk : S → Disk) (flow : W → Flow) → RefusedTracesFit disk flow
+refused_traces_fit disk flow keys p made_by blank made runs formatted tells are sure word_of tapes =
+    let (rows, told, history, admitted) = refused_runs_fit disk keys p made_by blank made runs formatted tells are sure word_of tapes in
+    rows_fitting flow p runs rows told admitted

@@ -121,7 +121,7 @@ module _ (p : Params) (found : Found) where
   longer = (let whole = length-append (before_repeats p (public_of_found p found) (gates_open found.gates) (suc found.generation)) repeated in omega (arith, whole))
 
   -- where a note lacks of those before the repeats, as many were shown as are counted
-  counted : (count : ℕ) (notes : List Note) → notes ≡ take count (opening_row p found) → length (begun_row p found) ≡ suc count → length (begun_row p found) ≡ suc (length notes)
+  pub counted : (count : ℕ) (notes : List Note) → notes ≡ take count (opening_row p found) → length (begun_row p found) ≡ suc count → length (begun_row p found) ≡ suc (length notes)
   counted count notes are lacks =
       (let long = longer in lacks ∙ ap (λ (n : ℕ). suc n) (sym (ap (λ (l : List Note). length l) are ∙ length-take-le count (opening_row p found) (omega (arith, long, lacks)))))
 
@@ -163,11 +163,11 @@ head_shown fault.SinkFault old new t u does = (1, does.shows)
 
 module _ {S : Type 0} (disk : S → Disk) (keys : Keys) (p : Params) where
   -- what a row of runs asks of one, at parameters of which the store's head told
-  record IsStopPart (q : Params) (r : TracedRun S) (notes : List Note) : Type 0 where
+  pub record IsStopPart (q : Params) (r : TracedRun S) (notes : List Note) : Type 0 where
     pub stop : IsStopShown keys q (disk r.old) (disk r.new) notes
     pub stops : RingStops keys q (disk r.old) (disk r.new)
 
-  opening_part : (r : TracedRun S) (stopped : StoppedInOpening disk keys p r) → IsStopPart p r (notes_when_stopped disk keys p r stopped)
+  pub opening_part : (r : TracedRun S) (stopped : StoppedInOpening disk keys p r) → IsStopPart p r (notes_when_stopped disk keys p r stopped)
   opening_part r stopped = subst (λ (q : Params). IsStopPart q r (notes_when_stopped disk keys p r stopped)) stopped.params (by_stood (subst (λ (q : Params). Stands ring_kind keys q (disk r.old).cells stopped.at) (sym stopped.params) stopped.stood))
     where
       by_stood : Stands ring_kind keys (stopped.went).p (disk r.old).cells stopped.at → IsStopPart (stopped.went).p r (notes_when_stopped disk keys p r stopped)
@@ -178,7 +178,7 @@ module _ {S : Type 0} (disk : S → Disk) (keys : Keys) (p : Params) where
             stops = (stopped.went).stops_life stopped.tells;
           }
 
-  opening_shown : (r : TracedRun S) → (r.by).head ≡ head_cells → (stopped : StoppedInOpening disk keys p r) → Shows (notes_when_stopped disk keys p r stopped) r.first r.last
+  pub opening_shown : (r : TracedRun S) → (r.by).head ≡ head_cells → (stopped : StoppedInOpening disk keys p r) → Shows (notes_when_stopped disk keys p r stopped) r.first r.last
   opening_shown r head_is stopped =
       let stops = (stopped.went).stops in
       let head = subst (λ (cells : List ℕ). Shows (notes_of_head cells) r.first stops.between) head_is stops.head in
@@ -186,12 +186,12 @@ module _ {S : Type 0} (disk : S → Disk) (keys : Keys) (p : Params) where
       (shows_stop keys (r.by).lanes (stopped.went).p (disk stops.read) (disk r.new) stops.between r.last stopped.fault stops.stops)
 
   -- it came to the head at most
-  record IsHeadPart (r : TracedRun S) : Type 0 where
+  pub record IsHeadPart (r : TracedRun S) : Type 0 where
     pub count : ℕ
     pub passes : Passes Same (disk r.old) (disk r.new)
     pub shown : Shows (take count head_notes) r.first r.last
 
-  head_part : (r : TracedRun S) → (r.by).head ≡ head_cells → CameToHead disk keys p r → IsHeadPart r
+  pub head_part : (r : TracedRun S) → (r.by).head ≡ head_cells → CameToHead disk keys p r → IsHeadPart r
   head_part r head (inl refused) = (let some = head_shown refused.0 (disk r.old).seen (disk r.new).seen r.first r.last (refused.1).shown in record { count = some.0; passes = (refused.1).passes; shown = some.1 })
   head_part r head (inr (inl input)) = record { count = 1; passes = (input.1).passes; shown = subst (λ (cells : List ℕ). Shows (notes_of_head cells) r.first r.last) head (input.1).shown }
   head_part r head (inr (inr broken)) = record { count = 1; passes = broken.passes; shown = broken.shown }

@@ -8,7 +8,7 @@ use Rattle.ob_fresh.specs.PublicLives.{AreEndsShown}
 use Rattle.ob_opening.specs.OpeningActs.{AreGatesIn, IsLeftAt, StandsInLife}
 use Rattle.ob_recover.specs.Calls.{Finds}
 use Rattle.ob_recover.specs.Known.{gates_open}
-use Rattle.ob_recover.specs.Life.{IsLife, LifeAct, LifeState, WordId, formatted_life, life_slots, planned_labels}
+use Rattle.ob_recover.specs.Life.{IsLife, LifeAct, WordId, formatted_life, life_slots, planned_labels}
 use Rattle.ob_schedule.specs.Follow.{Follow, started}
 use Rattle.ob_schedule.specs.Schedule.{format_notes}
 use Rattle.ob_schedule.specs.declared.line.Line.{Line}
@@ -63,35 +63,45 @@ abbrev pub last_settled : Params → AllFills → Option HistoryRun → List His
 last_settled p f last [] = last
 last_settled p f last (run ∷ runs) = last_settled p f (cond (is_settled p f run.mirrored run.found run.steps run.shown) (Some run) last) runs
 
--- Behind a format's first line these are a public history's with these fills, whose runs leave to be found what a run finds that begins where the life is,
--- with these gates, if there is one.
-pub record AreHistoryOf (p : Params) (f : AllFills) (lines : List Line) (s : LifeState) (gates : Option (ℕ → Bool)) : Type 0 where
+-- Behind a format's first line these are a public history's with these fills.
+pub record AreHistoryOf (p : Params) (f : AllFills) (lines : List Line) : Type 0 where
   pub runs : List HistoryRun
   pub behind : AreRunsBehind p f None runs
   pub are : lines ≡ lines_of_notes (format_notes p) ++ flat_map (run_lines p f) runs
-  pub left : (next : ℕ → Bool) → gates ≡ Some next → MayFind p f (last_settled p f None runs) (found_of_life p s next)
+
+-- Such runs leave what a run finds that begins where the life is, with the act in flight found or not.
+abbrev pub LeaveLife : (keys : Keys) (p : Params) (past : PastLife) (in_flight : Option LifeAct) (may_leave : Image → Type 0) (f : AllFills) (runs : List HistoryRun) → Type 0
+LeaveLife keys p past in_flight may_leave f runs = (found : List LifeAct) → Finds in_flight found → (gates : ℕ → Bool) → MayBegin keys p (with_acts past found) may_leave gates
+    → MayFind p f (last_settled p f None runs) (found_of_life p (life_of p (with_acts past found)) gates)
 
 -- What an auditor knows of the life: this, behind lines that are a history's with whatever fills the life has, and that leaves what the next run finds,
--- wherever that begins, with the act in flight found or not.
+-- wherever that begins.
 pub record AuditorKnows (keys : Keys) (p : Params) (past : PastLife) (in_flight : Option LifeAct) (may_leave : Image → Type 0) (known : Follow) : Type 0 where
   pub life : IsLifeLeft keys p past in_flight may_leave
   pub lines : List Line
   pub takes : TakesLines (started p) lines known
-  pub history : (found : List LifeAct) → Finds in_flight found → IsLife p past.word_of (formatted_life past.slot) (past.acts ++ found) → (fills : AllFills) → AreAllFills p fills → FillsPast p (with_acts past found) fills
-      → (gates : Option (ℕ → Bool)) → ((next : ℕ → Bool) → gates ≡ Some next → MayBegin keys p (with_acts past found) may_leave next) → AreHistoryOf p fills lines (life_of p (with_acts past found)) gates
+  pub history : (fills : AllFills) → AreAllFills p fills → FillsPast p past fills → (is : AreHistoryOf p fills lines) × LeaveLife keys p past in_flight may_leave fills is.runs
+
+-- The lines of these notes, which a run was shown, may stand behind what the auditor knew, and so may their text; behind them it knows as much of where
+-- the run has led the life, from these images.
+pub record AreNotesAudited (keys : Keys) (p : Params) (past : PastLife) (known : Follow) (notes : List Note) (may_leave : Image → Type 0) : Type 0 where
+  pub then : Follow
+  pub takes : TakesLines known (L.Open false ∷ lines_of_notes notes) then
+  pub read : Admitted (Some known) (lines_in (open_line false ++ lines_of notes)) (Some then)
+  pub more : List LifeAct
+  pub in_flight : Option LifeAct
+  pub knows : AuditorKnows keys p (with_acts past more) in_flight may_leave then
+
+-- what this store holds
+abbrev pub IsHeld : Disk → Image → Type 0
+IsHeld old image = image ≡ old.cells
 
 module _ {S : Type 0} (disk : S → Disk) where
-  -- A run's lines, as its watch was shown them, may stand behind what the auditor knew, and so may their text; behind them it knows as much of where the
-  -- run has led the life.
+  -- so it is of the notes that a run's watch was shown, and of all images that it left
   pub record IsRunAudited (keys : Keys) (p : Params) (past : PastLife) (known : Follow) (r : TracedRun S) : Type 0 where
     pub notes : List Note
     pub shown : Shows notes r.first r.last
-    pub then : Follow
-    pub takes : TakesLines known (L.Open false ∷ lines_of_notes notes) then
-    pub read : Admitted (Some known) (lines_in (open_line false ++ lines_of notes)) (Some then)
-    pub more : List LifeAct
-    pub in_flight : Option LifeAct
-    pub knows : AuditorKnows keys p (with_acts past more) in_flight (disk r.new).may_leave then
+    pub audited : AreNotesAudited keys p past known notes (disk r.new).may_leave
 
   -- Who reads a format's notes knows that of a life that begins, whatever words later tapes give;
   abbrev pub FormatsAreRead : Type 0
@@ -102,3 +112,8 @@ module _ {S : Type 0} (disk : S → Disk) where
   abbrev pub RunsAreRead : Type 0
   RunsAreRead = (keys : Keys) (p : Params) (past : PastLife) (in_flight : Option LifeAct) (last : S) (known : Follow) → AuditorKnows keys p past in_flight (disk last).may_leave known
       → (r : TracedRun S) → IsRowRun disk keys p (disk last).may_leave r → AreTapeWords past.word_of (r.tape).generation (r.tape).words → IsRunAudited keys p past known r
+
+  -- So does who knows it of the image alone at which the run began, whatever left that.
+  abbrev pub RunsAreReadFrom : Type 0
+  RunsAreReadFrom = (keys : Keys) (p : Params) (past : PastLife) (in_flight : Option LifeAct) (known : Follow) (r : TracedRun S) → AuditorKnows keys p past in_flight (IsHeld (disk r.old)) known
+      → IsRowRun disk keys p (IsHeld (disk r.old)) r → AreTapeWords past.word_of (r.tape).generation (r.tape).words → IsRunAudited keys p past known r

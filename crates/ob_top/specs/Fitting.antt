@@ -18,6 +18,7 @@ use Rattle.ob_top.specs.Audited.{ring_audits}
 use Rattle.ob_top.specs.Audits.{AuditDone, IsAuditRefused}
 use Rattle.ob_top.specs.Formats.{IsFormatted, ShowsFormat}
 use Rattle.ob_top.specs.Outside.{Given, HasTrace, Outside}
+use Rattle.ob_top.specs.Refusals.{AreGatesSure, AreRunsOrRefusals}
 use Rattle.ob_top.specs.Rows.{AreRowRuns, AreTapesOf, TracedRun}
 
 -- The sink of a trace, as it was handed in and as it is left.
@@ -61,9 +62,19 @@ pub record IsFitting (bytes : List ℕ) : Type 0 where
   pub fits : FitsWhole (2 ^ 32) bytes
   pub answered : (before after : Outside) (status : ℕ) → before.input.bytes ≡ Some bytes → AuditDone before after status → AnswersFits before after status ⊎ IsAuditRefused before after status
 
--- A row of runs over a store that a format made, where the watches of the format and of each run wrote traces and never broke: each sink has a text behind
--- what it had, and the format's text and theirs, one behind the other, fit, if they have at most 2^32 bytes.
+-- Where the watches of a format and of these runs behind it wrote traces and never broke, each sink has a text behind what it had, and the format's text
+-- and theirs, one behind the other, fit, if they have at most 2^32 bytes.
+abbrev pub AreTracesFit : {S W : Type 0} → (W → Flow) → Params → List (TracedRun S) → Type 0
+AreTracesFit {S} {W} flow p runs = (sink : TraceSink W) (t u : Trace) → ShowsFormat ring_kind p t u false → IsTraceWhole flow (start_line p) sink t u → (sinks : List (TraceSink W)) → AreTracesWhole flow runs sinks
+    → (text : List ℕ) × WasWritten flow sink text × (texts : List (List ℕ)) × WereWritten flow sinks texts × (length (text ++ flat_map (λ more. more) texts) ≤ 2 ^ 32 → IsFitting (text ++ flat_map (λ more. more) texts))
+
+-- So it is of a row of runs over a store that a format made;
 abbrev pub TracesFit : {S W : Type 0} → (S → Disk) → (W → Flow) → Type 0
 TracesFit {S} {W} disk flow = (keys : Keys) (p : Params) (made_by : Given) (blank made : S) (runs : List (TracedRun S)) → IsFormatted ring_kind ring_lives ring_audits disk made_by keys p blank made → (disk blank).tells → AreRowRuns disk keys p (disk made).may_leave runs
-    → (word_of : WordId → ℕ) → AreTapesOf word_of runs → (sink : TraceSink W) (t u : Trace) → ShowsFormat ring_kind p t u false → IsTraceWhole flow (start_line p) sink t u → (sinks : List (TraceSink W)) → AreTracesWhole flow runs sinks
-    → (text : List ℕ) × WasWritten flow sink text × (texts : List (List ℕ)) × WereWritten flow sinks texts × (length (text ++ flat_map (λ more. more) texts) ≤ 2 ^ 32 → IsFitting (text ++ flat_map (λ more. more) texts))
+    → (word_of : WordId → ℕ) → AreTapesOf word_of runs → AreTracesFit flow p runs
+
+-- and of one in which runs were refused, but for the case that an audit leaves out.
+abbrev pub RefusedTracesFit : {S W : Type 0} → (S → Disk) → (W → Flow) → Type 0
+RefusedTracesFit {S} {W} disk flow = (keys : Keys) (p : Params) (made_by : Given) (blank made : S) (runs : List (TracedRun S)) → IsFormatted ring_kind ring_lives ring_audits disk made_by keys p blank made → (disk blank).tells
+    → (are : AreRunsOrRefusals disk keys p (disk made).may_leave runs) → AreGatesSure disk keys p (disk made).may_leave runs are
+    → (word_of : WordId → ℕ) → AreTapesOf word_of runs → AreTracesFit flow p runs

@@ -1,7 +1,7 @@
 //! What an audit answers to the traces of runs behind each other.
 
 ghost use Rattle.ob_io.specs.Streams.{outflow};
-ghost use Rattle.ob_top.specs.Fitting.{TracesFit};
+ghost use Rattle.ob_top.specs.Fitting.{RefusedTracesFit, TracesFit};
 
 use ob_io::Sink;
 use ob_store::Store;
@@ -11,4 +11,10 @@ use ob_store::Store;
 /// if it has at most 2^32 bytes.
 pub fn traces_fit<S: Store, W: Sink>()
     ensures { TracesFit (λ store. S.disk store) (λ sink. outflow W.Sink sink) }
+{}
+
+/// So it is of the traces of runs of which some were refused, before their opening or in it, but for
+/// the case that an audit leaves out.
+pub fn refused_traces_fit<S: Store, W: Sink>()
+    ensures { RefusedTracesFit (λ store. S.disk store) (λ sink. outflow W.Sink sink) }
 {}

@@ -17,10 +17,10 @@ mod top;
 mod traces;
 
 pub use again::stood_again;
-pub use auditors::auditors_go_on;
+pub use auditors::{auditors_go_on, stops_are_read};
 pub use drill::{Drilled, drill_on};
 pub use endings::{finish, finish_run, still_watched};
-pub use fitting::traces_fit;
+pub use fitting::{refused_traces_fit, traces_fit};
 pub use lists::lists_hold;
 pub use refusals::refused_runs_fit;
 pub use rows::rows_fit;
