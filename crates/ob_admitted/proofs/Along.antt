@@ -25,6 +25,7 @@ use Rattle.ob_admitted.specs.Fills.{HasFills}
 use Rattle.ob_admitted.specs.Stopped.{AreAllShown, IsGateSure, IsNextBegun, StoppedRunsAreAdmitted, StopsBegun, begun_row}
 use Rattle.ob_admitted.specs.Wholes.{found_of_life}
 use Rattle.ob_admitted.proofs.Begun as begun
+use Rattle.ob_admitted.proofs.Fronting.{IsFrontLeft, refused_left}
 use Rattle.ob_admitted.proofs.Going as going
 use Rattle.ob_admitted.proofs.Living.{lives_are_filled}
 use Rattle.ob_admitted.proofs.Parts.{Filled}
@@ -92,21 +93,22 @@ module _ {S : Type 0} (disk : S → Disk) (keys : Keys) (p : Params) (word_of : 
   go (Served most old found opened calls steps behind refused words seen new ∷ parts) [] l may_leave left small from shown sure given next = absurd shown
   go (Stopped old new ∷ parts) [] l may_leave left small from shown sure given next = absurd shown
   go (Served most old found opened calls steps behind refused words seen new ∷ parts) (notes ∷ rows) l may_leave left small from (is, more) sure given next =
+      let front : IsFrontLeft disk keys p most old found opened calls steps behind refused words seen new from.1 notes = refused_left disk keys p most old found opened calls steps behind refused words seen new from.1 notes is in
       let at : IsLeftAt keys p word_of l.t l.pending (disk old).cells = left (disk old).cells from.0 in
       let b : FoundActs keys p word_of l.t l.pending (disk old).cells = found_acts keys p word_of l.t l.pending (disk old).cells at in
       let before : List LifeAct = l.acts b.found in
       let sound : IsSound keys p word_of slot before = l.sound b.found b.finds (found_life keys p word_of slot l.t l.pending b.found at.allowed b.finds) in
       let stands : StandsInLife keys p word_of (At keys p word_of slot before) (disk old).cells = subst (λ (u : LifeState). StandsInLife keys p word_of u (disk old).cells) (sym (l.there b.found)) b.here in
       let few : AreBatchesSmall (At keys p word_of slot before).log = subst (λ (u : LifeState). AreBatchesSmall u.log) (sym (l.there b.found)) (small b.found b.finds) in
-      let tail = go parts rows (going.last disk keys p word_of slot ranked most old found opened calls steps behind refused words seen new from.1 given.0 notes is before sound stands few) (disk new).may_leave
-      (going.left_then disk keys p word_of slot ranked most old found opened calls steps behind refused words seen new from.1 given.0 notes is before sound stands few)
-      (going.small_then disk keys p word_of slot ranked most old found opened calls steps behind refused words seen new from.1 given.0 notes is before sound stands few) from.2 more sure given.1 (next_any parts rows (disk new).may_leave from.2 more) in
+      let tail = go parts rows (going.last disk keys p word_of slot ranked most old found opened calls steps behind refused words seen new from.1 given.0 notes front before sound stands few) (disk new).may_leave
+      (going.left_then disk keys p word_of slot ranked most old found opened calls steps behind refused words seen new from.1 given.0 notes front before sound stands few)
+      (going.small_then disk keys p word_of slot ranked most old found opened calls steps behind refused words seen new from.1 given.0 notes front before sound stands few) from.2 more sure given.1 (next_any parts rows (disk new).may_leave from.2 more) in
       tail_settled keys p word_of slot (disk old).cells notes rows l may_leave from.0 at b next (((is.shown).found_in).found).gates
       (record { generation = (((is.shown).found_in).found_in).generation_gates; epoch = (((is.shown).found_in).found_in).epoch_gates })
-      (going.serves disk keys p word_of slot ranked most old found opened calls steps behind refused words seen new from.1 given.0 notes is before sound stands few
-      ++ (going.made disk keys p word_of slot ranked most old found opened calls steps behind refused words seen new from.1 given.0 notes is before sound stands few ++ (tail.found ++ tail.later)))
-      (going.life_then disk keys p word_of slot ranked most old found opened calls steps behind refused words seen new from.1 given.0 notes is before sound stands few (tail.found ++ tail.later) tail.life)
-      (λ f filled latest finds. going.served_goes disk keys p word_of slot ranked most old found opened calls steps behind refused words seen new from.1 given.0 notes is before sound stands few rows tail f filled latest finds)
+      (going.serves disk keys p word_of slot ranked most old found opened calls steps behind refused words seen new from.1 given.0 notes front before sound stands few
+      ++ (going.made disk keys p word_of slot ranked most old found opened calls steps behind refused words seen new from.1 given.0 notes front before sound stands few ++ (tail.found ++ tail.later)))
+      (going.life_then disk keys p word_of slot ranked most old found opened calls steps behind refused words seen new from.1 given.0 notes front before sound stands few (tail.found ++ tail.later) tail.life)
+      (λ f filled latest finds. going.served_goes disk keys p word_of slot ranked most old found opened calls steps behind refused words seen new from.1 given.0 notes front before sound stands few rows tail f filled latest finds)
   go (Stopped old new ∷ parts) (notes ∷ rows) l may_leave left small from (inl reads, more) sure given next =
       tail_reads keys p word_of slot (disk old) (disk new) notes rows l may_leave from.0.0 (λ c will. from.0.1 c will) (left (disk old).cells from.0.0) reads
       (go parts rows l (disk new).may_leave (λ c will. left c (from.0.1 c (reads.shrinks c will))) small from.2 more sure given next)

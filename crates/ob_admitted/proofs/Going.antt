@@ -32,14 +32,12 @@ use Rattle.ob_histories.specs.Fills.{AllFills}
 use Rattle.ob_histories.specs.Histories.{MayFind}
 use Rattle.ob_histories.specs.Runs.{HistoryRun, RunFound, is_settled}
 use Rattle.ob_admitted.specs.Lives.{IsLifeFilled}
-use Rattle.ob_admitted.specs.Parts.{IsRefusedShown}
 use Rattle.ob_admitted.specs.Rows.{LeavesFound}
 use Rattle.ob_admitted.specs.Served.{IsServedLeft, IsServedRun}
-use Rattle.ob_admitted.specs.Stopped.{IsServedAsShown}
-use Rattle.ob_admitted.specs.Told.{IsRunNoted}
 use Rattle.ob_admitted.specs.Wholes.{found_of_life}
 use Rattle.ob_admitted.proofs.Acts.{LeftSound, Sound, calls_sound, ends_join, left_sound, life_first, life_last, whole_join}
 use Rattle.ob_admitted.proofs.Lives.{Shown, one_run}
+use Rattle.ob_admitted.proofs.Fronting.{IsFrontLeft, IsFrontNoted, IsFrontShown}
 use Rattle.ob_admitted.proofs.Parts.{Filled, IsAlone, filled_last, filled_made, gates_left, left_as_shown, left_so, served_run}
 use Rattle.ob_admitted.proofs.Rowing.{Row, goes_on, run_one}
 use Rattle.ob_admitted.proofs.Stopped.{At, IsSound, Last, Leaves, Tail, filled_at, gates_of, sound_then}
@@ -58,11 +56,11 @@ no_end writes asks e = cc e
 same_asks : (a b : List (Option ℕ)) → ◌≡◌ {A = Option VaultCall} (Some (Fetch a)) (Some (Fetch b)) → a ≡ b
 same_asks a b e = cc e
 
-asks_many : (most : ℕ) (p : Params) (q : RingPublic) (h : RingHidden) (refused : Option VaultCall) (words : List ℕ) (seen : List Event) (more : List Note) (is : IsRefusedShown most p q h refused words seen more) (made : List LifeAct) (flies : Option LifeAct)
-    → IsRunNoted most p q h refused words seen more is made flies → (asks : List (Option ℕ)) → refused ≡ Some (Fetch asks) → length asks ≡ p.places
-asks_many most p q h None words seen more is made flies noted asks e = absurd (no_call (Fetch asks) e)
-asks_many most p q h (Some (Fetch a)) words seen more is made flies noted asks e = subst (λ (xs : List (Option ℕ)). length xs ≡ p.places) (same_asks a asks e) (noted.0).1
-asks_many most p q h (Some (End ws)) words seen more is made flies noted asks e = absurd (no_end ws asks e)
+asks_many : (p : Params) (q : RingPublic) (h : RingHidden) (cut : Option VaultCall) (words : List ℕ) (more : List Note) (is : IsFrontShown p q h cut words more) (made : List LifeAct) (flies : Option LifeAct)
+    → IsFrontNoted p q h cut words more is made flies → (asks : List (Option ℕ)) → cut ≡ Some (Fetch asks) → length asks ≡ p.places
+asks_many p q h None words more is made flies noted asks e = absurd (no_call (Fetch asks) e)
+asks_many p q h (Some (Fetch a)) words more is made flies noted asks e = subst (λ (xs : List (Option ℕ)). length xs ≡ p.places) (same_asks a asks e) (noted.0).1
+asks_many p q h (Some (End ws)) words more is made flies noted asks e = absurd (no_end ws asks e)
 
 no_gates : (gates : ℕ → Bool) → ◌≡◌ {A = Option (ℕ → Bool)} None (Some gates) → ⊥
 no_gates gates e = cc e
@@ -70,7 +68,7 @@ no_gates gates e = cc e
 module _ {S : Type 0} (disk : S → Disk) (keys : Keys) (p : Params) (word_of : WordId → ℕ) (slot : ℕ → ℕ → ℕ) (ranked : (u : ℕ) → IsRanking (width p) (slot u))
     (most : ℕ) (old : S) (found : RingFound) (opened : S) (calls : List VaultCall) (steps : List (Shape × Fills)) (behind : RingHidden) (refused : Option VaultCall) (words : List ℕ) (seen : List Event) (new : S)
     (told : IsRunTold disk keys p (Served most old found opened calls steps behind refused words seen new)) (tape : AreTapeWords word_of (ring_hidden found).generation words)
-    (notes : List Note) (is : IsServedAsShown disk keys p most old found opened calls steps behind refused words seen new told notes)
+    (notes : List Note) (is : IsFrontLeft disk keys p most old found opened calls steps behind refused words seen new told notes)
     (before : List LifeAct) (sound : IsSound keys p word_of slot before) (stands : StandsInLife keys p word_of (At keys p word_of slot before) (disk old).cells) (few : AreBatchesSmall (At keys p word_of slot before).log) where
   abbrev s : LifeState
   s = At keys p word_of slot before
@@ -99,9 +97,9 @@ module _ {S : Type 0} (disk : S → Disk) (keys : Keys) (p : Params) (word_of : 
   abbrev q : RingPublic
   q = public_behind ring_kind p (ring_public p found) steps
 
-  noted : IsRunNoted most p q behind refused words seen (is.shown).more (is.shown).refused_shown made flies
+  noted : IsFrontNoted p q behind refused words (is.shown).more (is.shown).front_shown made flies
   noted = subst (λ (g : GoesOnInLife keys most p word_of (reached p word_of s (opening_acts s)) found (disk opened) calls steps behind refused words seen (disk new)).
-      IsRunNoted most p q behind refused words seen (is.shown).more (is.shown).refused_shown (g.left m told.2.1).made (g.left m told.2.1).in_flight)
+      IsFrontNoted p q behind refused words (is.shown).more (is.shown).front_shown (g.left m told.2.1).made (g.left m told.2.1).in_flight)
       (sym (whole_goes keys most p (disk old).cells found (disk opened) (disk new) calls steps behind refused words seen told.0 told.1 word_of s stands few tape))
       (is.noted word_of (reached p word_of s (opening_acts s)) o.then tape m told.2.1)
 
@@ -136,7 +134,7 @@ module _ {S : Type 0} (disk : S → Disk) (keys : Keys) (p : Params) (word_of : 
       let all : IsLife p word_of s (serves ++ (made ++ xs)) = life_then xs life in
       let calls_are : Sound p word_of began (run.goes).acts = calls_sound p word_of calls steps began (run.goes).acts (o.then).begun (run.goes).shown in
       let left_are : LeftSound p word_of (made ++ xs) =
-      left_sound p word_of refused made xs flies (asks_many most p q behind refused words seen (is.shown).more (is.shown).refused_shown made flies noted) left.first finds in
+      left_sound p word_of refused made xs flies (asks_many p q behind refused words (is.shown).more (is.shown).front_shown made flies noted) left.first finds in
       sound_then keys p word_of slot before (serves ++ (made ++ xs)) sound all
       (ends_join p word_of s serves (made ++ xs)
       (ends_join p word_of s (opening_acts s) (run.goes).acts (repeats_ended p word_of (life_step p word_of s (Open (suc s.generation))) (length s.log))

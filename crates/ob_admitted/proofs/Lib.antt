@@ -15,7 +15,9 @@ pub mod Serving
 pub mod Lives
 pub mod Shown
 pub mod Acts
+pub mod Fronting
 pub mod Parts
+pub mod RefusedParts
 pub mod Walking
 pub mod Walks
 pub mod Openings

@@ -1,4 +1,4 @@
--- A run of a row, with what it showed, is a run as a history's.
+-- A run of a row, with what it showed, its last call cut short anywhere, is a run as a history's.
 use Rattle.std.specs.Prelude.{◌≡◌, ◌⊎◌, ◌||◌, ◌≤◌, ℕ, ◌+◌, ◌*◌, ◌-◌, ◌%◌, Bool, true, false, List, [], ◌∷◌, ◌++◌, length, Option, None, Some}
 use Rattle.std.specs.List.{flat_map}
 use Rattle.std.specs.Ordering.{nat_cmp}
@@ -47,18 +47,19 @@ use Rattle.ob_admitted.specs.Between.{AreActsLeft, IsFoundAsShown, turn_of_run}
 use Rattle.ob_admitted.specs.Calls.{AreStepsOf, public_of_life}
 use Rattle.ob_admitted.specs.Cuts.{IsCutFilled, life_behind_calls, public_of_calls}
 use Rattle.ob_admitted.specs.Fills.{FillsAll}
-use Rattle.ob_admitted.specs.Gates.{IsGateFoundBy, LeavesGates, notes_lacking}
+use Rattle.ob_admitted.specs.Gates.{IsGateFoundBy, LeavesGates}
 use Rattle.ob_admitted.specs.Lives.{IsLifeFilled}
-use Rattle.ob_admitted.specs.Parts.{IsLeftAsShown, IsRefusedShown, IsServedShown, PartsAreRuns}
+use Rattle.ob_admitted.specs.Parts.{IsLeftAsShown}
 use Rattle.ob_admitted.specs.Served.{IsRecordAlone, IsRefusedFilled, IsServedLeft, IsServedRun, IsServedThen, notes_of_refused}
-use Rattle.ob_admitted.specs.Told.{AreGatesLeft, AreGatesShown, IsRunNoted, record_row}
+use Rattle.ob_admitted.specs.Told.{AreGatesLeft, AreGatesShown, record_row}
 use Rattle.ob_admitted.specs.Wholes.{AreGatesKept, IsRunFilled, found_of_life, notes_of_run}
 use Rattle.ob_admitted.proofs.Acts.{Sound, acts_left, batch_whole, calls_sound, slots_first, slots_last}
 use Rattle.ob_admitted.proofs.Betweens.{HasGateOf, IsTurnOf, gates_lead, turn_at_end, turn_begun, turn_from}
 use Rattle.ob_admitted.proofs.Cutting.{record_many, rows_many}
 use Rattle.ob_admitted.proofs.Publics.{formatted_goes, goes_along}
 use Rattle.ob_admitted.proofs.Wholes.{turn_at}
-use Rattle.ob_admitted.proofs.Shown.{batch_draws, front_refused, front_take}
+use Rattle.ob_admitted.proofs.Fronting.{IsFrontNoted, IsFrontShown, IsServedFront, front_lacking}
+use Rattle.ob_admitted.proofs.Shown.{front_take}
 
 -- ---- gates
 
@@ -162,7 +163,7 @@ module _ {S : Type 0} (disk : S → Disk) (keys : Keys) (p : Params) (word_of : 
   abbrev Run : Type 0
   Run = IsRunInLife keys most p word_of s found (disk opened) calls steps behind refused words seen (disk new)
 
-  module _ (stands : StandsInLife keys p word_of s (disk old).cells) (o : IsOpenedInLife p word_of found s) (notes : List Note) (shown : IsServedShown keys most p (disk old).cells found calls steps behind refused words seen notes) where
+  module _ (stands : StandsInLife keys p word_of s (disk old).cells) (o : IsOpenedInLife p word_of found s) (notes : List Note) (shown : IsServedFront keys p (disk old).cells found calls steps behind refused words notes) where
     abbrev gates : ℕ → Bool
     gates = gates_open ((shown.found_in).found).gates
 
@@ -212,21 +213,21 @@ module _ {S : Type 0} (disk : S → Disk) (keys : Keys) (p : Params) (word_of : 
     abbrev q : RingPublic
     q = public_behind ring_kind p (ring_public p found) steps
 
-    abbrev drawn_of : (r : Option VaultCall) → IsRefusedShown most p q behind r words seen shown.more → Fills
+    abbrev drawn_of : (r : Option VaultCall) → IsFrontShown p q behind r words shown.more → Fills
     drawn_of None is = record { label = λ b i. 0; slot = λ hole. 0 }
     drawn_of (Some call) is = is.0
 
-    notes_refused : (r : Option VaultCall) (is : IsRefusedShown most p q behind r words seen shown.more) → shown.more ≡ notes_of_refused p q r (drawn_of r is) (length shown.more)
+    notes_refused : (r : Option VaultCall) (is : IsFrontShown p q behind r words shown.more) → shown.more ≡ notes_of_refused p q r (drawn_of r is) (length shown.more)
     notes_refused None is = is
-    notes_refused (Some call) is = front_take (ring_notes p q (shape_of call) is.0) shown.more (front_refused most p q is.0 seen shown.more call is.1 is.3)
+    notes_refused (Some call) is = front_take (ring_notes p q (shape_of call) is.0) shown.more is.2
 
     abbrev drawn : Fills
-    drawn = drawn_of refused shown.refused_shown
+    drawn = drawn_of refused shown.front_shown
 
     pub all_notes : notes ≡ notes_of_run p word_of s (fills_of p found.content found.records) gates known steps ++ notes_of_refused p (public_of_calls p word_of s known steps) refused drawn (length shown.more)
     all_notes =
         shown.notes_are
-        ∙ (λ i. (head_notes ++ opening_is i ++ steps_notes ring_kind p (public_is i) steps) ++ (notes_refused refused shown.refused_shown ∙ ap (λ (r : RingPublic). notes_of_refused p (public_behind ring_kind p r steps) refused drawn (length shown.more)) public_is) i)
+        ∙ (λ i. (head_notes ++ opening_is i ++ steps_notes ring_kind p (public_is i) steps) ++ (notes_refused refused shown.front_shown ∙ ap (λ (r : RingPublic). notes_of_refused p (public_behind ring_kind p r steps) refused drawn (length shown.more)) public_is) i)
 
     module _ (run : Run) (m : Map nat_cmp) (is : IsRingMap keys p (disk opened) found m)
         (filled : Filled p word_of f s ((opening_acts s ++ (run.goes).acts) ++ ((run.goes).left m is).made)) where
@@ -318,18 +319,18 @@ module _ {S : Type 0} (disk : S → Disk) (keys : Keys) (p : Params) (word_of : 
         abbrev IsShownOf : VaultCall → Type 0
         IsShownOf call = ((AreActsOf call ((run.goes).left m is).made ⊎ AreShowing call ((run.goes).left m is).made) × FillsOf call) ⊎ ((((run.goes).left m is).made ≡ []) × IsBarelySeen most p t call seen)
 
-        batch_by : (asks : List (Option ℕ)) (e : refused ≡ Some (Fetch asks)) (is_shown : IsRefusedShown most p q behind (Some (Fetch asks)) words seen shown.more) → IsShownOf (Fetch asks)
+        batch_by : (asks : List (Option ℕ)) (e : refused ≡ Some (Fetch asks)) (is_shown : IsFrontShown p q behind (Some (Fetch asks)) words shown.more) → IsShownOf (Fetch asks)
             → IsCutFilled p word_of f t (Fetch asks) is_shown.0 ⊎ IsRecordAlone p t (Fetch asks) (length shown.more)
-        batch_by asks e is_shown (inl (inl are, fills)) = batch_filled asks are.0 is_shown.0 are.1 are.2 fills (batch_draws most p q is_shown.0 seen shown.more behind asks words is_shown.1 is_shown.2 is_shown.3)
-        batch_by asks e is_shown (inl (inr are, fills)) = batch_filled asks are.0 is_shown.0 are.1 are.2 fills (batch_draws most p q is_shown.0 seen shown.more behind asks words is_shown.1 is_shown.2 is_shown.3)
+        batch_by asks e is_shown (inl (inl are, fills)) = batch_filled asks are.0 is_shown.0 are.1 are.2 fills is_shown.1
+        batch_by asks e is_shown (inl (inr are, fills)) = batch_filled asks are.0 is_shown.0 are.1 are.2 fills is_shown.1
         batch_by asks e is_shown (inr (none, barely)) = inr (alone asks e none)
 
-        end_by : (writes : List (ℕ × Option (List ℕ))) (is_shown : IsRefusedShown most p q behind (Some (End writes)) words seen shown.more) → IsShownOf (End writes) → IsCutFilled p word_of f t (End writes) is_shown.0
-        end_by writes is_shown (inl (inl are, fills)) = end_cut writes (EndAct are.0 are.1 are.2 ∷ []) is_shown.0 are.3 (fills is_shown.0 (is_shown.2).0)
-        end_by writes is_shown (inl (inr are, fills)) = end_cut writes [] is_shown.0 are (fills is_shown.0 (is_shown.2).0)
+        end_by : (writes : List (ℕ × Option (List ℕ))) (is_shown : IsFrontShown p q behind (Some (End writes)) words shown.more) → IsShownOf (End writes) → IsCutFilled p word_of f t (End writes) is_shown.0
+        end_by writes is_shown (inl (inl are, fills)) = end_cut writes (EndAct are.0 are.1 are.2 ∷ []) is_shown.0 are.3 (fills is_shown.0 is_shown.1)
+        end_by writes is_shown (inl (inr are, fills)) = end_cut writes [] is_shown.0 are (fills is_shown.0 is_shown.1)
         end_by writes is_shown (inr (none, barely)) = absurd barely
 
-        pub refused_filled : (r : Option VaultCall) → refused ≡ r → (is_shown : IsRefusedShown most p q behind r words seen shown.more) → IsRefusedFilled p word_of f t r (drawn_of r is_shown) (length shown.more)
+        pub refused_filled : (r : Option VaultCall) → refused ≡ r → (is_shown : IsFrontShown p q behind r words shown.more) → IsRefusedFilled p word_of f t r (drawn_of r is_shown) (length shown.more)
         refused_filled None e is_shown = ap (λ (ns : List Note). length ns) is_shown
         refused_filled (Some (Fetch asks)) e is_shown = batch_by asks e is_shown (((run.goes).left m is).shown (Fetch asks) e)
         refused_filled (Some (End writes)) e is_shown = inl (end_by writes is_shown (((run.goes).left m is).shown (End writes) e))
@@ -347,7 +348,7 @@ module _ {S : Type 0} (disk : S → Disk) (keys : Keys) (p : Params) (word_of : 
           count = length shown.more;
           kept = kept;
           filled = run_filled;
-          cut = refused_filled refused refl shown.refused_shown;
+          cut = refused_filled refused refl shown.front_shown;
           shown = all_notes;
         }
 
@@ -377,8 +378,8 @@ module _ {S : Type 0} (disk : S → Disk) (keys : Keys) (p : Params) (word_of : 
         abbrev count : ℕ
         count = length shown.more
 
-        abbrev Noted : (r : Option VaultCall) → IsRefusedShown most p q behind r words seen shown.more → Type 0
-        Noted r is_shown = IsRunNoted most p q behind r words seen shown.more is_shown made flies
+        abbrev Noted : (r : Option VaultCall) → IsFrontShown p q behind r words shown.more → Type 0
+        Noted r is_shown = IsFrontNoted p q behind r words shown.more is_shown made flies
 
         abbrev turn : HistoryTurn
         turn = turn_of_run p s gates steps
@@ -393,15 +394,15 @@ module _ {S : Type 0} (disk : S → Disk) (keys : Keys) (p : Params) (word_of : 
         row_many : (b : ℕ) → length (record_row p q) ≡ length (record_notes p 0 b)
         row_many b = record_many p (((q.known).epoch + 1) % 2) q.shown ∙ sym (record_many p 0 b)
 
-        whole_by : (r : Option VaultCall) (is_shown : IsRefusedShown most p q behind r words seen shown.more) → Noted r is_shown → (asks : List (Option ℕ)) → r ≡ Some (Fetch asks) → length asks ≡ p.places
+        whole_by : (r : Option VaultCall) (is_shown : IsFrontShown p q behind r words shown.more) → Noted r is_shown → (asks : List (Option ℕ)) → r ≡ Some (Fetch asks) → length asks ≡ p.places
         whole_by None is_shown noted asks same = absurd (cc same)
         whole_by (Some (Fetch a)) is_shown noted asks same = subst (λ (xs : List (Option ℕ)). length xs ≡ p.places) (same_asks a asks same) (noted.0).1
         whole_by (Some (End ws)) is_shown noted asks same = absurd (no_fetch ws asks same)
 
-        pub whole_of : Noted refused shown.refused_shown → (asks : List (Option ℕ)) → refused ≡ Some (Fetch asks) → length asks ≡ p.places
-        whole_of noted asks same = whole_by refused shown.refused_shown noted asks same
+        pub whole_of : Noted refused shown.front_shown → (asks : List (Option ℕ)) → refused ≡ Some (Fetch asks) → length asks ≡ p.places
+        whole_of noted asks same = whole_by refused shown.front_shown noted asks same
 
-        alone_by : (r : Option VaultCall) (is_shown : IsRefusedShown most p q behind r words seen shown.more) → Noted r is_shown → (asks : List (Option ℕ)) → r ≡ Some (Fetch asks) → made ≡ [] → IsRecordAlone p t (Fetch asks) count
+        alone_by : (r : Option VaultCall) (is_shown : IsFrontShown p q behind r words shown.more) → Noted r is_shown → (asks : List (Option ℕ)) → r ≡ Some (Fetch asks) → made ≡ [] → IsRecordAlone p t (Fetch asks) count
         alone_by None is_shown noted asks same none = absurd (cc same)
         alone_by (Some (Fetch a)) is_shown ((room, asked), inl (inl (nothing, idle, short))) asks same none = (let many = row_many (length t.log) in let log = log_shown in (omega (arith, room, log), omega (arith, short, many)))
         alone_by (Some (Fetch a)) is_shown ((room, asked), inl (inr (nothing, one))) asks same none = (let many = row_many (length t.log) in let log = log_shown in (omega (arith, room, log), omega (arith, one, many)))
@@ -441,7 +442,7 @@ module _ {S : Type 0} (disk : S → Disk) (keys : Keys) (p : Params) (word_of : 
           abbrev Next : RunFound
           Next = found_of_life p (reached p word_of s acts) next
 
-          found_by : (r : Option VaultCall) → refused ≡ r → (is_shown : IsRefusedShown most p q behind r words seen shown.more) → Noted r is_shown → IsRefusedFilled p word_of f t r (drawn_of r is_shown) count → AreGatesShown p f turn r count Next → IsFoundAsShown p f turn r count Next
+          found_by : (r : Option VaultCall) → refused ≡ r → (is_shown : IsFrontShown p q behind r words shown.more) → Noted r is_shown → IsRefusedFilled p word_of f t r (drawn_of r is_shown) count → AreGatesShown p f turn r count Next → IsFoundAsShown p f turn r count Next
           found_by None e is_shown noted filled_so gated = (ap (λ (ns : List Note). length ns) is_shown, gated)
           found_by (Some (Fetch asks)) e is_shown (room, inl (inl (nothing, idle, short))) filled_so gated =
               let many = row_many turn.batch in
@@ -463,14 +464,14 @@ module _ {S : Type 0} (disk : S → Disk) (keys : Keys) (p : Params) (word_of : 
               let many = end_row_many writes is_shown.0 cut in
               (λ ended. (omega (arith, one, many), gated.0 ended), λ all. absurd (omega (arith, all, many, one)), gated.1)
 
-        pub left_as_shown : Noted refused shown.refused_shown → (next : Option (ℕ → Bool)) → AreGatesLeft p word_of f s gates steps refused acts count next → IsLeftAsShown p word_of f s t gates steps refused made acts count next
+        pub left_as_shown : Noted refused shown.front_shown → (next : Option (ℕ → Bool)) → AreGatesLeft p word_of f s gates steps refused acts count next → IsLeftAsShown p word_of f s t gates steps refused made acts count next
         left_as_shown noted next gated =
-            let alone : (asks : List (Option ℕ)) → refused ≡ Some (Fetch asks) → made ≡ [] → IsRecordAlone p t (Fetch asks) count = λ asks same none. alone_by refused shown.refused_shown noted asks same none in
+            let alone : (asks : List (Option ℕ)) → refused ≡ Some (Fetch asks) → made ≡ [] → IsRecordAlone p t (Fetch asks) count = λ asks same none. alone_by refused shown.front_shown noted asks same none in
             record {
               whole = whole_of noted;
               alone = alone;
               stays = gated.stays;
-              as_shown = λ found_then is_next. found_by found_then refused refl shown.refused_shown noted (refused_filled alone refused refl shown.refused_shown) (gated.shown found_then is_next);
+              as_shown = λ found_then is_next. found_by found_then refused refl shown.front_shown noted (refused_filled alone refused refl shown.front_shown) (gated.shown found_then is_next);
             }
 
         -- ---- by what the run says of the gates
@@ -523,10 +524,10 @@ module _ {S : Type 0} (disk : S → Disk) (keys : Keys) (p : Params) (word_of : 
         all_left : (r : Option VaultCall) → refused ≡ r → AreActsLeft r (made ++ rest)
         all_left r e = acts_left r made rest flies (subst (λ (x : Option VaultCall). AreFirstActs x made flies) e ((run.goes).left m is).first) finds
 
-        abbrev GateFound : (r : Option VaultCall) → IsRefusedShown most p q behind r words seen shown.more → (ℕ → Bool) → Type 0
-        GateFound r is_shown next = IsGateFoundBy behind.epoch ((q.known).gates (gate_cell p EpochTwin (behind.epoch + 1))) r (notes_lacking most p q behind r words seen shown.more is_shown) (Next next)
+        abbrev GateFound : (r : Option VaultCall) → IsFrontShown p q behind r words shown.more → (ℕ → Bool) → Type 0
+        GateFound r is_shown next = IsGateFoundBy behind.epoch ((q.known).gates (gate_cell p EpochTwin (behind.epoch + 1))) r (front_lacking p q behind r words shown.more is_shown) (Next next)
 
-        shown_by : (next : ℕ → Bool) (r : Option VaultCall) → refused ≡ r → (is_shown : IsRefusedShown most p q behind r words seen shown.more) → IsRefusedFilled p word_of f t r (drawn_of r is_shown) count → GateFound r is_shown next → AreGatesShown p f turn r count (Next next)
+        shown_by : (next : ℕ → Bool) (r : Option VaultCall) → refused ≡ r → (is_shown : IsFrontShown p q behind r words shown.more) → IsRefusedFilled p word_of f t r (drawn_of r is_shown) count → GateFound r is_shown next → AreGatesShown p f turn r count (Next next)
         shown_by next None e is_shown filled_so gated =
             gated (ap (λ (u : LifeState). u.epoch) (there_found ∙ ap (λ (xs : List LifeAct). reached p word_of t xs) (all_left None e)) ∙ sym hidden_epoch) ∙ sym turn_gate
         shown_by next (Some (Fetch asks)) e is_shown filled_so gated =
@@ -543,10 +544,10 @@ module _ {S : Type 0} (disk : S → Disk) (keys : Keys) (p : Params) (word_of : 
         abbrev pub BeginsAt : (ℕ → Bool) → Type 0
         BeginsAt next = (g : Gates) × (next ≡ gates_open g) × (image : Image) × (disk new).may_leave image × StandsInLife keys p word_of (reached p word_of s acts) image × AreGatesIn g image
 
-        pub gates_left : Noted refused shown.refused_shown → LeavesGates keys p q behind refused (notes_lacking most p q behind refused words seen shown.more shown.refused_shown) (disk new).may_leave
+        pub gates_left : Noted refused shown.front_shown → LeavesGates keys p q behind refused (front_lacking p q behind refused words shown.more shown.front_shown) (disk new).may_leave
             → (next : Option (ℕ → Bool)) → ((found_then : ℕ → Bool) → next ≡ Some found_then → BeginsAt found_then) → AreGatesLeft p word_of f s gates steps refused acts count next
         gates_left noted leaves next begins =
-            let alone : (asks : List (Option ℕ)) → refused ≡ Some (Fetch asks) → made ≡ [] → IsRecordAlone p t (Fetch asks) count = λ asks same none. alone_by refused shown.refused_shown noted asks same none in
+            let alone : (asks : List (Option ℕ)) → refused ≡ Some (Fetch asks) → made ≡ [] → IsRecordAlone p t (Fetch asks) count = λ asks same none. alone_by refused shown.front_shown noted asks same none in
             let generation_is : (reached p word_of s acts).generation ≡ behind.generation =
             ap (λ (u : LifeState). u.generation) there_found ∙ generation_stays refused (made ++ rest) (all_left refused refl) ∙ ((run.goes).then).generation in
             record {
@@ -556,9 +557,5 @@ module _ {S : Type 0} (disk : S → Disk) (keys : Keys) (p : Params) (word_of : 
               shown = λ found_then is_next.
                   let (g, is_g, image, may, stands_then, are) = begins found_then is_next in
                   subst (λ (x : ℕ → Bool). AreGatesShown p f turn refused count (Next x)) (sym is_g)
-                  (shown_by (gates_open g) refused refl shown.refused_shown (refused_filled alone refused refl shown.refused_shown) (leaves word_of (reached p word_of s acts) image g may stands_then are).1);
+                  (shown_by (gates_open g) refused refl shown.front_shown (refused_filled alone refused refl shown.front_shown) (leaves word_of (reached p word_of s acts) image g may stands_then are).1);
             }
-
-pub parts_are : {S : Type 0} (disk : S → Disk) → PartsAreRuns disk
-parts_are disk keys p word_of slot f before ranked here most old found opened calls steps behind refused words seen new stands small begins run m is rest acts finds acts_are filled notes shown next told =
-    part_is_run disk keys p word_of slot f before ranked here most old found opened calls steps behind refused words seen new stands (begins word_of (reached p word_of (formatted_life slot) before) stands small) notes shown run m is (filled_made p word_of f (reached p word_of (formatted_life slot) before) (opening_acts (reached p word_of (formatted_life slot) before) ++ (run.goes).acts) ((run.goes).left m is).made rest acts acts_are filled) rest acts finds acts_are next told

@@ -44,7 +44,8 @@ use Rattle.ob_admitted.proofs.Acts.{LeftSound, Sound, calls_sound, ends_join, le
 use Rattle.ob_admitted.proofs.Gating.{both_marked, marked_epoch, marked_generation}
 use Rattle.ob_admitted.proofs.Lives.{lives_are}
 use Rattle.ob_admitted.proofs.Living.{lives_are_filled}
-use Rattle.ob_admitted.proofs.Parts.{filled_first, filled_last, filled_made, gates_left, left_as_shown, parts_are, whole_of}
+use Rattle.ob_admitted.proofs.Parts.{filled_first, filled_last, filled_made}
+use Rattle.ob_admitted.proofs.RefusedParts.{gates_left, left_as_shown, parts_are, whole_of}
 use Rattle.ob_admitted.proofs.Walking.{AreLeftAsNoted, row_lives, row_noted}
 use Rattle.ob_admitted.proofs.Wholes.{repeats_ended, repeats_whole}
 

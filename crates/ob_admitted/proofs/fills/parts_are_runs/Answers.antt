@@ -1,4 +1,4 @@
-use Rattle.ob_admitted.proofs.Parts as laws
+use Rattle.ob_admitted.proofs.RefusedParts as laws
 use Rattle.ob_admitted.proofs.fills.parts_are_runs.Goals as goal
 
 pub returns : goal.returns
