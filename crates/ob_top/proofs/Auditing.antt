@@ -31,11 +31,11 @@ use Rattle.ob_histories.specs.Histories.{MayFind, found_formatted, lines_of_note
 use Rattle.ob_histories.specs.Runs.{HistoryRun, RunFound, is_settled}
 use Rattle.ob_histories.specs.Laws.{AreAdmitted, TakesLines}
 use Rattle.ob_admitted.proofs.Gating.{both_marked, marked_epoch, marked_generation}
+use Rattle.ob_admitted.proofs.Fronting.{IsFrontLeft, refused_left}
 use Rattle.ob_admitted.proofs.Going as going
 use Rattle.ob_admitted.proofs.Rowing.{goes_on}
 use Rattle.ob_admitted.specs.Parts.{IsServedShown}
 use Rattle.ob_admitted.specs.Publics.{AreRecordsWhole}
-use Rattle.ob_admitted.specs.Stopped.{IsServedAsShown}
 use Rattle.ob_admitted.specs.Wholes.{found_of_life}
 use Rattle.ob_top.proofs.Knowing.{acts, few, history_admitted, past_fills, read_then, s, sound, stands}
 use Rattle.ob_top.proofs.Rowing.{IsRowPart, part}
@@ -50,7 +50,7 @@ use Rattle.ob_top.specs.Rows.{IsRowRun, TracedRun}
 module _ {S : Type 0} (disk : S → Disk) (keys : Keys) (p : Params) (past : PastLife) (in_flight : Option LifeAct) (may_leave : Image → Type 0) (known : Follow) (k : AuditorKnows keys p past in_flight may_leave known)
     (most : ℕ) (old : S) (found : RingFound) (opened : S) (calls : List VaultCall) (steps : List (Shape × Fills)) (behind : RingHidden) (refused : Option VaultCall) (words : List ℕ) (seen : List Event) (new : S)
     (told : IsRunTold disk keys p (Served most old found opened calls steps behind refused words seen new)) (tape : AreTapeWords past.word_of (ring_hidden found).generation words)
-    (notes : List Note) (is : IsServedAsShown disk keys p most old found opened calls steps behind refused words seen new told notes) (may : may_leave (disk old).cells) where
+    (notes : List Note) (is : IsFrontLeft disk keys p most old found opened calls steps behind refused words seen new told notes) (may : may_leave (disk old).cells) where
   abbrev before : List LifeAct
   before = acts keys p past in_flight may_leave known k (disk old).cells may
 
@@ -108,7 +108,8 @@ module _ {S : Type 0} (disk : S → Disk) (keys : Keys) (p : Params) (past : Pas
     shown = x.shown;
     audited = served_read disk keys p past in_flight may_leave known k (r.by).lanes r.old x.found x.opened x.calls x.steps x.behind x.refused (r.tape).words x.seen r.new told
         (subst (λ (n : ℕ). AreTapeWords past.word_of n (r.tape).words) (sym x.generation) tape) rows_notes
-        (record { shown = shown; noted = (x.left).noted; gated = (x.left).gated x.knows x.map_found x.is_map x.opened_gate }) one.begun;
+        (refused_left disk keys p (r.by).lanes r.old x.found x.opened x.calls x.steps x.behind x.refused (r.tape).words x.seen r.new told rows_notes
+        (record { shown = shown; noted = (x.left).noted; gated = (x.left).gated x.knows x.map_found x.is_map x.opened_gate })) one.begun;
   }
 
 pub runs_read : {S : Type 0} (disk : S → Disk) → RunsAreRead disk

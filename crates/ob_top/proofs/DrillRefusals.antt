@@ -92,11 +92,11 @@ module _ {V S : Type 0} (k : Kind V) (counts : V → VaultCounts) (agrees : (x :
 
   -- where the vault is behind calls that were answered, and what was seen of them
   behind_blind : (steps : List (VaultCall × VaultAnswer)) (last : V) → (chain : AllCalled k first steps last) → AreAnswered steps
-      → Behind k ring_kind disk (λ v. (runs v).store) keys 4 p f first At (λ v. told_by (runs v)) (ring_does k disk runs words keys 4 p f opened) (tells k disk counts_now only_now runs words keys 4 p f first) ring_lives (at_rest k disk counts_now only_now runs words keys 4 p f first)
-      (at_stop k disk counts_now only_now runs words keys 4 p f first) (at_stage k disk counts_now only_now runs words keys 4 p f first) (ring_public p f) (ring_hidden f) [] 0 first blind steps (blind_chain k first steps last chain).0 last blind
+      → Behind k ring_kind disk (λ v. (runs v).store) keys 4 p f first At (λ v. told_by (runs v)) (ring_does k disk runs words keys 4 p f opened) (tells k disk counts_now only_now runs words keys 4 p f first) ring_lives ring_audits (at_rest k disk counts_now only_now runs words keys 4 p f first)
+      (at_stop k disk counts_now only_now runs words keys 4 p f first) (at_stage k disk counts_now only_now runs words keys 4 p f first run_is) (ring_public p f) (ring_hidden f) [] 0 first blind steps (blind_chain k first steps last chain).0 last blind
   behind_blind steps last chain all =
-      behind k ring_kind disk (λ v. (runs v).store) keys 4 p f first At (λ v. told_by (runs v)) (ring_does k disk runs words keys 4 p f opened) (tells k disk counts_now only_now runs words keys 4 p f first) ring_lives (at_rest k disk counts_now only_now runs words keys 4 p f first)
-      (at_stop k disk counts_now only_now runs words keys 4 p f first) (at_stage k disk counts_now only_now runs words keys 4 p f first) (ring_public p f) (ring_hidden f) [] 0 first blind steps (blind_chain k first steps last chain).0 last blind begun (blind_chain k first steps last chain).1 all
+      behind k ring_kind disk (λ v. (runs v).store) keys 4 p f first At (λ v. told_by (runs v)) (ring_does k disk runs words keys 4 p f opened) (tells k disk counts_now only_now runs words keys 4 p f first) ring_lives ring_audits (at_rest k disk counts_now only_now runs words keys 4 p f first)
+      (at_stop k disk counts_now only_now runs words keys 4 p f first) (at_stage k disk counts_now only_now runs words keys 4 p f first run_is) (ring_public p f) (ring_hidden f) [] 0 first blind steps (blind_chain k first steps last chain).0 last blind begun (blind_chain k first steps last chain).1 all
 
   -- a call was refused behind calls that were answered
   refused_behind : (steps : List (VaultCall × VaultAnswer)) (mid : V) → AllCalled k first steps mid → AreAnswered steps → length (ended_of steps) ≤ 20000 → (call : VaultCall) (answer : VaultAnswer) (last : V) (fault : Fault) → Called k mid call answer last → ChangesNone call → IsRefusal fault answer

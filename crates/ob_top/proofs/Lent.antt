@@ -132,7 +132,7 @@ module _ {V S : Type 0} (k : Kind V) (disk : S → Disk) (counts_now : (x : S) (
       let (front, now) = served_clear k disk (λ v. (runs v).store) (λ v. ((runs v).run).sealer) acts keys first part.mid part.front told part.called (all_served part.front part.answered) keyed in
       rest_clear k disk (λ v. (runs v).store) (λ v. ((runs v).run).sealer) acts keys (disk_of first) part.mid w front now tells part.rest err part.more part.cut
 
-  lender : IsRingLender k disk counts_now only_now runs words keys most p f first
+  lender : IsRingLender k disk counts_now only_now runs words keys most p f first run_is
   lender = record {
     faults = λ v. ap (λ (x : Disk). x.faults) (lent.disk_is v).2;
     goes = goes_on;
@@ -166,6 +166,6 @@ serves_lent first k beat threads p shares script trace runners before last seen 
     let run_is : (runs first).run ≡ f.run = is ∙ sym same in
     let may = may_open p shares f.run.epoch f.run.left script (subst (λ (r : Run). r.epoch < 2 ^ 62) (sym same) small) (subst (λ (r : Run). r.left ≤ p.batches) (sym same) few) sound fit in
     let planned = All-weaker (IsNewOf script) (λ r. plan_of r ≡ asks_by (client_of r) script.txns) (λ r n. n.plan) runners are.new in
-    ring_serves k disk counts_now only_now runs words keys most p f first beat threads shares script_kind runs_scripts script sound may trace runners before (run_state (scene new last seen) ran after) result epoch left
-    unbroken are.clients_are planned (epoch_is ∙ ap (λ (r : Run). r.epoch) run_is) (left_is ∙ ap (λ (r : Run). r.left) run_is) run (lender k disk counts_now only_now runs words lent keys most p found f first goes run_is (present_is ∙ ap (λ (r : Run). r.sealer.generation) (sym same))) run_is
+    ring_serves k disk counts_now only_now runs words keys most p f first run_is beat threads shares script_kind runs_scripts script sound may trace runners before (run_state (scene new last seen) ran after) result epoch left
+    unbroken are.clients_are planned (epoch_is ∙ ap (λ (r : Run). r.epoch) run_is) (left_is ∙ ap (λ (r : Run). r.left) run_is) run (lender k disk counts_now only_now runs words lent keys most p found f first goes run_is (present_is ∙ ap (λ (r : Run). r.sealer.generation) (sym same)))
     (ring_begun k disk runs keys most p found f first goes run_is lanes many has none (λ u holds. lent.holds first u (subst (λ (r : Run). RingHolds r (disk (runs first).store) u) (sym run_is) holds)))

@@ -1,6 +1,6 @@
 -- What serving a script does to the store that a ring vault was lent.
 use Rattle.std.specs.List.{All}
-use Rattle.std.proofs.Common.{◌≡◌, ◌∙◌, ◌⊎◌, ⊎_elim, ap, arith, inl, inr, refl, subst, sym, true, false, ℕ, suc, ◌%◌, Bool, List, [], ◌∷◌, map, Option, None, Some, Result}
+use Rattle.std.proofs.Common.{◌≡◌, ◌<◌, ◌∙◌, ◌⊎◌, ⊎_elim, ap, arith, inl, inr, refl, subst, sym, true, false, ℕ, suc, ◌%◌, Bool, List, [], ◌∷◌, length, map, Option, None, Some, Result}
 use Rattle.std.proofs.lemmas.Bool.{cases_eq}
 use Rattle.ob_base.specs.Layout.{GenerationTwin}
 use Rattle.ob_base.specs.declared.params.Params.{Params}
@@ -13,7 +13,7 @@ use Rattle.ob_store.specs.Lines.{Trace}
 use Rattle.ob_store.specs.declared.event.Event.{Event}
 use Rattle.ob_serial.specs.VaultKinds.{AllCalled, Called, Kind}
 use Rattle.ob_serial.specs.Vaults.{DoubtBy, End, Ended, Fetch, RefusedBy, Values, VaultAnswer, VaultCall}
-use Rattle.ob_vault.specs.RingVaults.{Running}
+use Rattle.ob_vault.specs.RingVaults.{RingCalled, Running}
 use Rattle.ob_vault.specs.RingKind.{RingFound, ring_hidden, ring_kind, ring_public}
 use Rattle.ob_vault.specs.RingSteps.{HasRingWords, RingAt}
 use Rattle.ob_vault.specs.Shapes.{Shape, answered}
@@ -25,15 +25,16 @@ use Rattle.ob_vault.proofs.CallStages.{calls_come_in_stages}
 use Rattle.ob_vault.specs.Acts.{AreAllAnswered, is_answered}
 use Rattle.ob_vault.specs.Gated.{AreGatesKnown}
 use Rattle.ob_vault.proofs.Registers.{chains_known}
-use Rattle.ob_admitted.proofs.Gating.{calls_gated, marked_generation}
-use Rattle.ob_admitted.proofs.Noting.{calls_noted}
+use Rattle.ob_admitted.proofs.Gating.{calls_gated, marked_generation, stages_gated}
+use Rattle.ob_admitted.proofs.Noting.{calls_noted, stages_noted}
+use Rattle.ob_admitted.specs.Told.{MayBeCut}
+use Rattle.ob_top.specs.Staged.{IsCallStagedAsShown}
 use Rattle.ob_conduct.specs.Records.{AreAnswered}
 use Rattle.ob_fetch.specs.declared.run.Run.{Run}
 use Rattle.ob_recover.specs.Known.{gates_open}
 use Rattle.ob_twin.specs.Opening.{is_marked}
 use Rattle.ob_twin.specs.declared.gates.Gates.{Gates}
 use Rattle.ob_twin.specs.declared.gates.Open.{Open}
-use Rattle.ob_vault.specs.Staged.{RingCallStaged}
 use Rattle.ob_vault.specs.Lives.{RingGoesOn}
 use Rattle.ob_vault.specs.RingLives.{ring_lives}
 use Rattle.ob_top.specs.Audited.{ring_audits}
@@ -88,53 +89,78 @@ module _ {V S : Type 0} (k : Kind V) (disk : S → Disk) (counts_now : (x : S) (
       → RingGoesOn keys most p f (disk (runs first).store) calls steps h (Some call) (runs w).drawn seen (disk (runs w).store)
   at_stop calls steps q h so_far n v drawn at call answer w one refused seen cut shown = goes_on_refused k disk runs words counts_now only_now keys most p f (disk (runs first).store) calls steps q h n v drawn at call answer w one cut.0 refused seen cut.1 shown
 
-  pub at_stage : (calls : List VaultCall) (steps : List (Shape × Fills)) (q : RingPublic) (h : RingHidden) (so_far : List Shape) (n : ℕ) (v : V) → AreDrawn ring_kind p (ring_hidden f) calls steps h → RingBehind k disk runs words keys most p f (disk (runs first).store) q h so_far n v
-      → (call : VaultCall) (answer : VaultAnswer) (w : V) → Called k v call answer w → RingCallStaged disk keys most p f (disk (runs first).store) calls steps q h call (runs w).drawn (is_answered answer) (runs v).store (runs w).store
-  at_stage calls steps q h so_far n v drawn at call answer w one = calls_come_in_stages k disk counts_now only_now runs words keys most p f first calls steps q h n v drawn at call answer w one
+  -- a batch is left for a call that asks for one, and all its places are asked for
+  may_be_cut : (q : RingPublic) (h : RingHidden) (n : ℕ) (v : V) → RingAt k disk runs keys most p f (disk (runs first).store) q h n v → (call : VaultCall) (answer : VaultAnswer) (w : V) → Called k v call answer w → MayBeCut p q call
+  may_be_cut q h n v at (Fetch asks) answer w one =
+      let some : (0 < ((runs v).run).left) × (length asks ≡ (((runs v).run).params).places) = batch_left answer (words.called v (Fetch asks) answer one.notes w one.called) in (
+        (let left = at.left in let shown = at.shown in let few = some.0 in omega (arith, left, shown, few)),
+        some.1 ∙ ap (λ (x : Params). x.places) at.params,
+      )
+    where
+      batch_left : (answer : VaultAnswer) → RingCalled disk (runs v) (runs w) one.notes (Fetch asks) answer → (0 < ((runs v).run).left) × (length asks ≡ (((runs v).run).params).places)
+      batch_left (Values out) is = (is.some_left, is.whole)
+      batch_left (RefusedBy refused) is = (is.some_left, is.whole)
+      batch_left Ended is = absurd is
+      batch_left (DoubtBy refused) is = absurd is
+  may_be_cut q h n v at (End writes) answer w one = tt
 
-  -- where the vault is behind calls, and one more was refused: as it showed
-  abbrev AtRest : Type 0
-  AtRest = RestShown k ring_kind disk (λ v. (runs v).store) keys most p f first (RingBehind k disk runs words keys most p f (disk (runs first).store)) (λ v. told_by (runs v)) (ring_does k disk runs words keys most p f (disk (runs first).store)) tells ring_lives at_rest at_stop at_stage ring_audits first
+  module _ (run_is : (runs first).run ≡ f.run) where
+    -- the gates that were known go on being known
+    module _ (asked : List (VaultCall × VaultAnswer)) (v : V) (chain : AllCalled k first asked v) (all : AreAnswered asked) (known : AreGatesKnown f.run (disk (runs first).store)) where
+      chained : AreGatesKnown (runs v).run (disk (runs v).store) × ((((runs v).run).gates).generation ≡ (((runs first).run).gates).generation)
+      chained = chains_known k disk runs words first v asked (subst (λ (r : Run). AreGatesKnown r (disk (runs first).store)) (sym run_is) known) chain (all_are asked all)
 
-  abbrev AtStop : Type 0
-  AtStop = StopShown k ring_kind disk (λ v. (runs v).store) keys most p f first (RingBehind k disk runs words keys most p f (disk (runs first).store)) (λ v. told_by (runs v)) (ring_does k disk runs words keys most p f (disk (runs first).store)) tells ring_lives at_rest at_stop at_stage ring_audits first
+      still_open : (n : ℕ) → gates_open (f.run).gates (gate_cell p GenerationTwin n) ≡ true → gates_open ((runs v).run).gates (gate_cell p GenerationTwin n) ≡ true
+      still_open n opened = same_generation p ((runs v).run).gates (f.run).gates n (chained.1 ∙ ap (λ (r : Run). (r.gates).generation) run_is) ∙ opened
 
-  -- the gates that were known go on being known
-  module _ (run_is : (runs first).run ≡ f.run) (asked : List (VaultCall × VaultAnswer)) (v : V) (chain : AllCalled k first asked v) (all : AreAnswered asked) (known : AreGatesKnown f.run (disk (runs first).store)) where
-    chained : AreGatesKnown (runs v).run (disk (runs v).store) × ((((runs v).run).gates).generation ≡ (((runs first).run).gates).generation)
-    chained = chains_known k disk runs words first v asked (subst (λ (r : Run). AreGatesKnown r (disk (runs first).store)) (sym run_is) known) chain (all_are asked all)
+    pub at_stage : (asked : List (VaultCall × VaultAnswer)) (calls : List VaultCall) (steps : List (Shape × Fills)) (q : RingPublic) (h : RingHidden) (so_far : List Shape) (n : ℕ) (v : V) → AllCalled k first asked v → AreAnswered asked → AreDrawn ring_kind p (ring_hidden f) calls steps h
+        → RingBehind k disk runs words keys most p f (disk (runs first).store) q h so_far n v → (call : VaultCall) (answer : VaultAnswer) (w : V) → Called k v call answer w
+        → IsCallStagedAsShown ring_kind ring_lives ring_audits disk keys most p f (disk (runs first).store) calls steps q h call (runs w).drawn (is_answered answer) (runs v).store (runs w).store
+    at_stage asked calls steps q h so_far n v chain all drawn at call answer w one = (
+      calls_come_in_stages k disk counts_now only_now runs words keys most p f first calls steps q h n v drawn at call answer w one,
+      λ m is stage x cut seen may. (let stops = cut.stops seen may in record {
+        goes = stops.0;
+        noted = λ fills count many word_of s here tape m' is'. stages_noted p q call fills stage count _ _ (may_be_cut q h n v at call answer w one) (stops.1 word_of s here tape m' is') many;
+        gated = λ fills count many known opened.
+            stages_gated k disk runs words keys most p f first calls steps q h n v at (chained asked v chain all known).0 (still_open asked v chain all known (suc h.generation) opened) m is call (runs w).drawn stage x cut fills count many;
+      }),
+    )
 
-    still_open : (n : ℕ) → gates_open (f.run).gates (gate_cell p GenerationTwin n) ≡ true → gates_open ((runs v).run).gates (gate_cell p GenerationTwin n) ≡ true
-    still_open n opened = same_generation p ((runs v).run).gates (f.run).gates n (chained.1 ∙ ap (λ (r : Run). (r.gates).generation) run_is) ∙ opened
+    -- where the vault is behind calls, and one more was refused: as it showed
+    abbrev AtRest : Type 0
+    AtRest = RestShown k ring_kind disk (λ v. (runs v).store) keys most p f first (RingBehind k disk runs words keys most p f (disk (runs first).store)) (λ v. told_by (runs v)) (ring_does k disk runs words keys most p f (disk (runs first).store)) tells ring_lives ring_audits at_rest at_stop at_stage first
 
-  rest_is : (runs first).run ≡ f.run → AtRest
-  rest_is run_is asked taken h so_far n v chain all drawn at = record {
-    shown = refl;
-    goes = at_rest (answered asked) taken _ h so_far n v drawn at [];
-    noted = λ word_of s here tape m is. tt;
-    gated = λ known m is opened. (calls_gated k disk runs words keys most p f first _ h n v at (chained run_is asked v chain all known).0 (still_open run_is asked v chain all known (suc h.generation) opened) m is).0;
-  }
+    abbrev AtStop : Type 0
+    AtStop = StopShown k ring_kind disk (λ v. (runs v).store) keys most p f first (RingBehind k disk runs words keys most p f (disk (runs first).store)) (λ v. told_by (runs v)) (ring_does k disk runs words keys most p f (disk (runs first).store)) tells ring_lives ring_audits at_rest at_stop at_stage first
 
-  stop_is : (runs first).run ≡ f.run → AtStop
-  stop_is run_is asked taken h so_far n v chain all drawn at call answer w one fault seen cut shown unanswered =
-      let left = calls_noted k disk counts_now only_now runs words keys most p f first (answered asked) taken _ h n v drawn at call answer w one unanswered cut.0 fault seen cut.1 shown in
-      record {
-        shown = (cut.0, fault, cut.1, shown);
-        goes = left.0;
-        noted = left.1;
-        gated = λ known m is opened. (calls_gated k disk runs words keys most p f first _ h n v at (chained run_is asked v chain all known).0 (still_open run_is asked v chain all known (suc h.generation) opened) m is).1 call answer w one unanswered cut.0 fault seen cut.1 shown;
-      }
+    rest_is : AtRest
+    rest_is asked taken h so_far n v chain all drawn at = record {
+      shown = refl;
+      goes = at_rest (answered asked) taken _ h so_far n v drawn at [];
+      noted = λ word_of s here tape m is. tt;
+      gated = λ known m is opened. (calls_gated k disk runs words keys most p f first _ h n v at (chained asked v chain all known).0 (still_open asked v chain all known (suc h.generation) opened) m is).0;
+    }
 
-  abbrev pub IsRingLender : Type 1
-  IsRingLender = IsLender k ring_kind disk (λ v. (runs v).store) keys most p f first (RingBehind k disk runs words keys most p f (disk (runs first).store)) (λ v. told_by (runs v)) (ring_does k disk runs words keys most p f (disk (runs first).store)) tells ring_lives at_rest at_stop at_stage (f.run).sealer
+    stop_is : AtStop
+    stop_is asked taken h so_far n v chain all drawn at call answer w one fault seen cut shown unanswered =
+        let left = calls_noted k disk counts_now only_now runs words keys most p f first (answered asked) taken _ h n v drawn at call answer w one unanswered cut.0 fault seen cut.1 shown in
+        record {
+          shown = (cut.0, fault, cut.1, shown);
+          goes = left.0;
+          noted = left.1;
+          gated = λ known m is opened. (calls_gated k disk runs words keys most p f first _ h n v at (chained asked v chain all known).0 (still_open asked v chain all known (suc h.generation) opened) m is).1 call answer w one unanswered cut.0 fault seen cut.1 shown;
+        }
 
-  pub ring_serves : {U : Type 0} (beat : BeatKind) (threads : Bool) (shares : Shares) (kind : RunnerKind U (List ScriptTxn)) (means : RunsScripts kind) (script : Scripts) (sound : AreSound script)
-      (may : MayOpen (setup_with p shares) (suc (f.run).epoch) (f.run).left script.clients) (trace : Trace) (runners : List U) (before : Flow) (end : RunState V U) (result : Result (Unit {0}) RunErr) (epoch left : ℕ)
-      → trace.broken ≡ false → map kind.client runners ≡ script.clients → All (λ u. kind.plan u ≡ asks_by (kind.client u) script.txns) runners → epoch ≡ (f.run).epoch → left ≡ (f.run).left
-      → RunsBy threads k kind beat (run_state (scene (new_desk (setup_with p shares) (suc epoch) left script.clients) first trace) runners before) end result
-      → IsRingLender → (runs first).run ≡ f.run → RingAt k disk runs keys most p f (disk (runs first).store) (ring_public p f) (ring_hidden f) 0 first
-      → (s : ServedOver ring_kind ring_lives ring_audits disk (manner beat threads most shares) keys p f (f.run).sealer script (told_by (runs end.scene.vault)) (runs first).store (runs end.scene.vault).store before end.output trace end.scene.trace (err_of result))
-      × CallsBehind k first (calls s.is_served.served.evidence.acts) end.scene.vault (err_of result)
-  ring_serves beat threads shares kind means script sound may trace runners before end result epoch left unbroken named planned epoch_is left_is run l run_is begun =
-      serves_on k ring_kind disk (λ v. (runs v).store) keys most p f first (RingBehind k disk runs words keys most p f (disk (runs first).store)) (λ v. told_by (runs v)) (ring_does k disk runs words keys most p f (disk (runs first).store)) tells ring_lives at_rest at_stop at_stage
-      beat threads shares kind means (f.run).sealer script sound may trace runners before end result epoch left unbroken named planned epoch_is left_is run l ring_audits (rest_is run_is) (stop_is run_is) begun
+    abbrev pub IsRingLender : Type 1
+    IsRingLender = IsLender k ring_kind disk (λ v. (runs v).store) keys most p f first (RingBehind k disk runs words keys most p f (disk (runs first).store)) (λ v. told_by (runs v)) (ring_does k disk runs words keys most p f (disk (runs first).store)) tells ring_lives ring_audits at_rest at_stop at_stage (f.run).sealer
+
+    pub ring_serves : {U : Type 0} (beat : BeatKind) (threads : Bool) (shares : Shares) (kind : RunnerKind U (List ScriptTxn)) (means : RunsScripts kind) (script : Scripts) (sound : AreSound script)
+        (may : MayOpen (setup_with p shares) (suc (f.run).epoch) (f.run).left script.clients) (trace : Trace) (runners : List U) (before : Flow) (end : RunState V U) (result : Result (Unit {0}) RunErr) (epoch left : ℕ)
+        → trace.broken ≡ false → map kind.client runners ≡ script.clients → All (λ u. kind.plan u ≡ asks_by (kind.client u) script.txns) runners → epoch ≡ (f.run).epoch → left ≡ (f.run).left
+        → RunsBy threads k kind beat (run_state (scene (new_desk (setup_with p shares) (suc epoch) left script.clients) first trace) runners before) end result
+        → IsRingLender → RingAt k disk runs keys most p f (disk (runs first).store) (ring_public p f) (ring_hidden f) 0 first
+        → (s : ServedOver ring_kind ring_lives ring_audits disk (manner beat threads most shares) keys p f (f.run).sealer script (told_by (runs end.scene.vault)) (runs first).store (runs end.scene.vault).store before end.output trace end.scene.trace (err_of result))
+        × CallsBehind k first (calls s.is_served.served.evidence.acts) end.scene.vault (err_of result)
+    ring_serves beat threads shares kind means script sound may trace runners before end result epoch left unbroken named planned epoch_is left_is run l begun =
+        serves_on k ring_kind disk (λ v. (runs v).store) keys most p f first (RingBehind k disk runs words keys most p f (disk (runs first).store)) (λ v. told_by (runs v)) (ring_does k disk runs words keys most p f (disk (runs first).store)) tells ring_lives ring_audits at_rest at_stop at_stage
+        beat threads shares kind means (f.run).sealer script sound may trace runners before end result epoch left unbroken named planned epoch_is left_is run l rest_is stop_is begun

@@ -65,8 +65,8 @@ use Rattle.ob_pads.specs.Laws.{NoneServed}
 use Rattle.ob_top.proofs.Clearing.{Parted}
 use Rattle.ob_top.proofs.Listing.{are_listed}
 use Rattle.ob_top.proofs.Lines.{lines_stand, next_by_acts}
-use Rattle.ob_top.proofs.Staging.{drawn_more, staged_then}
-use Rattle.ob_top.specs.Staged.{CallsStaged}
+use Rattle.ob_top.proofs.Staging.{called_more, calls_then, drawn_more}
+use Rattle.ob_top.specs.Staged.{CallsStaged, IsCallStagedAsShown}
 use Rattle.ob_top.specs.Runs.{ListsActs, EachShown, EndsFor, IsShownToWatch, refused_row, steps_rows, IsLeftOnDisk, ServedOver, LivesBehind}
 use Rattle.ob_top.specs.Parts.{IsInClearBehind, Manner, manner, EndsWith, IsTraced, StagedFrom, IsNextEpoch, ComesNext}
 
@@ -110,17 +110,21 @@ all_answered ((End writes, DoubtBy fault) ∷ steps) are = absurd are
 module _ {V S : Type 0} (k : Kind V) (store : StoreKind) (disk : S → Disk) (store_of : V → S) (under : Keys) (most : ℕ) (p : Params) (found : store.Found) (start : V) (At : store.Public → store.Hidden → List Shape → ℕ → V → Type 0) (tape_of : V → Given)
     (does : (q : store.Public) (h : store.Hidden) (so_far : List Shape) (n : ℕ) (v : V) (call : VaultCall) (answer : VaultAnswer) (w : V) → At q h so_far n v → (one : Called k v call answer w)
     → IsCallOfKind store under most p found (disk (store_of start)) At (disk (store_of v)) (disk (store_of w)) (tape_of w).words w one.notes q h so_far n call answer)
-    (tells : (q : store.Public) (h : store.Hidden) (so_far : List Shape) (n : ℕ) (v : V) → At q h so_far n v → (fault : Option Fault) → store.is_of_tape p h None (tape_of v).words fault) (life : LifeWords store)
+    (tells : (q : store.Public) (h : store.Hidden) (so_far : List Shape) (n : ℕ) (v : V) → At q h so_far n v → (fault : Option Fault) → store.is_of_tape p h None (tape_of v).words fault) (life : LifeWords store) (audit : AuditWords store)
     (at_rest : (calls : List VaultCall) (taken : List (Shape × store.Drawn)) (q : store.Public) (h : store.Hidden) (so_far : List Shape) (n : ℕ) (v : V) → AreDrawn store p (store.hidden p found) calls taken h → At q h so_far n v
     → (seen : List Event) → life.goes_on under most p found (disk (store_of start)) calls taken h None (tape_of v).words seen (disk (store_of v)))
     (at_stop : (calls : List VaultCall) (taken : List (Shape × store.Drawn)) (q : store.Public) (h : store.Hidden) (so_far : List Shape) (n : ℕ) (v : V) → AreDrawn store p (store.hidden p found) calls taken h → At q h so_far n v
     → (call : VaultCall) (answer : VaultAnswer) (w : V) (one : Called k v call answer w) (fault : Fault) (seen : List Event) (cut : IsSeenCut store most p q h (Some call) (tape_of w).words (Some fault) seen) → store.cut_shown most p q call cut.0 fault seen one.notes
     → life.goes_on under most p found (disk (store_of start)) calls taken h (Some call) (tape_of w).words seen (disk (store_of w)))
-    (at_stage : (calls : List VaultCall) (taken : List (Shape × store.Drawn)) (q : store.Public) (h : store.Hidden) (so_far : List Shape) (n : ℕ) (v : V) → AreDrawn store p (store.hidden p found) calls taken h → At q h so_far n v
-    → (call : VaultCall) (answer : VaultAnswer) (w : V) → Called k v call answer w → life.call_staged disk under most p found (disk (store_of start)) calls taken q h call (tape_of w).words (is_answered answer) (store_of v) (store_of w)) where
+    (at_stage : (asked : List (VaultCall × VaultAnswer)) (calls : List VaultCall) (taken : List (Shape × store.Drawn)) (q : store.Public) (h : store.Hidden) (so_far : List Shape) (n : ℕ) (v : V) → AllCalled k start asked v → AreAnswered asked → AreDrawn store p (store.hidden p found) calls taken h → At q h so_far n v
+    → (call : VaultCall) (answer : VaultAnswer) (w : V) → Called k v call answer w → IsCallStagedAsShown store life audit disk under most p found (disk (store_of start)) calls taken q h call (tape_of w).words (is_answered answer) (store_of v) (store_of w)) where
   -- these calls came in stages behind earlier ones, from this store to that
   abbrev Staged : Option VaultCall → (words : List ℕ) (behind : store.Hidden) (new : S) (done : List VaultCall) (taken : List (Shape × store.Drawn)) → store.Public → store.Hidden → List VaultCall → List (Shape × store.Drawn) → S → Type 0
-  Staged = CallsStaged store life disk under most p found (disk (store_of start))
+  Staged = CallsStaged store life audit disk under most p found (disk (store_of start))
+
+  -- so did one of them, behind earlier ones
+  abbrev OneStaged : (done : List VaultCall) (taken : List (Shape × store.Drawn)) → store.Public → store.Hidden → VaultCall → (words : List ℕ) → (whole : Bool) → (old new : S) → Type 0
+  OneStaged = IsCallStagedAsShown store life audit disk under most p found (disk (store_of start))
 
   -- Behind calls that were all answered: what they drew, what was seen, and where the vault is.
   pub record Behind (q : store.Public) (h : store.Hidden) (so_far : List Shape) (n : ℕ) (first : V) (t : Trace) (steps : List (VaultCall × VaultAnswer)) (notes : List Note) (last : V) (u : Trace) : Type 0 where
@@ -132,7 +136,7 @@ module _ {V S : Type 0} (k : Kind V) (store : StoreKind) (disk : S → Disk) (st
     pub seen : ArePhasesMade most (steps_phases store p q taken) (disk (store_of first)).seen (disk (store_of last)).seen
     pub shown : notes ≡ steps_notes store p q taken
     pub each : EachShown (steps_rows store p q taken) t u
-    pub staged : (done : List VaultCall) (earlier : List (Shape × store.Drawn)) → AreDrawn store p (store.hidden p found) done earlier h → Staged None (tape_of last).words kept (store_of last) done earlier q h (answered steps) taken (store_of first)
+    pub staged : (asked : List (VaultCall × VaultAnswer)) (done : List VaultCall) (earlier : List (Shape × store.Drawn)) → AllCalled k start asked first → AreAnswered asked → AreDrawn store p (store.hidden p found) done earlier h → Staged None (tape_of last).words kept (store_of last) done earlier q h (answered steps) taken (store_of first)
 
   stays : (q : store.Public) (h : store.Hidden) (so_far : List Shape) (n : ℕ) (v : V) (t u : Trace) → u ≡ t → At q h so_far n v → Behind q h so_far n v t [] [] v u
   stays q h so_far n v t u still at = record {
@@ -144,21 +148,21 @@ module _ {V S : Type 0} (k : Kind V) (store : StoreKind) (disk : S → Disk) (st
     seen = made_none most _ _ (none_noted _);
     shown = refl;
     each = still;
-    staged = λ done earlier so_drawn. (refl, refl);
+    staged = λ asked done earlier chain all so_drawn. (refl, refl);
   }
     where
       no_more : (m : ℕ) → m ≡ m + length {A = List (ℕ × Option (List ℕ))} []
       no_more m = omega arith
 
   -- one call before them
-  before_it : (q : store.Public) (h : store.Hidden) (so_far : List Shape) (n : ℕ) (first mid last : V) (t between u : Trace) → t.broken ≡ false → (call : VaultCall) (m : ℕ) (step : VaultCall × VaultAnswer) (steps : List (VaultCall × VaultAnswer)) → shapes
+  before_it : (q : store.Public) (h : store.Hidden) (so_far : List Shape) (n : ℕ) (first mid last : V) (t between u : Trace) → t.broken ≡ false → (call : VaultCall) (answer : VaultAnswer) → Called k first call answer mid → AreAnswered ((call, answer) ∷ []) → (m : ℕ) (step : VaultCall × VaultAnswer) (steps : List (VaultCall × VaultAnswer)) → shapes
       (step ∷ steps) ≡ shape_of call ∷ shapes steps
       → answered (step ∷ steps) ≡ call ∷ answered steps
       → m + length (ended_of steps) ≡ n + length (ended_of (step ∷ steps)) → (own more : List Note) (one : IsAnsweredCall store most p At (disk (store_of first)) (disk (store_of mid)) mid q h so_far call m own)
-      → ((done : List VaultCall) (earlier : List (Shape × store.Drawn)) → AreDrawn store p (store.hidden p found) done earlier h → life.call_staged disk under most p found (disk (store_of start)) done earlier q h call (tape_of mid).words true (store_of first) (store_of mid))
+      → ((asked : List (VaultCall × VaultAnswer)) (done : List VaultCall) (earlier : List (Shape × store.Drawn)) → AllCalled k start asked first → AreAnswered asked → AreDrawn store p (store.hidden p found) done earlier h → OneStaged done earlier q h call (tape_of mid).words true (store_of first) (store_of mid))
       → Shows own t between → Behind (store.next p q (shape_of call) one.drawn) one.behind (so_far ++ shape_of call ∷ []) m mid between steps more last u
       → Behind q h so_far n first t (step ∷ steps) (own ++ more) last u
-  before_it q h so_far n first mid last t between u whole call m step steps is are counts own more one own_stages own_shown b = record {
+  before_it q h so_far n first mid last t between u whole call answer its_call given m step steps is are counts own more one own_stages own_shown b = record {
     taken = (shape_of call, one.drawn) ∷ b.taken;
     shapes_are = ap (λ (l : List Shape). shape_of call ∷ l) b.shapes_are ∙ sym is;
     kept = b.kept;
@@ -168,15 +172,15 @@ module _ {V S : Type 0} (k : Kind V) (store : StoreKind) (disk : S → Disk) (st
     seen = made_join most (store.phases p q (shape_of call) one.drawn) (steps_phases store p (store.next p q (shape_of call) one.drawn) b.taken) _ _ _ one.seen b.seen;
     shown = ap (λ (l : List Note). l ++ more) one.shown ∙ ap (λ (l : List Note). store.notes p q (shape_of call) one.drawn ++ l) b.shown;
     each = (whole, (between, subst (λ (l : List Note). Shows l t between) one.shown own_shown, b.each));
-    staged = λ done earlier so_drawn.
+    staged = λ asked done earlier chain all so_drawn.
         subst (λ (l : List VaultCall). Staged None (tape_of last).words b.kept (store_of last) done earlier q h l ((shape_of call, one.drawn) ∷ b.taken) (store_of first)) (sym are) (
           store_of mid,
           (tape_of mid).words,
           one.behind,
           one.draws,
           tells (store.next p q (shape_of call) one.drawn) one.behind (so_far ++ shape_of call ∷ []) m mid one.at None,
-          own_stages done earlier so_drawn,
-          b.staged (done ++ call ∷ []) (earlier ++ (shape_of call, one.drawn) ∷ []) (drawn_more store p (store.hidden p found) h done earlier call (shape_of call, one.drawn) one.behind so_drawn one.draws),
+          own_stages asked done earlier chain all so_drawn,
+          b.staged (asked ++ (call, answer) ∷ []) (done ++ call ∷ []) (earlier ++ (shape_of call, one.drawn) ∷ []) (called_more k start first mid asked call answer chain its_call) (answered_join asked ((call, answer) ∷ []) all given) (drawn_more store p (store.hidden p found) h done earlier call (shape_of call, one.drawn) one.behind so_drawn one.draws),
         );
   }
 
@@ -186,12 +190,12 @@ module _ {V S : Type 0} (k : Kind V) (store : StoreKind) (disk : S → Disk) (st
   behind q h so_far n first t ((Fetch keys, Values values) ∷ steps) notes last u at (mid, between, one, more, are, rest) all =
       let goes = does q h so_far n first (Fetch keys) (Values values) mid at one.one in
       subst (λ (l : List Note). Behind q h so_far n first t ((Fetch keys, Values values) ∷ steps) l last u) (sym are)
-      (before_it q h so_far n first mid last t between u one.whole (Fetch keys) n (Fetch keys, Values values) steps refl refl refl one.one.notes more goes (λ done earlier so_drawn. at_stage done earlier q h so_far n first so_drawn at (Fetch keys) (Values values) mid one.one) one.shown
+      (before_it q h so_far n first mid last t between u one.whole (Fetch keys) (Values values) one.one tt n (Fetch keys, Values values) steps refl refl refl one.one.notes more goes (λ asked done earlier chain all_so so_drawn. at_stage asked done earlier q h so_far n first chain all_so so_drawn at (Fetch keys) (Values values) mid one.one) one.shown
       (behind (store.next p q Fetches goes.drawn) goes.behind (so_far ++ Fetches ∷ []) n mid between steps more last u goes.at rest all))
   behind q h so_far n first t ((End writes, Ended) ∷ steps) notes last u at (mid, between, one, more, are, rest) all =
       let goes = does q h so_far n first (End writes) Ended mid at one.one in
       subst (λ (l : List Note). Behind q h so_far n first t ((End writes, Ended) ∷ steps) l last u) (sym are)
-      (before_it q h so_far n first mid last t between u one.whole (End writes) (suc n) (End writes, Ended) steps refl refl (one_more n (length (ended_of steps))) one.one.notes more goes (λ done earlier so_drawn. at_stage done earlier q h so_far n first so_drawn at (End writes) Ended mid one.one) one.shown
+      (before_it q h so_far n first mid last t between u one.whole (End writes) Ended one.one tt (suc n) (End writes, Ended) steps refl refl (one_more n (length (ended_of steps))) one.one.notes more goes (λ asked done earlier chain all_so so_drawn. at_stage asked done earlier q h so_far n first chain all_so so_drawn at (End writes) Ended mid one.one) one.shown
       (behind (store.next p q Ends goes.drawn) goes.behind (so_far ++ Ends ∷ []) (suc n) mid between steps more last u goes.at rest all))
     where
       one_more : (i j : ℕ) → suc i + j ≡ i + suc j
@@ -239,19 +243,19 @@ module _ {V S : Type 0} (k : Kind V) (store : StoreKind) (disk : S → Disk) (st
   Hides h v = (q : store.Public) × (so_far : List Shape) × (n : ℕ) × At q h so_far n v
 
   -- behind calls that were answered the store is left as they showed
-  abbrev pub RestShown : AuditWords store → V → Type 0
-  RestShown audit first = (asked : List (VaultCall × VaultAnswer)) (taken : List (Shape × store.Drawn)) (h : store.Hidden) (so_far : List Shape) (n : ℕ) (v : V) → AllCalled k first asked v → AreAnswered asked → AreDrawn store p (store.hidden p found) (answered asked) taken h
+  abbrev pub RestShown : V → Type 0
+  RestShown first = (asked : List (VaultCall × VaultAnswer)) (taken : List (Shape × store.Drawn)) (h : store.Hidden) (so_far : List Shape) (n : ℕ) (v : V) → AllCalled k first asked v → AreAnswered asked → AreDrawn store p (store.hidden p found) (answered asked) taken h
       → At (public_behind store p (store.public p found) taken) h so_far n v → audit.leaves_as_shown under most p found (disk (store_of start)) (answered asked) taken h None (tape_of v).words [] [] (disk (store_of v))
 
   -- and so behind one that was refused
-  abbrev pub StopShown : AuditWords store → V → Type 0
-  StopShown audit first = (asked : List (VaultCall × VaultAnswer)) (taken : List (Shape × store.Drawn)) (h : store.Hidden) (so_far : List Shape) (n : ℕ) (v : V) → AllCalled k first asked v → AreAnswered asked → AreDrawn store p (store.hidden p found) (answered asked) taken h
+  abbrev pub StopShown : V → Type 0
+  StopShown first = (asked : List (VaultCall × VaultAnswer)) (taken : List (Shape × store.Drawn)) (h : store.Hidden) (so_far : List Shape) (n : ℕ) (v : V) → AllCalled k first asked v → AreAnswered asked → AreDrawn store p (store.hidden p found) (answered asked) taken h
       → At (public_behind store p (store.public p found) taken) h so_far n v → (call : VaultCall) (answer : VaultAnswer) (w : V) (one : Called k v call answer w) (fault : Fault) (seen : List Event)
       (cut : IsSeenCut store most p (public_behind store p (store.public p found) taken) h (Some call) (tape_of w).words (Some fault) seen) → store.cut_shown most p (public_behind store p (store.public p found) taken) call cut.0 fault seen one.notes → is_answered answer ≡ false
       → audit.leaves_as_shown under most p found (disk (store_of start)) (answered asked) taken h (Some call) (tape_of w).words seen one.notes (disk (store_of w))
 
   module _ (first last : V) (t u : Trace) (unbroken : t.broken ≡ false) (before after : Flow) (records : List (EpochRecord ℕ)) (begun : At (store.public p found) (store.hidden p found) [] 0 first)
-      (audit : AuditWords store) (rest_shown : RestShown audit first) (stop_shown : StopShown audit first) where
+      (opened_so : first ≡ start) (rest_shown : RestShown first) (stop_shown : StopShown first) where
     abbrev old_disk : Disk
     old_disk = disk (store_of first)
 
@@ -321,7 +325,7 @@ module _ {V S : Type 0} (k : Kind V) (store : StoreKind) (disk : S → Disk) (st
             more = refl;
             cut = tt;
           };
-          staged = subst (λ (o : Option VaultCall). Staged o (tape_of last).words b.kept (store_of last) [] [] (store.public p found) (store.hidden p found) (answered asked) b.taken (store_of first)) (sym none) (b.staged [] [] refl);
+          staged = subst (λ (o : Option VaultCall). Staged o (tape_of last).words b.kept (store_of last) [] [] (store.public p found) (store.hidden p found) (answered asked) b.taken (store_of first)) (sym none) (b.staged [] [] [] opened_so tt refl);
           audited = subst (λ (o : Option VaultCall). audit.leaves_as_shown under most p found (disk (store_of start)) (answered asked) b.taken b.kept o (tape_of last).words [] [] (disk (store_of last))) (sym none)
               (rest_shown asked b.taken b.kept (shapes asked) (0 + length (ended_of asked)) last (called k first t asked notes last u chain) all b.drawn b.at);
         }
@@ -404,9 +408,9 @@ module _ {V S : Type 0} (k : Kind V) (store : StoreKind) (disk : S → Disk) (st
             };
             staged = subst (λ (l : List VaultCall). Staged (refused (front ++ (call, answer) ∷ [])) (tape_of last).words b.kept (store_of last) [] [] (store.public p found) (store.hidden p found) l b.taken (store_of first)) (sym calls_front)
                 (subst (λ (o : Option VaultCall). Staged o (tape_of last).words b.kept (store_of last) [] [] (store.public p found) (store.hidden p found) (answered front) b.taken (store_of first)) (sym was_cut)
-                (staged_then store life disk under most p found (disk (store_of start)) call (tape_of mid).words (tape_of last).words b.kept (store_of mid) (store_of last) [] [] (store.public p found) (store.hidden p found) (answered front) b.taken (store_of first) (b.staged [] [] refl)
-                (subst (λ (whole : Bool). life.call_staged disk under most p found (disk (store_of start)) (answered front) b.taken q b.kept call (tape_of last).words whole (store_of mid) (store_of last)) unanswered
-                (at_stage (answered front) b.taken q b.kept (shapes front) (0 + length (ended_of front)) mid b.drawn b.at call answer last one))));
+                (calls_then store p (OneStaged) call (tape_of mid).words (tape_of last).words b.kept (store_of mid) (store_of last) [] [] (store.public p found) (store.hidden p found) (answered front) b.taken (store_of first) (b.staged [] [] [] opened_so tt refl)
+                (subst (λ (whole : Bool). OneStaged (answered front) b.taken q b.kept call (tape_of last).words whole (store_of mid) (store_of last)) unanswered
+                (at_stage front (answered front) b.taken q b.kept (shapes front) (0 + length (ended_of front)) mid (subst (λ v. AllCalled k v front mid) opened_so (called k first t front front_notes mid between before_last)) all b.drawn b.at call answer last one))));
             audited = subst (λ (l : List VaultCall). audit.leaves_as_shown under most p found (disk (store_of start)) l b.taken b.kept (refused (front ++ (call, answer) ∷ [])) (tape_of last).words s.more one.notes (disk (store_of last))) (sym calls_front)
                 (subst (λ (o : Option VaultCall). audit.leaves_as_shown under most p found (disk (store_of start)) (answered front) b.taken b.kept o (tape_of last).words s.more one.notes (disk (store_of last))) (sym was_cut)
                 (stop_shown front b.taken b.kept (shapes front) (0 + length (ended_of front)) mid (called k first t front front_notes mid between before_last) all b.drawn b.at call answer last one fault s.more s.cut s.shown unanswered));
@@ -504,7 +508,7 @@ module _ {V S : Type 0} (k : Kind V) (store : StoreKind) (disk : S → Disk) (st
     abbrev begin : RunState V U
     begin = run_state (scene base start trace) runners before
 
-    module _ (acts : List Act) (d : Conducted k kind beat begin end acts result) (rounds : AreShaped threads script.clients acts) (l : IsLender sealing) (audit : AuditWords store) (rest_shown : RestShown audit start) (stop_shown : StopShown audit start) where
+    module _ (acts : List Act) (d : Conducted k kind beat begin end acts result) (rounds : AreShaped threads script.clients acts) (l : IsLender sealing) (rest_shown : RestShown start) (stop_shown : StopShown start) where
       abbrev last : V
       last = end.scene.vault
 
@@ -633,7 +637,7 @@ module _ {V S : Type 0} (k : Kind V) (store : StoreKind) (disk : S → Disk) (st
       pub serves : At (store.public p found) (store.hidden p found) [] 0 start → (s : ServedOver store life audit disk (manner beat threads most shares) under p found sealing script (tape_of last) (store_of start) (store_of last) before after trace end.scene.trace (err_of result))
           × CallsBehind k start (calls s.is_served.served.evidence.acts) last (err_of result)
       serves begun =
-          let e = ending start last trace end.scene.trace unbroken before after records begun audit rest_shown stop_shown l.faults acts d.notes refl d.chain d.wrote base end.scene.desk runners end.runners result d.ends in
+          let e = ending start last trace end.scene.trace unbroken before after records begun refl rest_shown stop_shown l.faults acts d.notes refl d.chain d.wrote base end.scene.desk runners end.runners result d.ends in
           let (lives, clear) = l.seals last (calls acts) e.traced.behind (err_of result) e.parted in
           let told = subst (λ (xs : List Act). TracesLife xs e.events) acts_are (e.traced, e.shown, e.goes_on, e.cause, lives, e.staged, e.audited) in
           let stand = lines_stand k begin end acts result d.ends in (
@@ -675,14 +679,14 @@ module _ {V S : Type 0} (k : Kind V) (store : StoreKind) (disk : S → Disk) (st
       (trace : Trace) (runners : List U) (before : Flow) (end : RunState V U) (result : Result (Unit {0}) RunErr) (epoch left : ℕ)
       → trace.broken ≡ false → map kind.client runners ≡ script.clients → All (λ u. kind.plan u ≡ asks_by (kind.client u) script.txns) runners → epoch ≡ store.epoch found → left ≡ store.left p found
       → RunsBy threads k kind beat (run_state (scene (new_desk (setup_with p shares) (suc epoch) left script.clients) start trace) runners before) end result
-      → IsLender sealing → (audit : AuditWords store) → RestShown audit start → StopShown audit start → At (store.public p found) (store.hidden p found) [] 0 start
+      → IsLender sealing → RestShown start → StopShown start → At (store.public p found) (store.hidden p found) [] 0 start
       → (s : ServedOver store life audit disk (manner beat threads most shares) under p found sealing script (tape_of end.scene.vault) (store_of start) (store_of end.scene.vault) before end.output trace end.scene.trace (err_of result))
       × CallsBehind k start (calls s.is_served.served.evidence.acts) end.scene.vault (err_of result)
-  serves_on beat threads shares kind means sealing script sound may trace runners before end result epoch left unbroken named planned epoch_is left_is run l audit rest_shown stop_shown begun =
+  serves_on beat threads shares kind means sealing script sound may trace runners before end result epoch left unbroken named planned epoch_is left_is run l rest_shown stop_shown begun =
       let run_is = subst (λ n. RunsBy threads k kind beat (run_state (scene (new_desk (setup_with p shares) (suc (store.epoch found)) n script.clients) start trace) runners before) end result) left_is
       (subst (λ e. RunsBy threads k kind beat (run_state (scene (new_desk (setup_with p shares) (suc e) left script.clients) start trace) runners before) end result) epoch_is run) in
       let (acts, d, shaped) = runs_shaped threads k kind beat _ end result run_is in
-      serves beat threads shares kind means sealing script sound may trace runners before end result unbroken named planned acts d (subst (λ numbers. AreShaped threads numbers acts) named shaped) l audit rest_shown stop_shown begun
+      serves beat threads shares kind means sealing script sound may trace runners before end result unbroken named planned acts d (subst (λ numbers. AreShaped threads numbers acts) named shaped) l rest_shown stop_shown begun
 
 -- the same by other names
 pub renamed : (store : StoreKind) (life : LifeWords store) (audit : AuditWords store) {S : Type 0} (disk : S → Disk) (by : Manner) (keys : Keys) (p : Params) (found : store.Found) (was sealing : Sealing) (script : Scripts) (first_told tape : Given) (a old b new : S) (before after : Flow) (t u : Trace) (err : Option RunErr)

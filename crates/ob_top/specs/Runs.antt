@@ -306,8 +306,9 @@ pub record ServedOver (store : StoreKind) (life : LifeWords store) (audit : Audi
   pub seals_on : LivesBehind disk keys sealing old new (map (λ s. s.1) (calls is_served.served.evidence.acts)) (store.seals traced.behind)
   pub clear : (disk new).tells → IsInClearBehind keys (disk old) (disk new) err
   pub goes_on : life.goes_on keys by.lanes p found (disk old) (answered (calls is_served.served.evidence.acts)) traced.steps traced.behind (refused (calls is_served.served.evidence.acts)) tape.words traced.more (disk new)
-  -- call by call in stages, from the store that was opened to the one that is left
-  pub staged : CallsStaged store life disk keys by.lanes p found (disk old) (refused (calls is_served.served.evidence.acts)) tape.words traced.behind new [] [] (store.public p found) (store.hidden p found) (answered (calls is_served.served.evidence.acts)) traced.steps old
+  -- Call by call in stages, from the store that was opened to the one that is left; and what a crash leaves within a call, of it and of the registers'
+  -- gates, is as so many notes tell as may have been shown by then.
+  pub staged : CallsStaged store life audit disk keys by.lanes p found (disk old) (refused (calls is_served.served.evidence.acts)) tape.words traced.behind new [] [] (store.public p found) (store.hidden p found) (answered (calls is_served.served.evidence.acts)) traced.steps old
   -- what is left of a call that was refused, and of the registers' gates, is as its notes tell
   pub audited : audit.leaves_as_shown keys by.lanes p found (disk old) (answered (calls is_served.served.evidence.acts)) traced.steps traced.behind (refused (calls is_served.served.evidence.acts)) tape.words traced.more shown.last (disk new)
 
