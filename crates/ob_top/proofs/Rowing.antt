@@ -65,7 +65,7 @@ gates_once a b image here there =
 
 -- ---- the calls
 
-steps_of : (calls : List VaultCall) (steps : List (Shape × Fills)) → map (λ s. s.0) steps ≡ map shape_of calls → AreStepsOf calls steps
+pub steps_of : (calls : List VaultCall) (steps : List (Shape × Fills)) → map (λ s. s.0) steps ≡ map shape_of calls → AreStepsOf calls steps
 steps_of [] [] is = tt
 steps_of (call ∷ calls) (step ∷ steps) is = (cc is, steps_of calls steps (cc is))
 steps_of [] (step ∷ steps) is = absurd (cc is)
@@ -96,23 +96,23 @@ pub record IsRowPart {S : Type 0} (disk : S → Disk) (keys : Keys) (p : Params)
 
 module _ {S : Type 0} (disk : S → Disk) (keys : Keys) (r : TracedRun S) (ran : Ran ring_kind ring_lives ring_audits disk r.by r.tape keys r.old r.new r.before r.after r.first r.last r.records r.err) (head : (r.by).head ≡ head_cells) (tells : (disk r.old).tells)
     (at : Standing) (stood : Stands ring_kind keys ran.p (disk r.old).cells at) where
-  abbrev found : RingFound
+  abbrev pub found : RingFound
   found = ran.found
 
   abbrev asked : List VaultCall
   asked = answered (calls (ran.serving).is_served.served.evidence.acts)
 
-  found_in : IsRingFound keys ran.p (disk r.old).cells found
+  pub found_in : IsRingFound keys ran.p (disk r.old).cells found
   found_in = (ran.opened).finds tells
 
   abbrev behind : RingHidden
   behind = ((ran.serving).traced).behind
 
-  same_gates : ran.start ≡ (found_in.found).gates
+  pub same_gates : ran.start ≡ (found_in.found).gates
   same_gates = gates_once ran.start (found_in.found).gates (disk r.old).cells ((ran.opened).starts tells) (record { generation = (found_in.found_in).generation_gates; epoch = (found_in.found_in).epoch_gates })
 
   -- the generation before was found
-  found_at : (generation : ℕ) × StandsAt (tagging keys) 1 (disk r.old).cells generation × (((found.run).sealer).generation ≡ suc generation)
+  pub found_at : (generation : ℕ) × StandsAt (tagging keys) 1 (disk r.old).cells generation × (((found.run).sealer).generation ≡ suc generation)
   found_at =
       let (g, stands) = stood in
       let is = generation_is keys ran.p (disk r.old).cells found_in.found g found_in.found_in (stands.stands).generation in
