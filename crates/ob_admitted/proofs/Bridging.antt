@@ -47,7 +47,7 @@ finding_are p epoch =
     (λ i. registers_read p i ++ (check_read p epoch i ++ (log_read p (suc epoch) ∙ ap (λ (n : ℕ). reads_of (region_cells p (LogArea (n % 2)))) next) i))
     ∙ sym (append_assoc (reads_of (region_cells p GenerationTwin ++ region_cells p EpochTwin)) (reads_of (check_cells p (epoch % 2))) (reads_of (region_cells p (LogArea ((epoch + 1) % 2)))))
 
-reads_are : (p : Params) (epoch : ℕ) → head_notes ++ finding_notes p epoch ≡ reads_of_opening p epoch
+pub reads_are : (p : Params) (epoch : ℕ) → head_notes ++ finding_notes p epoch ≡ reads_of_opening p epoch
 reads_are p epoch = ap (λ (ns : List Note). head_notes ++ ns) (finding_are p epoch)
 
 -- a front of a list that is no longer than its front is one of that
@@ -95,7 +95,7 @@ module _ (keys : Keys) (p : Params) (old new : Disk) where
     scheduled = openings_are_scheduled p c rs found.epoch found.generation found.gates [] found.gates obeys fit some.0
 
     -- what comes before the repeats is the schedule's
-    begun_is : begun_notes p found ≡ before_repeats p q (gates_open found.gates) (suc found.generation)
+    pub begun_is : begun_notes p found ≡ before_repeats p q (gates_open found.gates) (suc found.generation)
     begun_is = sym (append-nil (begun_notes p found)) ∙ scheduled.notes 0 (omega arith) ∙ append-nil (before_repeats p q (gates_open found.gates) (suc found.generation))
 
     abbrev all : List Note
@@ -110,14 +110,14 @@ module _ (keys : Keys) (p : Params) (old new : Disk) where
     many : (shown : List Note) → length (begun_row p found) - suc (length shown) ≡ length (begun_notes p found) - length shown
     many shown = (let same_long = ap (λ (ns : List Note). length ns) begun_is in omega (arith, same_long))
 
-    split : length (begun_notes p found) ≡ length (finding_notes p found.epoch) + suc (length (next_set found))
+    pub split : length (begun_notes p found) ≡ length (finding_notes p found.epoch) + suc (length (next_set found))
     split = length-append (finding_notes p found.epoch) (next_notes found)
 
     -- the register stood at what was found
     stood : StandsAt (tagging keys) 1 old.cells found.generation
     stood = subst (λ (n : ℕ). StandsAt (tagging keys) 1 old.cells n) (sym same.generation) stands.generation
 
-    generation_by : (lack : ℕ) (image : Image) → IsSyncedLeft keys (suc found.generation) old.cells lack image → IsGenerationBy keys found.generation lack image
+    pub generation_by : (lack : ℕ) (image : Image) → IsSyncedLeft keys (suc found.generation) old.cells lack image → IsGenerationBy keys found.generation lack image
     generation_by zero image left = (left.number found.generation refl stood).stands
     generation_by (suc zero) image left = ⊎_elim (λ was. inl was.stands) (λ is. inr is.stands) (left.number found.generation refl stood)
     generation_by (suc (suc lack)) image left = (left.number found.generation refl stood).stands

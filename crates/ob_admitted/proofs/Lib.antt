@@ -28,3 +28,4 @@ pub mod Going
 pub mod Begun
 pub mod Along
 pub mod Bridging
+pub mod OpeningMoments

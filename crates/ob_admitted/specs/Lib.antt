@@ -17,3 +17,4 @@ pub mod Told
 pub mod Gates
 pub mod Stopped
 pub mod Refused
+pub mod OpeningMoments

@@ -18,6 +18,7 @@ ghost use Rattle.ob_admitted.specs.Gates.{
 };
 ghost use Rattle.ob_admitted.specs.Lives.{LivesAreAdmitted};
 ghost use Rattle.ob_admitted.specs.Notes.{CallsGoByFills};
+ghost use Rattle.ob_admitted.specs.OpeningMoments.{CutOpeningsAreShown};
 ghost use Rattle.ob_admitted.specs.Openings.{OpeningsAreRuns};
 ghost use Rattle.ob_admitted.specs.Parts.{PartsAreRuns};
 ghost use Rattle.ob_admitted.specs.Publics.{LivesGoByFills};
@@ -221,4 +222,12 @@ pub fn stopped_stages_are_admitted<S: Store>()
 pub fn refused_openings_are_shown<S: Store>()
     ensures openings { RefusedOpeningsAreShown (λ store. S.disk store) }
     ensures heads { RefusedHeadsAreShown (λ store. S.disk store) }
+{}
+
+/// And so is an opening that a crash cut off, behind the head's read, whether it would have been
+/// answered or refused: at each moment of each of its stages, while it reads, once its first sync was
+/// shown, while its generation's gate is closed, the body laid and the gate opened, and while batches
+/// are shown again, it has shown what a row takes, and left that; and it is a part of a row.
+pub fn cut_openings_are_shown<S: Store>()
+    ensures { CutOpeningsAreShown (λ store. S.disk store) }
 {}
