@@ -81,6 +81,7 @@ module _ (keys : Keys) (p : Params) (word_of : WordId → ℕ) (s : LifeState) (
         settled = λ none. absurd none;
         register = λ g none. absurd none;
         since = λ stood none. absurd none;
+        in_stages = λ none. absurd none;
       },
       λ left. left_not keys p word_of _ _ (left.images.each no_store tt).0,
     )
