@@ -2,8 +2,8 @@
 
 ghost use Rattle.std.specs.Prelude.{◌≡◌, ◌≤◌};
 
-use crate::spy::{Asked, Spy};
-use crate::steps::new_spy;
+use crate::spy::{Asked, let_go};
+use crate::steps::{insist, insist_at, new_spy};
 use ob_base::{Check, Fault, Job};
 use ob_lanes::{Lanes, Readers, Slot, read_jobs};
 use ob_mem::Fail;
@@ -24,7 +24,7 @@ fn new_jobs(rt: &impl Abort, alloc: Global, many: usize) -> Vec<Job> {
             key: None,
             result: None,
         };
-        jobs.push(job).ok().expect(rt, "memory");
+        insist(rt, jobs.push(job).is_ok(), "memory");
     }
     jobs
 }
@@ -85,34 +85,45 @@ const BATCHES: &[(usize, usize, u64, usize)] = &[
 
 // Whether the second was asked for this cell alone, so often.
 fn are_reads_of(heard: &[Asked], cell: u64, many: usize) -> bool {
-    heard.len() == many && heard.iter().all(|asked| *asked == Asked::Read(cell))
+    for i in 0..heard.len() {
+        if heard[i] != Asked::Read(cell) {
+            return false;
+        }
+    }
+    heard.len() == many
 }
 
 // Makes a mirror of two such stores, of which the first fails to read one cell, and has lanes read
-// all cells: the second is asked for that one alone.
-fn read_rows<R: Abort + Threads + Sync>(rt: &R, alloc: Global, row: &(usize, usize, u64, usize))
+// all cells: whether the second is asked for that one alone.
+fn reads_rows<R: Abort + Threads + Sync>(
+    rt: &R,
+    alloc: Global,
+    row: &(usize, usize, u64, usize),
+) -> bool
     requires { (1 ≤ row.now.0) × (row.now.0 ≤ 16) }
 {
     let (lanes, many, cell, reads) = *row;
     let mut first = new_spy(rt, alloc, BYTES, &[Fail::Read { cell, writes: 4 }]);
     let mut second = new_spy(rt, alloc, BYTES, &[]);
     let mut mirror = Mirror::over(&mut first, &mut second, Places::new());
-    assert!(rt;
-        reads_all(rt, alloc, &mut mirror, lanes, many),
-        "{lanes} lanes"
-    );
+    let read = reads_all(rt, alloc, &mut mirror, lanes, many);
     let _lent = mirror.into_lent();
-    assert!(rt;
-        are_reads_of(second.heard.as_slice(), cell, reads),
-        "{lanes} lanes"
-    );
+    let so = read && are_reads_of(second.heard.as_slice(), cell, reads);
+    let_go(first);
+    let_go(second);
+    so
+}
+
+// Each row goes so.
+fn read_by_either<R: Abort + Threads + Sync>(rt: &R, alloc: Global) {
+    for i in 0..BATCHES.len() {
+        let row = &BATCHES[i];
+        let some = 1 <= row.0 && row.0 <= 16;
+        insist_at(rt, some && reads_rows(rt, alloc, row), i);
+    }
 }
 
 #[test]
 fn lanes_of_a_mirror_read_of_either_half(rt: HostRuntime) {
-    for i in 0..BATCHES.len() {
-        let row = &BATCHES[i];
-        assert!(rt; 1 <= row.0 && row.0 <= 16);
-        read_rows(&rt, rt.alloc(), row);
-    }
+    read_by_either(&rt, rt.alloc());
 }

@@ -4,11 +4,12 @@ ghost use Rattle.std.specs.Prelude.{◌≡◌};
 ghost use Rattle.ob_mem.specs.Memory.{disk_of_store};
 
 use crate::spy::Asked::{self, Read, Sync, Write};
-use crate::spy::Spy;
-use crate::steps::{Step, new_spy, play, reads_as};
+use crate::spy::{Spy, let_go};
+use crate::steps::{Step, holds, insist_at, new_spy, play};
 use ob_mem::Fail;
 use ob_mirror::{Mirror, Places, join};
 use ob_store::Blind;
+use std::alloc::Global;
 use std::process::Abort;
 
 // Two stores of four cells: what fails in each (behind four writes and a sync), what is called of
@@ -140,26 +141,43 @@ fn are_asked(heard: &[Asked], before: &[Asked], then: &[Asked]) -> bool {
         && heard.ends_with(then)
 }
 
+// Whether a join is made, or refused with the first as it was, and each half was asked so.
+fn asks_so(rt: &impl Abort, first: &mut Spy, second: &mut Spy, row: &Row, is_joined: bool) -> bool
+    requires first { (disk_of_store first.old.store).out ≡ 0 }
+    requires second { (disk_of_store second.old.store).out ≡ 0 }
+{
+    if join(first, second, 4, &mut Blind).is_err() {
+        return !is_joined
+            && are_asked(first.heard.as_slice(), &[], row.first)
+            && are_asked(second.heard.as_slice(), &[], row.second)
+            && holds(first, &[(3, 4)]);
+    }
+    mirror_plays(rt, first, second, row.steps);
+    is_joined
+        && are_asked(first.heard.as_slice(), &JOIN_FIRST, row.first)
+        && are_asked(second.heard.as_slice(), &JOIN_SECOND, row.second)
+}
+
+// The same of two stores that are made for it.
+fn row_goes_so(rt: &impl Abort, alloc: Global, row: &Row, is_joined: bool) -> bool {
+    let mut first = new_spy(rt, alloc, [1, 2, 3, 4], row.fails_first);
+    let mut second = new_spy(rt, alloc, [0, 9, 0, 9], row.fails_second);
+    let so = asks_so(rt, &mut first, &mut second, row, is_joined);
+    let_go(first);
+    let_go(second);
+    so
+}
+
+// Each of these rows goes so.
+fn rows_go_so(rt: &impl Abort, alloc: Global, rows: &[Row], is_joined: bool) {
+    for i in 0..rows.len() {
+        insist_at(rt, row_goes_so(rt, alloc, &rows[i], is_joined), i);
+    }
+}
+
 #[test]
 fn each_half_is_asked_in_its_turn(rt: HostRuntime) {
-    for i in 0..ROWS.len() {
-        let row = &ROWS[i];
-        let mut first = new_spy(&rt, rt.alloc(), [1, 2, 3, 4], row.fails_first);
-        let mut second = new_spy(&rt, rt.alloc(), [0, 9, 0, 9], row.fails_second);
-        assert!(rt;
-            join(&mut first, &mut second, 4, &mut Blind).is_ok(),
-            "row {i}"
-        );
-        mirror_plays(&rt, &mut first, &mut second, row.steps);
-        assert!(rt;
-            are_asked(first.heard.as_slice(), &JOIN_FIRST, row.first),
-            "row {i}"
-        );
-        assert!(rt;
-            are_asked(second.heard.as_slice(), &JOIN_SECOND, row.second),
-            "row {i}"
-        );
-    }
+    rows_go_so(&rt, rt.alloc(), ROWS, true);
 }
 
 // What fails in each half, and what a refused join has asked of each.
@@ -196,22 +214,5 @@ const REFUSED: &[Row] = &[
 
 #[test]
 fn a_refused_join_only_reads_the_first(rt: HostRuntime) {
-    for i in 0..REFUSED.len() {
-        let row = &REFUSED[i];
-        let mut first = new_spy(&rt, rt.alloc(), [1, 2, 3, 4], row.fails_first);
-        let mut second = new_spy(&rt, rt.alloc(), [0, 9, 0, 9], row.fails_second);
-        assert!(rt;
-            join(&mut first, &mut second, 4, &mut Blind).is_err(),
-            "row {i}"
-        );
-        assert!(rt;
-            are_asked(first.heard.as_slice(), &[], row.first),
-            "row {i}"
-        );
-        assert!(rt;
-            are_asked(second.heard.as_slice(), &[], row.second),
-            "row {i}"
-        );
-        assert!(rt; reads_as(&mut first, 3, Some(4)), "row {i}");
-    }
+    rows_go_so(&rt, rt.alloc(), REFUSED, false);
 }

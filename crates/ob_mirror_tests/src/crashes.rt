@@ -1,14 +1,12 @@
 //! Each half of a mirror alone, behind a crash, and mirrors of other stores.
 
-ghost use Rattle.std.specs.Prelude.{◌≡◌};
-ghost use Rattle.ob_mem.specs.Memory.{disk_of_store};
-
 use crate::calls::mirror_plays;
-use crate::spy::Spy;
-use crate::steps::{Step, new_spy, play, reads_as};
+use crate::spy::{Spy, let_go};
+use crate::steps::{Step, holds, insist, insist_at, new_spy, play};
 use ob_mem::{BareStore, MemStore};
 use ob_mirror::{Mirror, Places, join};
 use ob_store::Blind;
+use std::alloc::Global;
 use std::process::Abort;
 
 // What is called of a mirror whose halves have the bytes 1 to 4.
@@ -28,12 +26,10 @@ const FIRST_BEGAN: usize = 5;
 
 const SECOND_BEGAN: usize = 10;
 
-/// Whether the four cells are so filled.
-pub fn holds(store: &mut MemStore, bytes: [u8; 4]) -> bool {
-    reads_as(store, 0, Some(bytes[0]))
-        && reads_as(store, 1, Some(bytes[1]))
-        && reads_as(store, 2, Some(bytes[2]))
-        && reads_as(store, 3, Some(bytes[3]))
+// Whether the four cells of a store are so filled. It lets the store go.
+fn held(mut store: MemStore, bytes: [u8; 4]) -> bool {
+    let [zero, one, two, three] = bytes;
+    holds(&mut store, &[(0, zero), (1, one), (2, two), (3, three)])
 }
 
 // A half alone, behind a crash at each moment.
@@ -47,19 +43,27 @@ fn stands_alone(rt: &impl Abort, half: &Spy, began: usize) {
     for i in 0..LEFT.len() {
         let (one, three) = LEFT[i];
         let left = half.store.crash(began.saturating_add(i), &fillings);
-        let mut left = left.expect(rt, "memory");
-        assert!(rt; holds(&mut left, [1, one, 3, three]), "moment {i}");
+        let left = left.expect(rt, "memory");
+        insist_at(rt, held(left, [1, one, 3, three]), i);
     }
+}
+
+// Both halves of a mirror stand alone.
+fn stand_alone(rt: &impl Abort, alloc: Global) {
+    let mut first = new_spy(rt, alloc, [1, 2, 3, 4], &[]);
+    let mut second = new_spy(rt, alloc, [0, 9, 0, 9], &[]);
+    let joined = join(&mut first, &mut second, 4, &mut Blind).is_ok();
+    mirror_plays(rt, &mut first, &mut second, STEPS);
+    stands_alone(rt, &first, FIRST_BEGAN);
+    stands_alone(rt, &second, SECOND_BEGAN);
+    let_go(first);
+    let_go(second);
+    insist(rt, joined, "a join");
 }
 
 #[test]
 fn each_half_stands_alone_at_each_moment(rt: HostRuntime) {
-    let mut first = new_spy(&rt, rt.alloc(), [1, 2, 3, 4], &[]);
-    let mut second = new_spy(&rt, rt.alloc(), [0, 9, 0, 9], &[]);
-    assert!(rt; join(&mut first, &mut second, 4, &mut Blind).is_ok());
-    mirror_plays(&rt, &mut first, &mut second, STEPS);
-    stands_alone(&rt, &first, FIRST_BEGAN);
-    stands_alone(&rt, &second, SECOND_BEGAN);
+    stand_alone(&rt, rt.alloc());
 }
 
 // On a mirror whose first half is a store of four zeros that keeps no record.
@@ -71,14 +75,19 @@ const BARE: &[Step] = &[
     Step::Read(1, 5),
 ];
 
+fn mirrors_bare_store(rt: &impl Abort, alloc: Global) -> bool {
+    let mut first = BareStore::new(alloc, 4).expect(rt, "memory");
+    let mut second = new_spy(rt, alloc, [1, 2, 3, 4], &[]);
+    let joined = join(&mut first, &mut second, 4, &mut Blind).is_ok();
+    let mut mirror = Mirror::over(&mut first, &mut second, Places::new());
+    play(rt, &mut mirror, BARE);
+    let _lent = mirror.into_lent();
+    let held = holds(&mut second, &[(0, 0), (1, 5), (2, 0), (3, 0)]);
+    let_go(second);
+    joined && held
+}
+
 #[test]
 fn a_bare_store_is_mirrored(rt: HostRuntime) {
-    let mut first = BareStore::new(rt.alloc(), 4).expect(&rt, "memory");
-    let mut second = new_spy(&rt, rt.alloc(), [1, 2, 3, 4], &[]);
-    assert!(rt; join(&mut first, &mut second, 4, &mut Blind).is_ok());
-    {
-        let mut mirror = Mirror::over(&mut first, &mut second, Places::new());
-        play(&rt, &mut mirror, BARE);
-    }
-    assert!(rt; holds(&mut second.store, [0, 5, 0, 0]));
+    insist(&rt, mirrors_bare_store(&rt, rt.alloc()), "its calls");
 }

@@ -18,6 +18,9 @@ pub struct Mute {
     pub store: MemStore,
 }
 
+/// Lets one go.
+pub fn let_mute_go(_mute: Mute) {}
+
 impl Store for Mute {
     type Lane = MemLane;
 

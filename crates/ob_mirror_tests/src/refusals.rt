@@ -3,9 +3,8 @@
 ghost use Rattle.std.specs.Prelude.{◌≡◌, ◌≤◌};
 ghost use Rattle.ob_mem.specs.Memory.{disk_of_store};
 
-use crate::crashes::holds;
-use crate::spy::Spy;
-use crate::steps::new_spy;
+use crate::spy::{Spy, let_go};
+use crate::steps::{holds, insist_at, new_spy};
 use ob_mem::Fail;
 use ob_mirror::{Mirror, Places, join};
 use ob_store::{Blind, Store};
@@ -58,27 +57,32 @@ const REFUSALS: &[(&[Fail], &[Fail], Option<[bool; 4]>)] = &[
 // whatever the other refused.
 fn halves_hold(first: &mut Spy, second: &mut Spy, is_joined: bool) -> bool {
     if !is_joined {
-        return holds(&mut first.store, [1, 2, 3, 4]);
+        return holds(first, &[(0, 1), (1, 2), (2, 3), (3, 4)]);
     }
-    holds(&mut first.store, [1, 9, 3, 7]) && holds(&mut second.store, [1, 9, 3, 7])
+    let cells = &[(0, 1), (1, 9), (2, 3), (3, 7)];
+    holds(first, cells) && holds(second, cells)
 }
 
-// Makes a row's calls.
-fn refuse(rt: &impl Abort, alloc: Global, i: usize) {
-    assert!(rt; i < REFUSALS.len());
-    let (fails_first, fails_second, answers) = REFUSALS[i];
+// Makes a row's calls: whether they go so.
+fn refuses_so(rt: &impl Abort, alloc: Global, row: &(&[Fail], &[Fail], Option<[bool; 4]>)) -> bool {
+    let (fails_first, fails_second, answers) = *row;
     let mut first = new_spy(rt, alloc, [1, 2, 3, 4], fails_first);
     let mut second = new_spy(rt, alloc, [0, 9, 0, 9], fails_second);
-    assert!(rt; mirror_calls(&mut first, &mut second) == answers, "row {i}");
-    assert!(rt;
-        halves_hold(&mut first, &mut second, answers.is_some()),
-        "row {i}"
-    );
+    let so = mirror_calls(&mut first, &mut second) == answers
+        && halves_hold(&mut first, &mut second, answers.is_some());
+    let_go(first);
+    let_go(second);
+    so
+}
+
+// Each row goes so.
+fn refuse_so(rt: &impl Abort, alloc: Global) {
+    for i in 0..REFUSALS.len() {
+        insist_at(rt, refuses_so(rt, alloc, &REFUSALS[i]), i);
+    }
 }
 
 #[test]
 fn a_half_that_refuses_is_told_and_the_other_goes_on(rt: HostRuntime) {
-    for i in 0..REFUSALS.len() {
-        refuse(&rt, rt.alloc(), i);
-    }
+    refuse_so(&rt, rt.alloc());
 }

@@ -14,7 +14,7 @@ use std::alloc::Global;
 use std::thread::Threads;
 
 /// What a store was asked for.
-#[derive(Clone, Copy, Debug, PartialEq, Eq)]
+#[derive(Clone, Copy, PartialEq, Eq)]
 pub enum Asked {
     Read(u64),
     Write(u64),
@@ -49,6 +49,9 @@ impl Spy {
         }
     }
 }
+
+/// Lets one go. What a drop takes is proved in each function that has one, so tests call this.
+pub fn let_go(_spy: Spy) {}
 
 // The reads of a lane.
 fn note_reads(heard: &mut Vec<Asked>, cells: &[u64]) {

@@ -9,6 +9,16 @@ use ob_store::Store;
 use std::alloc::Global;
 use std::process::Abort;
 
+/// Ends the test where this isn't so, and names the case.
+pub fn insist<R: Abort>(rt: &R, so: bool, case: &str) {
+    assert!(rt; so, "{case}");
+}
+
+/// The same of a case by its number.
+pub fn insist_at<R: Abort>(rt: &R, so: bool, case: usize) {
+    assert!(rt; so, "{case}");
+}
+
 /// A call on a store, and its answer. A read has a lane of its own.
 #[derive(Clone, Copy)]
 pub enum Step {
@@ -35,8 +45,8 @@ fn lane_reads<S: Store>(store: &S, lane: &mut S::Lane, cell: u64, wanted: Option
     }
 }
 
-/// The same with a lane of its own.
-pub fn reads_as<S: Store>(store: &mut S, cell: u64, wanted: Option<u8>) -> bool
+// The same with a lane of its own.
+fn reads_as<S: Store>(store: &mut S, cell: u64, wanted: Option<u8>) -> bool
     ensures { (S.disk store.new).out ≤ (S.disk store.old).out }
 {
     let Ok(mut lane) = store.lane() else {
@@ -45,6 +55,17 @@ pub fn reads_as<S: Store>(store: &mut S, cell: u64, wanted: Option<u8>) -> bool
     let is_so = lane_reads(store, &mut lane, cell, wanted);
     store.absorb(lane);
     is_so
+}
+
+/// Whether these cells are so filled.
+pub fn holds<S: Store>(store: &mut S, cells: &[(u64, u8)]) -> bool {
+    for i in 0..cells.len() {
+        let (cell, byte) = cells[i];
+        if !reads_as(store, cell, Some(byte)) {
+            return false;
+        }
+    }
+    true
 }
 
 // Whether no lane is made.
@@ -80,7 +101,7 @@ pub fn play<S: Store>(rt: &impl Abort, store: &mut S, steps: &[Step])
     ensures { (S.disk store.new).out ≡ 0 }
 {
     for i in 0..steps.len() {
-        assert!(rt; answers_so(store, steps[i]), "call {i}");
+        insist_at(rt, answers_so(store, steps[i]), i);
     }
 }
 
@@ -91,9 +112,9 @@ pub fn new_spy(rt: &impl Abort, alloc: Global, bytes: [u8; 4], fails: &[Fail]) -
     let fails = fails.to_vec(alloc).expect(rt, "memory");
     let mut store = MemStore::new(alloc, 4, fails).expect(rt, "memory");
     for i in 0..4 {
-        let written = store.write(i as u64, &[bytes[i]; 128]);
-        assert!(rt; written.is_ok(), "cell {i}");
+        let written = store.write(i as u64, &[bytes[i]; 128]).is_ok();
+        insist_at(rt, written, i);
     }
-    assert!(rt; store.sync().is_ok());
+    insist(rt, store.sync().is_ok(), "a sync");
     Spy::new(alloc, store)
 }
