@@ -9,6 +9,7 @@ ghost use Rattle.ob_seal.specs.Draws.{list_drawn};
 ghost use Rattle.ob_seal.specs.declared.keys.Keys.{Keys};
 ghost use Rattle.ob_top.specs.Outside.{Given, words_given};
 
+use crate::maps::insist;
 use ob_desk::Eager;
 use ob_mem::{MemSink, MemSource, MemStore};
 use ob_pads::pads_are_fresh;
@@ -147,5 +148,5 @@ fn two_runs_are_one_life(rt: HostRuntime) {
     );
     let (_, output) = lived.ok().expect(&rt, "a life");
     let told = "epoch 2\ntxn 1 client 1 committed\nget 5 = hi\n";
-    assert!(&rt; output.written() == told.as_bytes());
+    insist(&rt, output.written() == told.as_bytes(), told);
 }

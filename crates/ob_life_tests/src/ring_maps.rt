@@ -3,10 +3,8 @@
 ghost use Rattle.std.specs.Prelude.{◌≡◌};
 ghost use Rattle.ob_mem.specs.Memory.{disk_of_store};
 
-use crate::fixtures::{
-    OF_NONE, OF_TWO, digest, fetch_pads, long_value, put, small_params, test_keys,
-};
-use ob_base::{Value, ring_cells};
+use crate::maps::{insist, let_go, reads_both_ends, reads_none, small_params, test_keys};
+use ob_base::ring_cells;
 use ob_mem::MemStore;
 use ob_opening::{format, prepare};
 use ob_seal::{ListTape, Tape};
@@ -33,7 +31,7 @@ fn new_store<R: Abort + Threads + Sync>(rt: &R, alloc: Global) -> MemStore
         &params,
         &mut Blind,
     );
-    assert!(rt; made.is_ok());
+    insist(rt, made.is_ok(), "a format");
     store
 }
 
@@ -55,32 +53,36 @@ fn open<'a, R: Abort + Threads + Sync, T: Tape>(
     }
 }
 
+// Whether both keys are read back, or no row where none was put.
+fn reads<R: Abort + Threads + Sync>(rt: &R, alloc: Global, store: &mut MemStore, puts: bool) -> bool
+    requires { (disk_of_store store.old).out ≡ 0 }
+{
+    let mut tape = ListTape::new(alloc, &[]).expect(rt, "memory");
+    let Some(mut vault) = open(rt, alloc, store, &mut tape) else {
+        return false;
+    };
+    let params = vault.params();
+    if puts {
+        reads_both_ends(rt, alloc, &params, &mut vault)
+    } else {
+        reads_none(rt, alloc, &params, &mut vault)
+    }
+}
+
+// The same of a new store.
+fn reads_new<R: Abort + Threads + Sync>(rt: &R, alloc: Global, puts: bool) -> bool {
+    let mut store = new_store(rt, alloc);
+    let read = reads(rt, alloc, &mut store, puts);
+    let_go(store);
+    read
+}
+
 #[test]
 fn keys_at_both_ends_are_read_back(rt: HostRuntime) {
-    let alloc = rt.alloc();
-    let mut store = new_store(&rt, alloc);
-    let mut tape = ListTape::new(alloc, &[]).expect(&rt, "memory");
-    let vault = open(&rt, alloc, &mut store, &mut tape);
-    let mut vault = vault.expect(&rt, "an opening");
-    let params = vault.params();
-    put(&rt, &params, &mut vault, 7, long_value());
-    put(&rt, &params, &mut vault, 0, Value::new(b"hi"));
-    fetch_pads(&rt, &params, &mut vault);
-    let (digest, epoch, left) = digest(&rt, alloc, &params, &mut vault);
-    assert!(&rt; digest.keys == 2 && digest.map == OF_TWO);
-    // One batch, an end, two batches, an end, and one batch.
-    assert!(&rt; epoch == 4 && left == 1);
+    insist(&rt, reads_new(&rt, rt.alloc(), true), "both keys");
 }
 
 #[test]
 fn an_empty_map_has_no_rows(rt: HostRuntime) {
-    let alloc = rt.alloc();
-    let mut store = new_store(&rt, alloc);
-    let mut tape = ListTape::new(alloc, &[]).expect(&rt, "memory");
-    let vault = open(&rt, alloc, &mut store, &mut tape);
-    let mut vault = vault.expect(&rt, "an opening");
-    let params = vault.params();
-    let (digest, epoch, left) = digest(&rt, alloc, &params, &mut vault);
-    assert!(&rt; digest.keys == 0 && digest.map == OF_NONE);
-    assert!(&rt; epoch == 1 && left == 0);
+    insist(&rt, reads_new(&rt, rt.alloc(), false), "no row");
 }
