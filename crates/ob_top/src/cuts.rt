@@ -1,5 +1,12 @@
-//! What an auditor knows behind a run that a crash cuts off within a call.
+//! What an auditor knows behind a run that a crash cuts off within its opening, or within a call.
 
+ghost use Rattle.ob_top.specs.CutOpenings.{
+  CutHeadsAreRead,
+  CutOpeningsAreRead,
+  OpeningsOfRunsAreRead,
+  RefusedAreReadToSync,
+  StopsLeadOn,
+};
 ghost use Rattle.ob_top.specs.Cuts.{CutsAreRead, CutsAreReadFrom, CutsLeadOn};
 
 use ob_store::Store;
@@ -12,4 +19,17 @@ pub fn cuts_are_read<S: Store>()
     ensures runs { CutsAreRead (λ store. S.disk store) }
     ensures anywhere { CutsAreReadFrom (λ store. S.disk store) }
     ensures onward { CutsLeadOn (λ store. S.disk store) }
+{}
+
+/// And so with one that a crash cuts off at any moment of its opening: while it reads, the head first;
+/// once its first sync was shown; while its generation's gate is closed, the body laid and the gate
+/// opened; and while batches are shown again. It is known of each image that the moment surely leaves
+/// (`stops_are_read`), and the next run goes on from there. An opening that was refused is so up to its
+/// first sync; behind that, where it is told how far it came.
+pub fn cut_openings_are_read<S: Store>()
+    ensures openings { CutOpeningsAreRead (λ store. S.disk store) }
+    ensures runs { OpeningsOfRunsAreRead (λ store. S.disk store) }
+    ensures refused { RefusedAreReadToSync (λ store. S.disk store) }
+    ensures heads { CutHeadsAreRead (λ store. S.disk store) }
+    ensures onward { StopsLeadOn (λ store. S.disk store) }
 {}

@@ -19,7 +19,7 @@ mod traces;
 
 pub use again::stood_again;
 pub use auditors::{auditors_go_on, stops_are_read};
-pub use cuts::cuts_are_read;
+pub use cuts::{cut_openings_are_read, cuts_are_read};
 pub use drill::{Drilled, drill_on};
 pub use endings::{finish, finish_run, still_watched};
 pub use fitting::{refused_traces_fit, traces_fit};
