@@ -51,7 +51,7 @@ use Rattle.ob_start.specs.Orders.{registers_notes}
 use Rattle.ob_opening.specs.Openings.{IsOpenFault, IsOpenRefusal, IsStandingRefusal, OpensWhatStood}
 use Rattle.ob_opening.specs.declared.opening.Opening.{Opening}
 use Rattle.ob_top.proofs.Running.{IsQuiet}
-use Rattle.ob_top.specs.Begun.{EndsAtHead, IsBegun, RunsOnBegun, MayServe}
+use Rattle.ob_top.specs.Begun.{EndsAtHead, IsRunBegun, RunsOnBegun, MayServe}
 use Rattle.ob_top.specs.Formats.{FormatEnds, IsFormatted}
 use Rattle.ob_top.specs.Runs.{BreaksAtHead, BreaksAtOpening, EndsEarly}
 use Rattle.ob_top.specs.Parts.{CameIn, SharesFit, head_cells}
@@ -109,7 +109,7 @@ ring_quiet = record { head = λ is. is; opening = λ is. is }
 module _ {S : Type 0} (disk : S → Disk) (keys : Keys) (most : ℕ) (some : 1 ≤ most) (p : Params) (script : Scripts) (before : Flow) (old mid new : S) (head : (disk old).tells → IsHead keys 1 p ((disk old).cells 0)) (read : ReadsHead (disk old) (disk mid)) (came : CameIn p.keys before script) where
   -- the store was opened
   pub begun : {L : Type 0} (first shown later : Trace) (o : Opening L) (is : IsRingOpened disk keys most p mid new shown later o) → ((disk mid).tells → (disk new).tells)
-      → ((s : RingStanding) → (disk mid).tells → stand.Stands keys p s (disk mid).cells → OpensWhatStood keys p s (disk new) (Ok o)) → Shows (note.Read 0 ∷ []) first shown → shown.broken ≡ false → IsBegun head_cells keys most p script (disk old) (disk new) first later before (found_ring is.found o)
+      → ((s : RingStanding) → (disk mid).tells → stand.Stands keys p s (disk mid).cells → OpensWhatStood keys p s (disk new) (Ok o)) → Shows (note.Read 0 ∷ []) first shown → shown.broken ≡ false → IsRunBegun head_cells keys most p script (disk old) (disk new) first later before (found_ring is.found o)
   begun {L} first shown later o is told stands head_shown whole =
       let so = ring_opens L disk keys most p old mid new shown later o some read is in
       record {

@@ -47,7 +47,7 @@ use Rattle.ob_vault.specs.RingLives.{ring_lives}
 use Rattle.ob_top.specs.Audited.{ring_audits}
 use Rattle.ob_vault.specs.Seen.{RingMayBegin, opening_phases}
 use Rattle.ob_top.proofs.Beginnings.{refused_shown}
-use Rattle.ob_top.specs.Begun.{HasReadHead, IsBegun}
+use Rattle.ob_top.specs.Begun.{HasReadHead, IsRunBegun}
 use Rattle.ob_top.specs.Parts.{CameIn, SharesFit}
 use Rattle.ob_top.specs.Runs.{EndsEarly}
 use Rattle.ob_top.specs.Staged.{OpensInStages}
@@ -149,7 +149,7 @@ module _ {S : Type 0} (disk : S → Disk) (keys : Keys) (most : ℕ) (p : Params
         ap (λ e. opening_phases p (content_of (is.found).tables) (is.found).records e (suc (is.found).generation) (is.found).gates) (sym of.epoch)
         ∙ ap (λ g. opening_phases p (content_of (is.found).tables) (is.found).records o.epoch g (is.found).gates) (sym (ap (λ (x : Sealing). x.generation) of.sealer))
 
-    pub begun_here : ((disk old).tells → (disk new).tells) → ((s : RingStanding) → (disk old).tells → stand.Stands keys p s (disk old).cells → OpensWhatStood keys p s (disk new) (Ok o)) → IsBegun [] keys most p script (disk old) (disk new) shown later before (found_ring is.found o)
+    pub begun_here : ((disk old).tells → (disk new).tells) → ((s : RingStanding) → (disk old).tells → stand.Stands keys p s (disk old).cells → OpensWhatStood keys p s (disk new) (Ok o)) → IsRunBegun [] keys most p script (disk old) (disk new) shown later before (found_ring is.found o)
     begun_here told stands =
         let in_cells = λ (tells : (disk old).tells). (is.told tells).found_in in
         record {

@@ -37,7 +37,7 @@ AreFewLanes most = (1 ≤ most) × (most ≤ 16)
 
 -- This was found; the head's read and the opening were seen, by so many lanes, and shown to the watch, which was whole between them; and where
 -- the store stood it stands on.
-pub record IsBegun (head_is : List ℕ) (keys : Keys) (most : ℕ) (p : Params) (script : Scripts) (old new : Disk) (t u : Trace) (before : Flow) (f : RingFound) : Type 0 where
+pub record IsRunBegun (head_is : List ℕ) (keys : Keys) (most : ℕ) (p : Params) (script : Scripts) (old new : Disk) (t u : Trace) (before : Flow) (f : RingFound) : Type 0 where
   pub start : Gates
   pub opened : IsOpened ring_kind keys old before p script f start
   pub seen : ArePhasesMade most (begin_phases ring_kind head_is p f start) old.seen new.seen
@@ -74,7 +74,7 @@ FromHeadAndBehind {S} disk keys p old t Told = ((first : S) (before : Trace) →
 -- Of a store whose head was read first, all that was found is begun with: from there on it was opened in stages, with this sealer, and what it
 -- stood for it stands for, whatever crashes.
 pub record BegunBehindHead {S : Type 0} (disk : S → Disk) (head_is : List ℕ) (keys : Keys) (most : ℕ) (p : Params) (script : Scripts) (sealing : Sealing) (old new : S) (t u : Trace) (before : Flow) (f : RingFound) : Type 0 where
-  pub is_begun : IsBegun head_is keys most p script (disk old) (disk new) t u before f
+  pub is_begun : IsRunBegun head_is keys most p script (disk old) (disk new) t u before f
   pub durable : (disk old).tells → (disk new).tells × IsSynced (disk new)
   -- what was found knows the gates
   pub knows : AreGatesKnown f.run (disk new)

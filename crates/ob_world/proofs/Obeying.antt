@@ -20,7 +20,7 @@ use Rattle.ob_run.specs.Threaded.{driven}
 use Rattle.ob_run.proofs.Stops.{stop_run, stays_stopped}
 use Rattle.ob_world.specs.Drivers.{DriverAt, AtRest, HasTaken, HasFetched, HasClosed, HasEnded, HasDoubt, HasTold, HasFailed, IsUp, MovesDriver, before_call, behind_call}
 use Rattle.ob_world.specs.Laws.{IsEndPlace}
-use Rattle.ob_world.specs.Weaves.{MadeCall, made_by, calls_made, Due, NothingIsDue, CallIsDue, ReportIsDue, due_behind, asked_left, reports_left, publishes_in, unprinted_in, reports_of}
+use Rattle.ob_world.specs.Weaves.{MadeCall, call_by, calls_made, Due, NothingIsDue, CallIsDue, ReportIsDue, due_behind, asked_left, reports_left, publishes_in, unprinted_in, reports_of}
 
 -- what stands right behind a call of the desk leads from one place of the driver to another
 abbrev pub Follows : Due → List (VaultCall × VaultAnswer) → ℕ → DriverAt → DriverAt → Type 0
@@ -200,7 +200,7 @@ pub record EndsSomewhere (acts : List Act) : Type 0 where
   pub rests : AreCalm acts → last ≡ AtRest
 
 batches_obey : (batches : List Batch) (tail : List (Call × Reply)) (made : List MadeCall) (asked : List (VaultCall × VaultAnswer)) (n : ℕ) (last : DriverAt)
-    → Obeys AtRest (map (made_by 0) tail ++ made) asked n last → Obeys AtRest (map (made_by 0) (rest_calls batches ++ tail) ++ made) (rest_fetches batches ++ asked) n last
+    → Obeys AtRest (map (call_by 0) tail ++ made) asked n last → Obeys AtRest (map (call_by 0) (rest_calls batches ++ tail) ++ made) (rest_fetches batches ++ asked) n last
 batches_obey [] tail made asked n last h = h
 batches_obey (batch ∷ batches) tail made asked n last h = (
   HasTaken batch.keys,
@@ -221,12 +221,12 @@ halted_counts : (acts : List Act) → Halted acts → unprinted_in acts ≤ publ
 halted_counts acts h = let u : unprinted_in acts ≡ 0 = h.unprinted in omega (arith, u)
 
 -- the desk is stopped where the driver rests
-stops_at_rest : (acts : List Act) → Halted acts → Obeys AtRest (map (made_by 0) (stop_calls SinkFault) ++ calls_made acts) (calls acts) (reports_of acts) AtRest
+stops_at_rest : (acts : List Act) → Halted acts → Obeys AtRest (map (call_by 0) (stop_calls SinkFault) ++ calls_made acts) (calls acts) (reports_of acts) AtRest
 stops_at_rest acts h = (AtRest, AtRest, tt, record { may = inr tt; now = refl }, refl, halted_obeys acts h AtRest tt)
 
 -- an end that was refused, or left in doubt
 refuses : (writes asked : List (ℕ × Option (List ℕ))) (refused : EndErr) (acts : List Act) → asked ≡ writes → Halted acts
-    → (last : DriverAt) × Obeys AtRest (map (made_by 0) (close_calls writes) ++ calls_made (Refuses asked refused ∷ acts)) ((End asked, end_answer (Err refused)) ∷ calls acts) (reports_of acts) last × IsEndPlace last
+    → (last : DriverAt) × Obeys AtRest (map (call_by 0) (close_calls writes) ++ calls_made (Refuses asked refused ∷ acts)) ((End asked, end_answer (Err refused)) ∷ calls acts) (reports_of acts) last × IsEndPlace last
 refuses writes asked (Before fault) acts one h = (
   HasFailed fault,
   (
@@ -336,7 +336,7 @@ thing_obeys (FetchFails look batches keys fault ∷ []) acts one stays more halt
           tt,
           refl,
           refl,
-          subst (λ (asked : List (VaultCall × VaultAnswer)). Obeys AtRest (map (made_by 0) (rest_calls batches ++ (desk.TakeBatch, desk.Batch keys) ∷ (desk.Stop fault, desk.Done) ∷ []) ++ calls_made acts) asked (reports_of acts) (HasFailed fault))
+          subst (λ (asked : List (VaultCall × VaultAnswer)). Obeys AtRest (map (call_by 0) (rest_calls batches ++ (desk.TakeBatch, desk.Batch keys) ∷ (desk.Stop fault, desk.Done) ∷ []) ++ calls_made acts) asked (reports_of acts) (HasFailed fault))
               (sym (append_assoc (rest_fetches batches) ((Fetch keys, RefusedBy fault) ∷ []) (calls acts)))
               (batches_obey batches ((desk.TakeBatch, desk.Batch keys) ∷ (desk.Stop fault, desk.Done) ∷ []) (calls_made acts) ((Fetch keys, RefusedBy fault) ∷ calls acts) (reports_of acts) (HasFailed fault) (
                 HasTaken keys,
@@ -423,7 +423,7 @@ thing_obeys (Closes look batches writes ∷ Publishes ended left told ∷ Unwatc
           refl,
           refl,
           batches_obey batches (close_calls writes) (calls_made (Publishes ended left told ∷ Unwatched ∷ acts)) ((End ended, Ended) ∷ calls acts) (reports_of (Publishes ended left told ∷ Unwatched ∷ acts)) AtRest
-              (subst (λ (n : ℕ). Obeys AtRest (map (made_by 0) (close_calls writes) ++ calls_made (Publishes ended left told ∷ Unwatched ∷ acts)) ((End ended, Ended) ∷ calls acts) n AtRest)
+              (subst (λ (n : ℕ). Obeys AtRest (map (call_by 0) (close_calls writes) ++ calls_made (Publishes ended left told ∷ Unwatched ∷ acts)) ((End ended, Ended) ∷ calls acts) n AtRest)
               (let e : suc (publishes_in acts - unprinted_in acts) ≡ suc (publishes_in acts) - unprinted_in acts = omega (arith, few) in e) (
                 HasClosed writes,
                 HasEnded,
@@ -456,7 +456,7 @@ thing_obeys (Closes look batches writes ∷ Publishes ended left told ∷ []) ac
           refl,
           refl,
           batches_obey batches (close_calls writes) (calls_made (Publishes ended left told ∷ acts)) ((End ended, Ended) ∷ calls acts) (reports_of (Publishes ended left told ∷ acts)) rest.last
-              (subst (λ (n : ℕ). Obeys AtRest (map (made_by 0) (close_calls writes) ++ calls_made (Publishes ended left told ∷ acts)) ((End ended, Ended) ∷ calls acts) n rest.last)
+              (subst (λ (n : ℕ). Obeys AtRest (map (call_by 0) (close_calls writes) ++ calls_made (Publishes ended left told ∷ acts)) ((End ended, Ended) ∷ calls acts) n rest.last)
               (let e : suc (publishes_in acts - unprinted_in acts) ≡ suc (publishes_in acts) - unprinted_in acts = omega (arith, few) in e) (
                 HasClosed writes,
                 HasEnded,
@@ -490,7 +490,7 @@ thing_obeys (Closes look batches writes ∷ Publishes ended left told ∷ Unprin
           refl,
           refl,
           batches_obey batches (close_calls writes) (calls_made (Publishes ended left told ∷ Unprinted ∷ acts)) ((End ended, Ended) ∷ calls acts) (reports_of (Publishes ended left told ∷ Unprinted ∷ acts)) (HasTold told)
-              (subst (λ (n : ℕ). Obeys AtRest (map (made_by 0) (close_calls writes) ++ calls_made (Publishes ended left told ∷ Unprinted ∷ acts)) ((End ended, Ended) ∷ calls acts) n (HasTold told))
+              (subst (λ (n : ℕ). Obeys AtRest (map (call_by 0) (close_calls writes) ++ calls_made (Publishes ended left told ∷ Unprinted ∷ acts)) ((End ended, Ended) ∷ calls acts) n (HasTold told))
               (let e : 0 ≡ suc (publishes_in acts) - suc (unprinted_in acts) = omega (arith, p, u) in e) (
                 HasClosed writes,
                 HasEnded,

@@ -13,7 +13,7 @@ use Rattle.ob_conduct.proofs.Behind.{leads_split}
 use Rattle.ob_world.specs.Courses.{Course}
 use Rattle.ob_world.specs.Worlds.{WorldEvent, Desk, Vault, Report, Crash, Open, World, IsWorld}
 use Rattle.ob_world.specs.Headlines.{published_in}
-use Rattle.ob_world.specs.Weaves.{MadeCall, made_by, caller_of, calls_made, Due, NothingIsDue, CallIsDue, ReportIsDue, due_behind, events_due, asked_left, reports_left, woven_from, reported_in}
+use Rattle.ob_world.specs.Weaves.{MadeCall, call_by, caller_of, calls_made, Due, NothingIsDue, CallIsDue, ReportIsDue, due_behind, events_due, asked_left, reports_left, woven_from, reported_in}
 use Rattle.ob_world.specs.Laws.{RecordsAreReported, IsOneRun, desk_steps, EveryBeginIsTold}
 
 -- ---- what the weave publishes and reports
@@ -40,7 +40,7 @@ abbrev AreDue : List MadeCall → Type 0
 AreDue [] = Unit {0}
 AreDue (one ∷ made) = (records_due (due_behind one.call one.reply) ≡ records_told one.reply) × AreDue made
 
-due_front : (caller : ℕ) (d : DeskState) (steps : List (Call × Reply)) (mid : DeskState) (made : List MadeCall) → Leads d steps mid → AreDue made → AreDue (map (made_by caller) steps ++ made)
+due_front : (caller : ℕ) (d : DeskState) (steps : List (Call × Reply)) (mid : DeskState) (made : List MadeCall) → Leads d steps mid → AreDue made → AreDue (map (call_by caller) steps ++ made)
 due_front caller d [] mid made led h = h
 due_front caller d (step ∷ steps) mid made (next, may, one, led) h = (told_due d step.0 step.1 next one, due_front caller next steps mid made led h)
 
@@ -49,7 +49,7 @@ are_due [] d new led = tt
 are_due (act ∷ acts) d new led =
     let (mid, first, rest) = leads_split d (desk_calls act) (history acts) new led in due_front (caller_of act) d (desk_calls act) mid (calls_made acts) first (are_due acts mid new rest)
 
-made_front : (caller : ℕ) (steps : List (Call × Reply)) (made : List MadeCall) (more : List (Call × Reply)) → records_made made ≡ published more → records_made (map (made_by caller) steps ++ made) ≡ published (steps ++ more)
+made_front : (caller : ℕ) (steps : List (Call × Reply)) (made : List MadeCall) (more : List (Call × Reply)) → records_made made ≡ published more → records_made (map (call_by caller) steps ++ made) ≡ published (steps ++ more)
 made_front caller [] made more is = is
 made_front caller (step ∷ steps) made more is = ap (λ (rs : List (EpochRecord ℕ)). records_told step.1 ++ rs) (made_front caller steps made more is)
 

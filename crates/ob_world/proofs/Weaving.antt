@@ -18,7 +18,7 @@ use Rattle.ob_run.specs.Threaded.{driven}
 use Rattle.ob_world.specs.Courses.{course_of}
 use Rattle.ob_world.specs.Drivers.{DriverAt, AtRest, HasDoubt, HasFailed, IsDown, IsUp, MovesDriver, IsDriverCall, IsCallOf, before_call, behind_call}
 use Rattle.ob_world.specs.Worlds.{World, IsWorld, first_world, ended_with}
-use Rattle.ob_world.specs.Weaves.{MadeCall, made_by, caller_of, calls_made, Due, NothingIsDue, CallIsDue, ReportIsDue, due_behind, events_due, asked_left, reports_left, woven_from, publishes_in, unprinted_in, reports_of}
+use Rattle.ob_world.specs.Weaves.{MadeCall, call_by, caller_of, calls_made, Due, NothingIsDue, CallIsDue, ReportIsDue, due_behind, events_due, asked_left, reports_left, woven_from, publishes_in, unprinted_in, reports_of}
 use Rattle.ob_world.specs.Laws.{IsEndPlace, ActsAreAWorld}
 use Rattle.ob_world.proofs.Holding.{world_append}
 use Rattle.ob_world.proofs.Obeying.{Follows, Obeys, Stays, stays, flat, EndsSomewhere, things_obey, AreCalm, calm}
@@ -42,17 +42,17 @@ obeys_up at [] asked n last h = h.0
 obeys_up at (one ∷ made) asked n last h = h.2
 
 said_obeys : (client : ℕ) (steps : List (Call × Reply)) (made : List MadeCall) → All (IsOwn client) steps → (at : DriverAt) (asked : List (VaultCall × VaultAnswer)) (n : ℕ) (last : DriverAt)
-    → Obeys at made asked n last → Obeys at (map (made_by client) steps ++ made) asked n last
+    → Obeys at made asked n last → Obeys at (map (call_by client) steps ++ made) asked n last
 said_obeys client [] made own at asked n last h = h
 said_obeys client (step ∷ steps) made own at asked n last h =
     let one = own_step client step.0 step.1 at (All-head (IsOwn client) step steps own) in
-    let rest : Obeys at (map (made_by client) steps ++ made) asked n last = said_obeys client steps made (All-tail (IsOwn client) step steps own) at asked n last h in (
+    let rest : Obeys at (map (call_by client) steps ++ made) asked n last = said_obeys client steps made (All-tail (IsOwn client) step steps own) at asked n last h in (
       at,
       at,
-      obeys_up at (map (made_by client) steps ++ made) asked n last rest,
+      obeys_up at (map (call_by client) steps ++ made) asked n last rest,
       one.0,
       subst (λ (d : Due). Follows d asked n at at) (sym one.1) refl,
-      subst (λ (d : Due). Obeys at (map (made_by client) steps ++ made) (asked_left d asked) (reports_left d n) last) (sym one.1) rest,
+      subst (λ (d : Due). Obeys at (map (call_by client) steps ++ made) (asked_left d asked) (reports_left d n) last) (sym one.1) rest,
     )
 
 front_obeys : (front made whole : List MadeCall) (last : DriverAt) → ((at : DriverAt) (asked : List (VaultCall × VaultAnswer)) (n : ℕ) → Obeys at made asked n last → Obeys at whole asked n last)
@@ -67,29 +67,29 @@ whole_obeys beat (Says client steps ∷ acts) allowed last at asked n h =
     said_obeys client steps (calls_made acts) (All-head (IsAllowed beat) (Says client steps) acts allowed) at asked n last
     (whole_obeys beat acts (All-tail (IsAllowed beat) (Says client steps) acts allowed) last at asked n h)
 whole_obeys beat (Halts fault ∷ acts) allowed last at asked n h =
-    front_obeys (map (made_by 0) (desk_calls (Halts fault))) (calls_made (driven acts)) (calls_made acts) last (whole_obeys beat acts (All-tail (IsAllowed beat) (Halts fault) acts allowed) last) at asked n h
+    front_obeys (map (call_by 0) (desk_calls (Halts fault))) (calls_made (driven acts)) (calls_made acts) last (whole_obeys beat acts (All-tail (IsAllowed beat) (Halts fault) acts allowed) last) at asked n h
 whole_obeys beat (Rests look ∷ acts) allowed last at asked n h =
-    front_obeys (map (made_by 0) (desk_calls (Rests look))) (calls_made (driven acts)) (calls_made acts) last (whole_obeys beat acts (All-tail (IsAllowed beat) (Rests look) acts allowed) last) at asked n h
+    front_obeys (map (call_by 0) (desk_calls (Rests look))) (calls_made (driven acts)) (calls_made acts) last (whole_obeys beat acts (All-tail (IsAllowed beat) (Rests look) acts allowed) last) at asked n h
 whole_obeys beat (Takes look keys ∷ acts) allowed last at asked n h =
-    front_obeys (map (made_by 0) (desk_calls (Takes look keys))) (calls_made (driven acts)) (calls_made acts) last (whole_obeys beat acts (All-tail (IsAllowed beat) (Takes look keys) acts allowed) last) at asked n h
+    front_obeys (map (call_by 0) (desk_calls (Takes look keys))) (calls_made (driven acts)) (calls_made acts) last (whole_obeys beat acts (All-tail (IsAllowed beat) (Takes look keys) acts allowed) last) at asked n h
 whole_obeys beat (Delivers batch ∷ acts) allowed last at asked n h =
-    front_obeys (map (made_by 0) (desk_calls (Delivers batch))) (calls_made (driven acts)) (calls_made acts) last (whole_obeys beat acts (All-tail (IsAllowed beat) (Delivers batch) acts allowed) last) at asked n h
+    front_obeys (map (call_by 0) (desk_calls (Delivers batch))) (calls_made (driven acts)) (calls_made acts) last (whole_obeys beat acts (All-tail (IsAllowed beat) (Delivers batch) acts allowed) last) at asked n h
 whole_obeys beat (DeliverFails keys fault ∷ acts) allowed last at asked n h =
-    front_obeys (map (made_by 0) (desk_calls (DeliverFails keys fault))) (calls_made (driven acts)) (calls_made acts) last (whole_obeys beat acts (All-tail (IsAllowed beat) (DeliverFails keys fault) acts allowed) last) at asked n h
+    front_obeys (map (call_by 0) (desk_calls (DeliverFails keys fault))) (calls_made (driven acts)) (calls_made acts) last (whole_obeys beat acts (All-tail (IsAllowed beat) (DeliverFails keys fault) acts allowed) last) at asked n h
 whole_obeys beat (FetchFails look batches keys fault ∷ acts) allowed last at asked n h =
-    front_obeys (map (made_by 0) (desk_calls (FetchFails look batches keys fault))) (calls_made (driven acts)) (calls_made acts) last (whole_obeys beat acts (All-tail (IsAllowed beat) (FetchFails look batches keys fault) acts allowed) last) at asked n h
+    front_obeys (map (call_by 0) (desk_calls (FetchFails look batches keys fault))) (calls_made (driven acts)) (calls_made acts) last (whole_obeys beat acts (All-tail (IsAllowed beat) (FetchFails look batches keys fault) acts allowed) last) at asked n h
 whole_obeys beat (RestUnwatched look batches ∷ acts) allowed last at asked n h =
-    front_obeys (map (made_by 0) (desk_calls (RestUnwatched look batches))) (calls_made (driven acts)) (calls_made acts) last (whole_obeys beat acts (All-tail (IsAllowed beat) (RestUnwatched look batches) acts allowed) last) at asked n h
+    front_obeys (map (call_by 0) (desk_calls (RestUnwatched look batches))) (calls_made (driven acts)) (calls_made acts) last (whole_obeys beat acts (All-tail (IsAllowed beat) (RestUnwatched look batches) acts allowed) last) at asked n h
 whole_obeys beat (Closes look batches writes ∷ acts) allowed last at asked n h =
-    front_obeys (map (made_by 0) (desk_calls (Closes look batches writes))) (calls_made (driven acts)) (calls_made acts) last (whole_obeys beat acts (All-tail (IsAllowed beat) (Closes look batches writes) acts allowed) last) at asked n h
+    front_obeys (map (call_by 0) (desk_calls (Closes look batches writes))) (calls_made (driven acts)) (calls_made acts) last (whole_obeys beat acts (All-tail (IsAllowed beat) (Closes look batches writes) acts allowed) last) at asked n h
 whole_obeys beat (Publishes writes left told ∷ acts) allowed last at asked n h =
-    front_obeys (map (made_by 0) (desk_calls (Publishes writes left told))) (calls_made (driven acts)) (calls_made acts) last (whole_obeys beat acts (All-tail (IsAllowed beat) (Publishes writes left told) acts allowed) last) at asked n h
+    front_obeys (map (call_by 0) (desk_calls (Publishes writes left told))) (calls_made (driven acts)) (calls_made acts) last (whole_obeys beat acts (All-tail (IsAllowed beat) (Publishes writes left told) acts allowed) last) at asked n h
 whole_obeys beat (Refuses writes refused ∷ acts) allowed last at asked n h =
-    front_obeys (map (made_by 0) (desk_calls (Refuses writes refused))) (calls_made (driven acts)) (calls_made acts) last (whole_obeys beat acts (All-tail (IsAllowed beat) (Refuses writes refused) acts allowed) last) at asked n h
+    front_obeys (map (call_by 0) (desk_calls (Refuses writes refused))) (calls_made (driven acts)) (calls_made acts) last (whole_obeys beat acts (All-tail (IsAllowed beat) (Refuses writes refused) acts allowed) last) at asked n h
 whole_obeys beat (Unprinted ∷ acts) allowed last at asked n h =
-    front_obeys (map (made_by 0) (desk_calls Unprinted)) (calls_made (driven acts)) (calls_made acts) last (whole_obeys beat acts (All-tail (IsAllowed beat) Unprinted acts allowed) last) at asked n h
+    front_obeys (map (call_by 0) (desk_calls Unprinted)) (calls_made (driven acts)) (calls_made acts) last (whole_obeys beat acts (All-tail (IsAllowed beat) Unprinted acts allowed) last) at asked n h
 whole_obeys beat (Unwatched ∷ acts) allowed last at asked n h =
-    front_obeys (map (made_by 0) (desk_calls Unwatched)) (calls_made (driven acts)) (calls_made acts) last (whole_obeys beat acts (All-tail (IsAllowed beat) Unwatched acts allowed) last) at asked n h
+    front_obeys (map (call_by 0) (desk_calls Unwatched)) (calls_made (driven acts)) (calls_made acts) last (whole_obeys beat acts (All-tail (IsAllowed beat) Unwatched acts allowed) last) at asked n h
 
 -- the driver's acts ask for the same, and publish as much
 alike : (acts : List Act) → (calls (driven acts) ≡ calls acts) × (publishes_in (driven acts) ≡ publishes_in acts) × (unprinted_in (driven acts) ≡ unprinted_in acts)
@@ -118,11 +118,11 @@ abbrev AreDriver : List (Call × Reply) → Type 0
 AreDriver [] = Unit {0}
 AreDriver (step ∷ steps) = IsDriverCall step.0 × AreDriver steps
 
-said_own : (client : ℕ) (steps : List (Call × Reply)) (made : List MadeCall) → All (IsOwn client) steps → AreCallsOf made → AreCallsOf (map (made_by client) steps ++ made)
+said_own : (client : ℕ) (steps : List (Call × Reply)) (made : List MadeCall) → All (IsOwn client) steps → AreCallsOf made → AreCallsOf (map (call_by client) steps ++ made)
 said_own client [] made own h = h
 said_own client (step ∷ steps) made own h = (inr (All-head (IsOwn client) step steps own), said_own client steps made (All-tail (IsOwn client) step steps own) h)
 
-driver_own : (steps : List (Call × Reply)) (made : List MadeCall) → AreDriver steps → AreCallsOf made → AreCallsOf (map (made_by 0) steps ++ made)
+driver_own : (steps : List (Call × Reply)) (made : List MadeCall) → AreDriver steps → AreCallsOf made → AreCallsOf (map (call_by 0) steps ++ made)
 driver_own [] made own h = h
 driver_own (step ∷ steps) made own h = (inl (refl, own.0), driver_own steps made own.1 h)
 
@@ -155,7 +155,7 @@ abbrev IsLegalFrom : DeskState → List MadeCall → DeskState → Type 0
 IsLegalFrom d [] new = new ≡ d
 IsLegalFrom d (one ∷ made) new = (mid : DeskState) × MayCall d one.call × DeskStep d one.call one.reply mid × IsLegalFrom mid made new
 
-legal_front : (caller : ℕ) (d : DeskState) (steps : List (Call × Reply)) (mid : DeskState) (made : List MadeCall) (new : DeskState) → Leads d steps mid → IsLegalFrom mid made new → IsLegalFrom d (map (made_by caller) steps ++ made) new
+legal_front : (caller : ℕ) (d : DeskState) (steps : List (Call × Reply)) (mid : DeskState) (made : List MadeCall) (new : DeskState) → Leads d steps mid → IsLegalFrom mid made new → IsLegalFrom d (map (call_by caller) steps ++ made) new
 legal_front caller d [] mid made new led rest = subst (λ (x : DeskState). IsLegalFrom x made new) led rest
 legal_front caller d (step ∷ steps) mid made new (next, may, one, led) rest = (next, may, one, legal_front caller next steps mid made new led rest)
 

@@ -18,13 +18,13 @@ abbrev pub caller_of : Act → ℕ
 caller_of (Says client steps) = client
 caller_of _ = 0
 
-abbrev pub made_by : ℕ → Call × Reply → MadeCall
-made_by caller step = record { caller = caller; call = step.0; reply = step.1 }
+abbrev pub call_by : ℕ → Call × Reply → MadeCall
+call_by caller step = record { caller = caller; call = step.0; reply = step.1 }
 
 -- all calls of the desk, in order
 abbrev pub calls_made : List Act → List MadeCall
 calls_made [] = []
-calls_made (act ∷ acts) = map (made_by (caller_of act)) (desk_calls act) ++ calls_made acts
+calls_made (act ∷ acts) = map (call_by (caller_of act)) (desk_calls act) ++ calls_made acts
 
 -- what stands right behind a call of the desk: a call of the vault behind each batch that was taken and each close, a report behind a publish
 pub data Due : Type 0 where
