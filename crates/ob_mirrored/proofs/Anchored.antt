@@ -54,7 +54,7 @@ module _ {X : Type 0} (disk : X → Disk) (by : Manner) (tape : Given) (keys : K
   ran_keeps : (after : Outside) (records : List (EpochRecord ℕ)) (err : Option RunErr) → Ran ring_kind ring_lives ring_audits disk (reading_head [] by) tape keys old new before after t u records err → u.anchors ≡ t.anchors
   ran_keeps after records err ran = ran.serving.shown.shows.anchors ∙ ran.opening_shown.anchors
 
-  early_keeps : (after : Outside) (err : RunErr) → EndsEarly ring_kind ring_lives ring_audits [] keys by.lanes by.shares (disk old) (disk new) t u disk before.input after.input err → u.anchors ≡ t.anchors
+  early_keeps : (after : Outside) (err : RunErr) → EndsEarly ring_kind ring_lives ring_audits [] keys by.lanes by.shares (disk old) (disk new) t u disk old new before.input after.input err → u.anchors ≡ t.anchors
   early_keeps after (failed.Fault fault) (inl head) = no_head head.own
   early_keeps after (failed.Fault fault) (inr (inl input)) = input.shown.anchors
   early_keeps after (failed.Fault fault) (inr (inr opening)) = opening.behind_head.1.behind.anchors ∙ opening.behind_head.1.head.anchors

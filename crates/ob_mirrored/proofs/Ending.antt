@@ -47,7 +47,7 @@ module _ {X : Type 0} (disk : X → Disk) (by : Manner) (tape : Given) (keys : K
   ended_run mid err r f = run_done ring_kind ring_quiet ring_lives ring_audits disk (reading_head [] by) tape keys old new (outside input output) (outside input_new mid) (outside input_new output_new) t u refl status err r f
 
   -- it is cut off by the store's fault only where the count of faults rose
-  early_cause : (unsure : Option ℕ) → EndsEarly ring_kind ring_lives ring_audits [] keys by.lanes by.shares (disk old) (disk new) t u disk input input_new (failed.Fault (fault.StoreFault unsure)) → Rose (disk old).faults (disk new).faults
+  early_cause : (unsure : Option ℕ) → EndsEarly ring_kind ring_lives ring_audits [] keys by.lanes by.shares (disk old) (disk new) t u disk old new input input_new (failed.Fault (fault.StoreFault unsure)) → Rose (disk old).faults (disk new).faults
   early_cause unsure (inl head) = no_head head.own
   early_cause unsure (inr (inl came)) = ⊎_elim (λ none. absurd none) (λ shares. absurd (let wrong : fault.StoreFault unsure ≡ fault.BadParams shares.0 = shares.1 in cc)) came.refused
   early_cause unsure (inr (inr opening)) = opening.cause tt

@@ -17,6 +17,7 @@ use Rattle.ob_recover.specs.Life.{LifeAct, LifeState, WordId}
 use Rattle.ob_vault.proofs.Stopping.{stops_in_life}
 use Rattle.ob_vault.specs.Lives.{RingFormatted}
 use Rattle.ob_vault.specs.RingLives.{ring_lives}
+use Rattle.ob_vault.specs.Stages.{HowFar}
 use Rattle.ob_top.specs.Audited.{ring_audits}
 use Rattle.ob_script.specs.Script.{Scripts}
 use Rattle.ob_seal.specs.declared.keys.Keys.{Keys}
@@ -31,7 +32,7 @@ use Rattle.ob_schedule.specs.Schedule.{format_notes}
 use Rattle.ob_store.specs.Told.{events_of}
 use Rattle.ob_store.specs.Calls.{IsStoreFault, Notes, NotesFirst}
 use Rattle.ob_store.specs.Disk.{Disk, Image}
-use Rattle.ob_store.specs.Images.{IsSynced}
+use Rattle.ob_store.specs.Images.{IsSynced, Passes, Same}
 use Rattle.ob_store.specs.Lines.{Shows, Trace}
 use Rattle.ob_store.specs.Told.{TellsFirst}
 use Rattle.ob_store.specs.declared.watch.Note.TheVariants as note
@@ -44,7 +45,7 @@ use Rattle.ob_opening.specs.OpeningActs.{AreGatesIn, IsLeftAt, OpensInLife}
 use Rattle.ob_opening.specs.OpeningStops.{OpeningStops}
 use Rattle.ob_recover.specs.Known.{format_gates}
 use Rattle.ob_opening.specs.Formats.{FormatsInClear, HasClosedLogs, IsFormatFault, format_words, formatted_standing}
-use Rattle.ob_opening.specs.OpeningRuns.{BeginsFirst, IsAtStart, IsRingOpened, OpeningLeaves, OpensPart, ReadsFirst, RefusedDoes, RefusedWrites, begun_notes}
+use Rattle.ob_opening.specs.OpeningRuns.{BeginsFirst, IsAtStart, IsRingOpened, OpeningLeaves, OpensFrom, OpensPart, ReadsFirst, RefusedDoes, RefusedWrites, begun_notes}
 use Rattle.ob_recover.specs.Finds.{finding_notes}
 use Rattle.ob_recover.specs.declared.found.Found.{Found}
 use Rattle.ob_start.specs.Orders.{registers_notes}
@@ -57,10 +58,10 @@ use Rattle.ob_top.specs.Runs.{BreaksAtHead, BreaksAtOpening, EndsEarly}
 use Rattle.ob_top.specs.Parts.{CameIn, SharesFit, head_cells}
 
 -- the watch was found broken
-pub broke_early : (head_is : List ℕ) {S : Type 0} (disk : S → Disk) (keys : Keys) (most : ℕ) (shares : Shares) (old new : Disk) (t u : Trace) (before after : Flow) (err : RunErr) → IsWatched u (Some err)
-    → (u.broken ≡ true → BreaksAtHead ring_kind ring_lives ring_audits head_is keys most shares old new t u before after ⊎ BreaksAtOpening ring_kind ring_lives ring_audits head_is keys most shares old new t u disk before) → EndsEarly ring_kind ring_lives ring_audits head_is keys most shares old new t u disk before after err
-broke_early head_is disk keys most shares old new t u before after (failed.Fault refused) is so = absurd is
-broke_early head_is disk keys most shares old new t u before after failed.Unwatched is so = so is
+pub broke_early : (head_is : List ℕ) {S : Type 0} (disk : S → Disk) (first last : S) (keys : Keys) (most : ℕ) (shares : Shares) (old new : Disk) (t u : Trace) (before after : Flow) (err : RunErr) → IsWatched u (Some err)
+    → (u.broken ≡ true → BreaksAtHead ring_kind ring_lives ring_audits head_is keys most shares old new t u before after ⊎ BreaksAtOpening ring_kind ring_lives ring_audits head_is keys most shares old new t u disk first last before) → EndsEarly ring_kind ring_lives ring_audits head_is keys most shares old new t u disk first last before after err
+broke_early head_is disk first last keys most shares old new t u before after (failed.Fault refused) is so = absurd is
+broke_early head_is disk first last keys most shares old new t u before after failed.Unwatched is so = so is
 
 -- so it was behind the head's read
 pub broke_at_head : (keys : Keys) (most : ℕ) (shares : Shares) (old new : Disk) (t u : Trace) (before after : Flow) (err : RunErr) → IsWatched u (Some err) → (u.broken ≡ true → BreaksAtHead ring_kind ring_lives ring_audits head_cells keys most shares old new t u before after)
@@ -69,10 +70,15 @@ broke_at_head keys most shares old new t u before after (failed.Fault refused) i
 broke_at_head keys most shares old new t u before after failed.Unwatched is so = so is
 
 -- a run that ends at its head ends early
-pub early_at_head : {S : Type 0} (disk : S → Disk) (keys : Keys) (most : ℕ) (shares : Shares) (old new : Disk) (t u : Trace) (before after : Flow) (err : RunErr) → EndsAtHead keys most shares old new t u before after err
-    → EndsEarly ring_kind ring_lives ring_audits head_cells keys most shares old new t u disk before after err
-early_at_head disk keys most shares old new t u before after (failed.Fault refused) ends = inl ends
-early_at_head disk keys most shares old new t u before after failed.Unwatched ends = inl ends
+pub early_at_head : {S : Type 0} (disk : S → Disk) (first last : S) (keys : Keys) (most : ℕ) (shares : Shares) (old new : Disk) (t u : Trace) (before after : Flow) (err : RunErr) → EndsAtHead keys most shares old new t u before after err
+    → EndsEarly ring_kind ring_lives ring_audits head_cells keys most shares old new t u disk first last before after err
+early_at_head disk first last keys most shares old new t u before after (failed.Fault refused) ends = inl ends
+early_at_head disk first last keys most shares old new t u before after failed.Unwatched ends = inl ends
+
+-- as far as a refused opening came
+pub how_far : {S : Type 0} (disk : S → Disk) (keys : Keys) (p : Params) (old new : S) → Passes Same (disk old) (disk new) ⊎ OpensFrom disk keys p old new → HowFar disk keys p old new
+how_far disk keys p old new (inl still) = inl still
+how_far disk keys p old new (inr opens) = inr (inl opens)
 
 -- a refused opening has shown some notes
 abbrev pub SomeShown : Trace → Trace → Type 0
@@ -127,7 +133,7 @@ module _ {S : Type 0} (disk : S → Disk) (keys : Keys) (most : ℕ) (some : 1 �
       → ((disk mid).tells → IsOpenRefusal keys p (disk mid).cells refused) → ((s : RingStanding) → (disk mid).tells → stand.Stands keys p s (disk mid).cells → IsStandingRefusal s refused)
       → RefusedWrites disk keys p mid new tape_old tape_new present drawn refused → OpeningLeaves {L = L} disk keys p mid new (Err refused)
       → ((word_of : WordId → ℕ) (s : LifeState) (pending : Option LifeAct) → (disk mid).tells → IsLeftAt keys p word_of s pending (disk mid).cells → OpensInLife keys most p word_of s pending (disk mid) (disk new) shown later false) → EndsEarly ring_kind ring_lives ring_audits head_cells keys most shares (disk old)
-      (disk new) first later disk before after (failed.Fault refused)
+      (disk new) first later disk old new before after (failed.Fault refused)
   unopened {T} {L} shares fits o tape_old tape_new present drawn first shown later refused after head_shown whole only further kind cause does stops refusal stood writes leaves acts =
       let so = ring_refuses T disk keys most p old mid new tape_old tape_new present drawn shown later refused some read kind does refusal stood writes in
       let either = opens_or_not disk keys p old mid new read leaves in
@@ -142,7 +148,7 @@ module _ {S : Type 0} (disk : S → Disk) (keys : Keys) (most : ℕ) (some : 1 �
         cause = λ is. rose_later (disk old).faults (disk mid).faults (disk new).faults further (cause is);
         seen = so.seen;
         shown = record { mid = mid; later = shown; read = read.seen; keeps = read.keeps; head = head_shown; does = does };
-        stops = record { read = mid; between = shown; keeps = read.keeps; passes = read.passes; head = head_shown; stops = stops };
+        stops = record { read = mid; between = shown; keeps = read.keeps; passes = read.passes; head = head_shown; seen = read.seen; stops = stops; far = how_far disk keys p mid new leaves };
         behind_head = let (notes, behind) = refused_shown keys most p (disk mid) (disk new) shown later refused does in (notes, record { between = shown; head = head_shown; whole = whole; behind = behind });
         unwritten = so.unwritten;
         left = λ at tells stands all. ring_leaves_standing disk keys p old new only tells all either at stands;

@@ -21,6 +21,7 @@ use Rattle.ob_shares.specs.declared.shares.Shares.{Shares}
 use Rattle.ob_stand.specs.Stands as stand
 use Rattle.ob_stand.specs.Stands.{OneOf, RingStanding, StandsRing, ring_standing, with_generation}
 use Rattle.ob_start.specs.Heads.{IsHead}
+use Rattle.ob_store.proofs.Events.{none_noted}
 use Rattle.ob_store.proofs.Keeping.{same_none}
 use Rattle.ob_store.proofs.Moments.{weakened}
 use Rattle.ob_store.proofs.Showing.{shows_none}
@@ -46,7 +47,7 @@ use Rattle.ob_vault.specs.RingLaws.{found_ring}
 use Rattle.ob_vault.specs.RingLives.{ring_lives}
 use Rattle.ob_top.specs.Audited.{ring_audits}
 use Rattle.ob_vault.specs.Seen.{RingMayBegin, opening_phases}
-use Rattle.ob_top.proofs.Beginnings.{refused_shown}
+use Rattle.ob_top.proofs.Beginnings.{how_far, refused_shown}
 use Rattle.ob_top.specs.Begun.{HasReadHead, IsRunBegun}
 use Rattle.ob_top.specs.Parts.{CameIn, SharesFit}
 use Rattle.ob_top.specs.Runs.{EndsEarly}
@@ -176,7 +177,7 @@ module _ {S : Type 0} (disk : S → Disk) (keys : Keys) (most : ℕ) (p : Params
       → ((disk old).tells → IsOpenRefusal keys p (disk old).cells refused) → ((s : RingStanding) → (disk old).tells → stand.Stands keys p s (disk old).cells → IsStandingRefusal s refused)
       → RefusedWrites disk keys p old new tape_old tape_new present drawn refused → OpeningLeaves {L = L} disk keys p old new (Err refused)
       → ((word_of : WordId → ℕ) (s : LifeState) (pending : Option LifeAct) → (disk old).tells → IsLeftAt keys p word_of s pending (disk old).cells → OpensInLife keys most p word_of s pending (disk old) (disk new) shown later false)
-      → EndsEarly ring_kind ring_lives ring_audits [] keys most shares (disk old) (disk new) shown later disk before after (failed.Fault refused)
+      → EndsEarly ring_kind ring_lives ring_audits [] keys most shares (disk old) (disk new) shown later disk old new before after (failed.Fault refused)
   unopened_here {T} {L} shares fits o tape_old tape_new present drawn refused after only kind cause does stops refusal stood writes leaves acts =
       let either = either_here disk keys p old new leaves in
       inr (inr (record {
@@ -190,7 +191,7 @@ module _ {S : Type 0} (disk : S → Disk) (keys : Keys) (most : ℕ) (p : Params
         cause = cause;
         seen = tt;
         shown = does;
-        stops = record { read = old; between = shown; keeps = keeps_none (disk old); passes = same_none (disk old); head = shows_none shown; stops = stops };
+        stops = record { read = old; between = shown; keeps = keeps_none (disk old); passes = same_none (disk old); head = shows_none shown; seen = none_noted (disk old).seen; stops = stops; far = how_far disk keys p old new leaves };
         behind_head = let (notes, behind) = refused_shown keys most p (disk old) (disk new) shown later refused does in (notes, record { between = shown; head = shows_none shown; whole = whole; behind = behind });
         unwritten = λ not. let alone = read_alone disk keys p old new tape_old tape_new present drawn refused kind writes not in (alone.keeps, alone.passes);
         left = λ at tells stands all. ring_leaves_standing disk keys p old new only tells all either at stands;

@@ -119,7 +119,7 @@ module _ (store : StoreKind) (laws : AreStandingLaws store) (life : LifeWords st
   by_memory f (inl is) holds = absurd (holds is)
   by_memory f (inr is) holds = ap (λ (x : Fault). status_of (Some x)) is
 
-  early : (head_is : List ℕ) (most : ℕ) (t u : Trace) (f : RunErr) → t.broken ≡ false → (Rose t.faults u.faults → ⊥) → EndsEarly store life audit head_is can.keys most can.shares (disk old) (disk new) t u disk before.input after.input f → status_of (told_fault (Some f)) ≡ 9
+  early : (head_is : List ℕ) (most : ℕ) (t u : Trace) (f : RunErr) → t.broken ≡ false → (Rose t.faults u.faults → ⊥) → EndsEarly store life audit head_is can.keys most can.shares (disk old) (disk new) t u disk old new before.input after.input f → status_of (told_fault (Some f)) ≡ 9
   early head_is most t u failed.Unwatched whole watch (inl head) = absurd (watch (rose_added (lines_of (note.Read 0 ∷ [])) t u head.shown whole head.broken))
   early head_is most t u failed.Unwatched whole watch (inr opening) = absurd (watch (rose_later t.faults opening.shown.between.faults u.faults opening.shown.head.faults
       (rose_added (lines_of (store.open_notes opening.p opening.found opening.start)) opening.shown.between u opening.shown.behind opening.shown.whole opening.broken)))
@@ -199,7 +199,7 @@ module _ (store : StoreKind) (laws : AreStandingLaws store) (life : LifeWords st
 
     answers : (status : ℕ) (f : Option RunErr) → status ≡ status_of (told_fault f) → ErrTold written after.output f → Went store life audit disk by tape can.keys old new before (outside after.input written) t u records f → Answers status
     answers status None is line ran = inl is
-    answers status (Some f) is line (inl (none, ended, lives)) = inr (inl (is ∙ early by.head by.lanes t u f whole watch (subst (λ (x : Shares). EndsEarly store life audit by.head can.keys by.lanes x (disk old) (disk new) t u disk before.input after.input f) shared ended)))
+    answers status (Some f) is line (inl (none, ended, lives)) = inr (inl (is ∙ early by.head by.lanes t u f whole watch (subst (λ (x : Shares). EndsEarly store life audit by.head can.keys by.lanes x (disk old) (disk new) t u disk old new before.input after.input f) shared ended)))
     answers status (Some (failed.Fault f)) is line (inr ran) = by_fault status f is ran (ran_fault f ran ran.serving.traced.behind (shapes (calls ran.serving.is_served.served.evidence.acts)) (refused (calls ran.serving.is_served.served.evidence.acts)) ran.serving.cause line)
     answers status (Some failed.Unwatched) is line (inr ran) = absurd (watch (rose_later t.faults ran.midway.faults u.faults ran.opening_shown.faults ran.serving.cause.1))
 

@@ -82,7 +82,7 @@ module _ {S : Type 0} (disk : S → Disk) (keys : Keys) (p : Params) (at : Stand
   one_head q head = ring_keeps.one_head keys q p ((disk call.old).cells 0) (head stood.tells.0) has_head
 
   module _ (t u : Trace) (whole : t.broken ≡ false) (traced : Rose t.faults u.faults → Rose call.traced_before call.traced_after) where
-    pub early_cause : (e : RunErr) → EndsEarly ring_kind ring_lives ring_audits call.by.head keys call.by.lanes call.by.shares (disk call.old) (disk call.new) t u disk call.before.input call.after.input e → Early (fault_of e)
+    pub early_cause : (e : RunErr) → EndsEarly ring_kind ring_lives ring_audits call.by.head keys call.by.lanes call.by.shares (disk call.old) (disk call.new) t u disk call.old call.new call.before.input call.after.input e → Early (fault_of e)
     early_cause (failed.Fault f) (inl head) =
         let is = ring_keeps.reads_head keys p ((disk call.old).cells 0) f has_head head.kind (head.read stood.tells.0) in
         by_store f is (head.cause is)

@@ -256,7 +256,7 @@ module _ {S : Type 0} (disk : S → Disk) (keys : Keys) (call : RunCall S) (t u 
             let (g, stands) = stood.is_at.stands in
             ring_keeps.one_head keys p q ((disk call.old).cells 0) (ring_keeps.has_head keys p g (disk call.old).cells at stands) (head stood.tells.0)
 
-        pub early : (e : RunErr) → Told (fault_of e) → EndsEarly ring_kind ring_lives ring_audits call.by.head keys call.by.lanes call.by.shares (disk call.old) (disk call.new) t u disk call.before.input call.after.input e → Unserved disk keys p past call
+        pub early : (e : RunErr) → Told (fault_of e) → EndsEarly ring_kind ring_lives ring_audits call.by.head keys call.by.lanes call.by.shares (disk call.old) (disk call.new) t u disk call.old call.new call.before.input call.after.input e → Unserved disk keys p past call
         early (failed.Fault refusal) said (inl head) = read_only refusal said head.passes
         early (failed.Fault refusal) said (inr (inl input)) = read_only refusal said input.passes
         early (failed.Fault refusal) said (inr (inr o)) =

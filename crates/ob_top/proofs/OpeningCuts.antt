@@ -1,5 +1,5 @@
 -- A run that a crash cuts off within its opening: what an auditor knows behind it.
-use Rattle.std.proofs.Common.{◌⊎◌, ◌%◌, ◌+◌, ℕ, suc, List, [], ◌∷◌, ◌++◌, Option, arith, inl, inr, subst, sym, ⊎_elim}
+use Rattle.std.proofs.Common.{◌≡◌, ◌⊎◌, ◌%◌, ◌+◌, ℕ, suc, List, [], ◌∷◌, ◌++◌, Option, arith, inl, inr, subst, sym, ⊎_elim}
 use Rattle.std.specs.Prelude.{take}
 use Rattle.ob_base.specs.Layout.{EpochTwin, GenerationTwin, LogArea}
 use Rattle.ob_base.specs.declared.params.Params.{Params}
@@ -7,16 +7,19 @@ use Rattle.ob_recover.specs.Life.{LifeAct}
 use Rattle.ob_schedule.specs.Follow.{Follow}
 use Rattle.ob_schedule.specs.Schedule.{check_cells, head_notes, reads_of, region_cells}
 use Rattle.ob_seal.specs.declared.keys.Keys.{Keys}
+use Rattle.ob_serial.specs.Vaults.{Standing}
 use Rattle.ob_stand.proofs.OnceLaws.{register_once}
 use Rattle.ob_stand.specs.Stands.{RingStanding, Stands, ring_standing}
+use Rattle.ob_store.specs.Calls.{Notes}
 use Rattle.ob_store.specs.Disk.{Clock, Disk, Image, NotAfter}
 use Rattle.ob_store.specs.Images.{Passes, Same}
 use Rattle.ob_store.specs.declared.watch.Note.{Note}
 use Rattle.ob_twin.specs.Keyed.{tagging}
 use Rattle.ob_twin.specs.Register.{StandsAt}
 use Rattle.ob_twin.specs.Stages.{AreSpans}
-use Rattle.ob_vault.specs.Openings.{OpensStanding}
+use Rattle.ob_vault.specs.Kinds as kinds
 use Rattle.ob_vault.specs.RingKind.{ring_kind}
+use Rattle.ob_vault.specs.RingLaws.{ReadsHead}
 use Rattle.ob_vault.specs.RingLives.{ring_lives}
 use Rattle.ob_vault.specs.Spans.{span}
 use Rattle.ob_vault.specs.Staged.{RingOpensStaged}
@@ -30,9 +33,10 @@ use Rattle.ob_top.proofs.Knowing.{audited_within, known_within}
 use Rattle.ob_top.proofs.Refusing.{head_part}
 use Rattle.ob_top.specs.AuditedStops.{IsHeldOrLeft, IsSurelyLeft}
 use Rattle.ob_top.specs.Auditors.{AuditorKnows}
-use Rattle.ob_top.specs.CutOpenings.{AreReadsAudited, AreStagesAudited, CutHeadsAreRead, CutOpeningsAreRead, IsAuditedToSync, IsMomentAudited, IsOpeningAudited, OpeningsOfRunsAreRead, RefusedAreReadToSync, StopsLeadOn}
+use Rattle.ob_top.specs.CutOpenings.{AreReadsAudited, AreStagesAudited, BrokenOpeningsAreRead, CutHeadsAreRead, CutOpeningsAreRead, IsMomentAudited, IsOpeningAudited, OpeningsOfRunsAreRead, RefusedOpeningsAreRead, StopsLeadOn}
 use Rattle.ob_top.specs.Parts.{head_cells}
 use Rattle.ob_top.specs.Pasts.{PastLife}
+use Rattle.ob_top.specs.Runs.{head_reads}
 use Rattle.ob_top.specs.Staged.{OpensStaged}
 
 module _ {S : Type 0} (disk : S → Disk) (counts_now : (x : S) (t : Clock) (c : Image) → NotAfter t (disk x).moment → (disk x).may_leave c → (disk x).left_since t c) (only_now : (x : S) (c : Image) → (disk x).left_since (disk x).moment c → (disk x).may_leave c) where
@@ -87,7 +91,7 @@ module _ {S : Type 0} (disk : S → Disk) (counts_now : (x : S) (t : Clock) (c :
           (λ stage x shown notes may. moment x notes (shown notes may).1) 0 old (cut.synced ∷ cut.synced ∷ cut.ends) new cut.cut;
     }
 
-    opening_audited : (read new : S) (s : RingStanding) → Stands keys p s (disk old).cells → (how : HowFar disk keys p read new) → IsOpeningCutShown disk keys p s.epoch old read new how → IsOpeningAudited disk keys p past known s.epoch old read new how
+    opening_audited : (read new : S) (s : RingStanding) → Stands keys p s (disk old).cells → (how : HowFar disk keys p read new) → IsOpeningCutShown disk keys p s.epoch old read new how → IsOpeningAudited disk keys p past known p s.epoch old read new how
     opening_audited read new s stands (inl still) shown = λ notes may. moment (old, new) notes (shown notes may).1
     opening_audited read new s stands (inr since) shown = in_stages new shown
 
@@ -96,25 +100,32 @@ module _ {S : Type 0} (disk : S → Disk) (counts_now : (x : S) (t : Clock) (c :
   pub cut_openings_read : CutOpeningsAreRead disk
   cut_openings_read keys p past in_flight known old read new s k tells stands head how = opening_audited keys p past in_flight known old k read new s stands how (cut_openings disk counts_now only_now keys p old read new s tells stands head how)
 
+  -- an opening that came in all of its stages
+  by_stages : (keys : Keys) (p : Params) (past : PastLife) (in_flight : Option LifeAct) (known : Follow) (old new : S) (at : Standing) → AuditorKnows keys p past in_flight (IsHeldOrLeft (disk old)) known → (disk old).tells → kinds.Stands ring_kind keys p (disk old).cells at
+      → RingOpensStaged disk keys p old new → AreStagesAudited disk keys p past known old new
+  by_stages keys p past in_flight known old new at k tells stood staged =
+      cut_openings_read keys p past in_flight known old staged.read new (ring_standing at stood.0 (stood.1).content (stood.1).records) k tells (stood.1).stands staged.head (inr (inr staged.begins))
+
+  -- by the parameters of which the head told
+  of_params : (keys : Keys) (p q : Params) (head_is : List ℕ) (old new : S) → head_is ≡ head_cells → q ≡ p → OpensStaged head_is ring_kind ring_lives disk keys q old new → RingOpensStaged disk keys p old new
+  of_params keys p q head_is old new head params staged =
+      subst (λ (q : Params). RingOpensStaged disk keys q old new) params (subst (λ (cells : List ℕ). OpensStaged cells ring_kind ring_lives disk keys q old new) head staged)
+
   pub runs_openings_read : OpeningsOfRunsAreRead disk
   runs_openings_read keys p past in_flight known r k one =
-      let staged : OpensStaged head_cells ring_kind ring_lives disk keys (one.ran).p r.old (one.ran).between = subst (λ (cells : List ℕ). OpensStaged cells ring_kind ring_lives disk keys (one.ran).p r.old (one.ran).between) one.head (one.ran).opens_staged in
-      by_stages (subst (λ (q : Params). RingOpensStaged disk keys q r.old (one.ran).between) one.params staged)
-    where
-      by_stages : RingOpensStaged disk keys p r.old (one.ran).between → AreStagesAudited disk keys p past known r.old (one.ran).between
-      by_stages staged =
-          let stood = one.stood in
-          cut_openings_read keys p past in_flight known r.old staged.read (one.ran).between (ring_standing one.at stood.0 (stood.1).content (stood.1).records) k one.tells (stood.1).stands staged.head (inr (inr staged.begins))
+      by_stages keys p past in_flight known r.old (one.ran).between one.at k one.tells one.stood (of_params keys p (one.ran).p (r.by).head r.old (one.ran).between one.head one.params (one.ran).opens_staged)
 
-  pub refused_to_sync : RefusedAreReadToSync disk
-  refused_to_sync keys p past in_flight known r k stopped = by_opens (stopped.went).p (stopped.went).opens
-    where
-      stands_here : Stands keys p (ring_standing stopped.at (stopped.stood).0 ((stopped.stood).1).content ((stopped.stood).1).records) (disk r.old).cells
-      stands_here = ((stopped.stood).1).stands
+  pub broken_openings_read : BrokenOpeningsAreRead disk
+  broken_openings_read keys p past in_flight known r k head broke =
+      by_stages keys p past in_flight known r.old r.new broke.at k broke.tells broke.stood (of_params keys p (broke.went).p (r.by).head r.old r.new head broke.params (broke.went).opens_staged)
 
-      by_opens : (q : Params) (opens : Passes Same (disk r.old) (disk r.new) ⊎ OpensStanding ring_kind disk keys q (disk r.old) (disk r.new)) → IsAuditedToSync disk keys p past known q (stopped.at).epoch r.old r.new opens
-      by_opens q (inl still) = reads_audited keys p past in_flight known r.old k (ring_standing stopped.at (stopped.stood).0 ((stopped.stood).1).content ((stopped.stood).1).records) stands_here r.new still
-      by_opens q (inr opens) = reads_audited keys p past in_flight known r.old k (ring_standing stopped.at (stopped.stood).0 ((stopped.stood).1).content ((stopped.stood).1).records) stands_here opens.synced opens.until
+  pub refused_openings_read : RefusedOpeningsAreRead disk
+  refused_openings_read keys p past in_flight known r k head_is stopped =
+      let stops = (stopped.went).stops in
+      let s = ring_standing stopped.at (stopped.stood).0 ((stopped.stood).1).content ((stopped.stood).1).records in
+      let head : ReadsHead (disk r.old) (disk stops.read) = record { keeps = stops.keeps; passes = stops.passes; seen = subst (λ (cells : List ℕ). Notes (head_reads cells) (disk r.old).seen (disk stops.read).seen) head_is stops.seen } in
+      subst (λ (q : Params). (how : HowFar disk keys q stops.read r.new) → IsOpeningAudited disk keys p past known q (stopped.at).epoch r.old stops.read r.new how) (sym stopped.params)
+      (λ how. cut_openings_read keys p past in_flight known r.old stops.read r.new s k stopped.tells ((stopped.stood).1).stands head how) stops.far
 
   pub cut_heads_read : CutHeadsAreRead disk
   cut_heads_read keys p past in_flight known r k head came count = head_audited keys p past in_flight known r.old k r.new (head_part disk keys p r head came).passes count

@@ -71,26 +71,26 @@ served_reading head store life audit disk by keys p found sealing script tape ol
 
 module _ (store : StoreKind) (quiet : IsQuiet store) (life : LifeWords store) (audit : AuditWords store) where
   -- an early end isn't the output's
-  early_other : (head_is : List ℕ) {S : Type 0} (disk : S → Disk) (keys : Keys) (most : ℕ) (shares : Shares) (old new : Disk) (t u : Trace) (before after : Flow) → EndsEarly store life audit head_is keys most shares old new t u disk before after (failed.Fault SinkFault) → ⊥
-  early_other head_is disk keys most shares old new t u before after (inl head) = quiet.head head.kind
-  early_other head_is disk keys most shares old new t u before after (inr (inl input)) = not_sink input.p shares before after input.refused
-  early_other head_is disk keys most shares old new t u before after (inr (inr opening)) = quiet.opening opening.kind
+  early_other : (head_is : List ℕ) {S : Type 0} (disk : S → Disk) (first last : S) (keys : Keys) (most : ℕ) (shares : Shares) (old new : Disk) (t u : Trace) (before after : Flow) → EndsEarly store life audit head_is keys most shares old new t u disk first last before after (failed.Fault SinkFault) → ⊥
+  early_other head_is disk first last keys most shares old new t u before after (inl head) = quiet.head head.kind
+  early_other head_is disk first last keys most shares old new t u before after (inr (inl input)) = not_sink input.p shares before after input.refused
+  early_other head_is disk first last keys most shares old new t u before after (inr (inr opening)) = quiet.opening opening.kind
 
   -- so it has printed nothing, which is the report of no records
-  early_stand : (head_is : List ℕ) {S : Type 0} (disk : S → Disk) (keys : Keys) (most : ℕ) (shares : Shares) (old new : Disk) (t u : Trace) (before after output : Flow) (err : RunErr) → EndsEarly store life audit head_is keys most shares old new t u disk before after err → Stand [] output output (Some err)
-  early_stand head_is disk keys most shares old new t u before after output (failed.Fault refused) early =
-      stand_unless [] output output refused (λ is. early_other head_is disk keys most shares old new t u before after (subst (λ (f : Fault). EndsEarly store life audit head_is keys most shares old new t u disk before after (failed.Fault f)) is early)) (record { bytes = appended-none output.bytes; later = omega arith })
-  early_stand head_is disk keys most shares old new t u before after output failed.Unwatched early = stand_all [] output output (record { bytes = appended-none output.bytes; later = omega arith })
+  early_stand : (head_is : List ℕ) {S : Type 0} (disk : S → Disk) (first last : S) (keys : Keys) (most : ℕ) (shares : Shares) (old new : Disk) (t u : Trace) (before after output : Flow) (err : RunErr) → EndsEarly store life audit head_is keys most shares old new t u disk first last before after err → Stand [] output output (Some err)
+  early_stand head_is disk first last keys most shares old new t u before after output (failed.Fault refused) early =
+      stand_unless [] output output refused (λ is. early_other head_is disk first last keys most shares old new t u before after (subst (λ (f : Fault). EndsEarly store life audit head_is keys most shares old new t u disk first last before after (failed.Fault f)) is early)) (record { bytes = appended-none output.bytes; later = omega arith })
+  early_stand head_is disk first last keys most shares old new t u before after output failed.Unwatched early = stand_all [] output output (record { bytes = appended-none output.bytes; later = omega arith })
 
   pub ended_early : (laws : AreStandingLaws store) {S : Type 0} (disk : S → Disk)
       (counts_now : (x : S) (t : Clock) (c : Image) → NotAfter t (disk x).moment → (disk x).may_leave c → (disk x).left_since t c) (by : Manner) (tape : Given) (keys : Keys) (old new : S) (t u : Trace) (before after output : Flow) (err : RunErr)
-      → EndsEarly store life audit by.head keys by.lanes by.shares (disk old) (disk new) t u disk before after err → ((disk new).tells → LivesUnserved disk keys old new)
+      → EndsEarly store life audit by.head keys by.lanes by.shares (disk old) (disk new) t u disk old new before after err → ((disk new).tells → LivesUnserved disk keys old new)
       → RunOn store life audit disk by tape keys old new
       (outside before output) (outside after output) t u (Some err)
   ended_early laws disk counts_now by tape keys old new t u before after output err early lives = record {
     records = [];
-    whole = (early_stand by.head disk keys by.lanes by.shares (disk old) (disk new) t u before after output err early).0;
-    lines = (early_stand by.head disk keys by.lanes by.shares (disk old) (disk new) t u before after output err early).1;
+    whole = (early_stand by.head disk old new keys by.lanes by.shares (disk old) (disk new) t u before after output err early).0;
+    lines = (early_stand by.head disk old new keys by.lanes by.shares (disk old) (disk new) t u before after output err early).1;
     went = inl (refl, early, λ tells. (lives tells).0);
     clear = λ tells. (lives tells).1;
     sound = early_sound store laws life audit disk counts_now keys old new by.head by.lanes by.shares t u before after err early;

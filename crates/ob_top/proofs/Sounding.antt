@@ -100,7 +100,7 @@ module _ (store : StoreKind) where
         let left = leaves at tells stands is.images in
         subst (λ (q : Params). IsSound store keys q (disk new)) (sym same) (left_sound keys q (disk old) (disk new) (λ c may. counts_now new (disk old).moment c left.later may) left)
 
-    pub early_sound : (head_is : List ℕ) (most : ℕ) (shares : Shares) (t u : Trace) (before after : Flow) (err : RunErr) → EndsEarly store life audit head_is keys most shares (disk old) (disk new) t u disk before after err → StandsOn store disk keys old new
+    pub early_sound : (head_is : List ℕ) (most : ℕ) (shares : Shares) (t u : Trace) (before after : Flow) (err : RunErr) → EndsEarly store life audit head_is keys most shares (disk old) (disk new) t u disk old new before after err → StandsOn store disk keys old new
     early_sound head_is most shares t u before after (failed.Fault refused) (inl head) p tells sound = read_sound keys p (disk old) (disk new) head.passes sound
     early_sound head_is most shares t u before after (failed.Fault refused) (inr (inl input)) p tells sound = read_sound keys p (disk old) (disk new) input.passes sound
     early_sound head_is most shares t u before after (failed.Fault refused) (inr (inr opening)) p tells sound = opened_sound opening.p opening.head opening.left p tells sound

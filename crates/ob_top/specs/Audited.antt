@@ -27,6 +27,7 @@ use Rattle.ob_vault.specs.Seen.{RingPublic, ring_notes}
 use Rattle.ob_vault.specs.Shapes.{Shape, shape_of}
 use Rattle.ob_vault.specs.Shown.{IsInLife}
 use Rattle.ob_vault.specs.Spans.{IsCutIn, IsSeenIn, span}
+use Rattle.ob_vault.specs.Stages.{HowFar}
 use Rattle.ob_admitted.specs.Gates.{LeavesGates, notes_lacking}
 use Rattle.ob_admitted.specs.Parts.{IsRefusedShown}
 use Rattle.ob_admitted.specs.Told.{IsCountIn, IsLeftAsNoted, IsRunNoted}
@@ -37,6 +38,8 @@ pub record AuditWords (store : StoreKind) : Type 1 where
   pub made_gated : (made : Disk) → Type 0
   -- an opening was refused with this fault, and by its notes so the store was left
   pub opening_stops : Keys → (most : ℕ) → Params → (old new : Disk) → (before after : Trace) → Fault → Type 0
+  -- Over the store behind the head's read an opening came so far: to its reads alone, or on from its first sync in stages.
+  pub opening_far : {S : Type 0} → (S → Disk) → Keys → Params → (read new : S) → Type 0
   -- what was found knows the gates of the store as it was opened
   pub knows_gates : store.Found → (opened : Disk) → Type 0
   -- From what was found on, over the store as it was opened, these calls were answered, which drew this and hid that; and one more, where that was
@@ -78,6 +81,7 @@ abbrev pub ring_audits : AuditWords ring_kind
 ring_audits = record {
   made_gated = λ made. (c : Image) → made.may_leave c → AreGatesIn format_gates c;
   opening_stops = OpeningStops;
+  opening_far = HowFar;
   knows_gates = λ found opened. AreGatesKnown found.run opened;
   leaves_as_shown = RingLeavesAsShown;
   call_cut_as_shown = RingCallCutAsShown;

@@ -84,7 +84,7 @@ pub record BegunBehindHead {S : Type 0} (disk : S → Disk) (head_is : List ℕ)
 
 -- Nothing is begun with, for this cause, and no vault's call is in the store's life.
 pub record NotBegun {S : Type 0} (disk : S → Disk) (head_is : List ℕ) (keys : Keys) (most : ℕ) (shares : Shares) (old new : S) (t u : Trace) (before after : Flow) (err : RunErr) : Type 0 where
-  pub early : EndsEarly ring_kind ring_lives ring_audits head_is keys most shares (disk old) (disk new) t u disk before after err
+  pub early : EndsEarly ring_kind ring_lives ring_audits head_is keys most shares (disk old) (disk new) t u disk old new before after err
   pub lives : (disk new).tells → LivesUnserved disk keys old new
 
 -- A vault with so many lanes may be made of the opening, over the store and the tape as they are.

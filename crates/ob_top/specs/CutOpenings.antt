@@ -10,11 +10,8 @@ use Rattle.ob_schedule.specs.Schedule.{head_notes}
 use Rattle.ob_seal.specs.declared.keys.Keys.{Keys}
 use Rattle.ob_stand.specs.Stands.{RingStanding, Stands}
 use Rattle.ob_store.specs.Disk.{Disk, Image}
-use Rattle.ob_store.specs.Images.{Passes, Same}
 use Rattle.ob_store.specs.declared.watch.Note.{Note}
 use Rattle.ob_twin.specs.Stages.{AreSpans}
-use Rattle.ob_vault.specs.Openings.{OpensStanding}
-use Rattle.ob_vault.specs.RingKind.{ring_kind}
 use Rattle.ob_vault.specs.RingLaws.{ReadsHead}
 use Rattle.ob_vault.specs.Spans.{span}
 use Rattle.ob_vault.specs.Stages.{HowFar}
@@ -23,7 +20,7 @@ use Rattle.ob_top.specs.AuditedStops.{IsHeldOrLeft, IsSurelyLeft}
 use Rattle.ob_top.specs.Auditors.{AreNotesAudited, AuditorKnows}
 use Rattle.ob_top.specs.Parts.{head_cells}
 use Rattle.ob_top.specs.Pasts.{PastLife}
-use Rattle.ob_top.specs.Refusals.{CameToHead, StoppedInOpening}
+use Rattle.ob_top.specs.Refusals.{BrokeInOpening, CameToHead, StoppedInOpening}
 use Rattle.ob_top.specs.Rows.{IsRowRun, TracedRun}
 
 module _ {S : Type 0} (disk : S → Disk) (keys : Keys) (p : Params) (past : PastLife) (known : Follow) where
@@ -46,31 +43,31 @@ module _ {S : Type 0} (disk : S → Disk) (keys : Keys) (p : Params) (past : Pas
     pub cut : AreSpans (λ stage x. (notes : List Note) → IsShownIn p found stage notes → IsMomentAudited old x notes) 0 old (synced ∷ synced ∷ ends) new
 
   -- it came to its reads at most; or so it is in stages
-  abbrev pub IsOpeningAudited : (epoch : ℕ) (old read new : S) → HowFar disk keys p read new → Type 0
-  IsOpeningAudited epoch old read new (inl still) = AreReadsAudited epoch old new
-  IsOpeningAudited epoch old read new (inr since) = AreStagesAudited old new
-
-  -- so it is up to its first sync, where that succeeded, and else to its end
-  abbrev pub IsAuditedToSync : (q : Params) (epoch : ℕ) (old new : S) → Passes Same (disk old) (disk new) ⊎ OpensStanding ring_kind disk keys q (disk old) (disk new) → Type 0
-  IsAuditedToSync q epoch old new (inl still) = AreReadsAudited epoch old new
-  IsAuditedToSync q epoch old new (inr opens) = AreReadsAudited epoch old opens.synced
+  abbrev pub IsOpeningAudited : (q : Params) (epoch : ℕ) (old read new : S) → HowFar disk keys q read new → Type 0
+  IsOpeningAudited q epoch old read new (inl still) = AreReadsAudited epoch old new
+  IsOpeningAudited q epoch old read new (inr since) = AreStagesAudited old new
 
 module _ {S : Type 0} (disk : S → Disk) where
   -- Whoever knows a life at a store that stands for something goes on so with an opening of that which a crash cut off at any moment, however far it
   -- came behind the head's read, whether it would have been answered or refused.
   abbrev pub CutOpeningsAreRead : Type 0
   CutOpeningsAreRead = (keys : Keys) (p : Params) (past : PastLife) (in_flight : Option LifeAct) (known : Follow) (old read new : S) (s : RingStanding) → AuditorKnows keys p past in_flight (IsHeldOrLeft (disk old)) known
-      → (disk old).tells → Stands keys p s (disk old).cells → ReadsHead (disk old) (disk read) → (how : HowFar disk keys p read new) → IsOpeningAudited disk keys p past known s.epoch old read new how
+      → (disk old).tells → Stands keys p s (disk old).cells → ReadsHead (disk old) (disk read) → (how : HowFar disk keys p read new) → IsOpeningAudited disk keys p past known p s.epoch old read new how
 
   -- So it is of the opening of a run that served, from the store that it was handed to the one that was opened;
   abbrev pub OpeningsOfRunsAreRead : Type 0
   OpeningsOfRunsAreRead = (keys : Keys) (p : Params) (past : PastLife) (in_flight : Option LifeAct) (known : Follow) (r : TracedRun S) → AuditorKnows keys p past in_flight (IsHeldOrLeft (disk r.old)) known
       → (one : IsRowRun disk keys p (IsHeldOrLeft (disk r.old)) r) → AreStagesAudited disk keys p past known r.old (one.ran).between
 
-  -- of one that was refused in its opening, up to its first sync;
-  abbrev pub RefusedAreReadToSync : Type 0
-  RefusedAreReadToSync = (keys : Keys) (p : Params) (past : PastLife) (in_flight : Option LifeAct) (known : Follow) (r : TracedRun S) → AuditorKnows keys p past in_flight (IsHeldOrLeft (disk r.old)) known
-      → (stopped : StoppedInOpening disk keys p r) → IsAuditedToSync disk keys p past known (stopped.went).p (stopped.at).epoch r.old r.new (stopped.went).opens
+  -- of one that was refused in its opening, however far it came;
+  abbrev pub RefusedOpeningsAreRead : Type 0
+  RefusedOpeningsAreRead = (keys : Keys) (p : Params) (past : PastLife) (in_flight : Option LifeAct) (known : Follow) (r : TracedRun S) → AuditorKnows keys p past in_flight (IsHeldOrLeft (disk r.old)) known
+      → (r.by).head ≡ head_cells → (stopped : StoppedInOpening disk keys p r) → IsOpeningAudited disk keys p past known (stopped.went).p (stopped.at).epoch r.old ((stopped.went).stops).read r.new ((stopped.went).stops).far
+
+  -- of one whose watch broke in its opening;
+  abbrev pub BrokenOpeningsAreRead : Type 0
+  BrokenOpeningsAreRead = (keys : Keys) (p : Params) (past : PastLife) (in_flight : Option LifeAct) (known : Follow) (r : TracedRun S) → AuditorKnows keys p past in_flight (IsHeldOrLeft (disk r.old)) known
+      → (r.by).head ≡ head_cells → BrokeInOpening disk keys p r → AreStagesAudited disk keys p past known r.old r.new
 
   -- and of one that came to the head at most.
   abbrev pub CutHeadsAreRead : Type 0

@@ -28,7 +28,7 @@ use Rattle.ob_top.specs.Formats.{IsFormatted}
 use Rattle.ob_top.specs.Outside.{Given}
 use Rattle.ob_top.specs.Parts.{head_cells}
 use Rattle.ob_top.specs.Rows.{AreRowsTold, AreTapesOf, IsRowRun, TracedRun}
-use Rattle.ob_top.specs.Runs.{BreaksAtHead, StopsAtHead, StopsAtInput, StopsAtOpening}
+use Rattle.ob_top.specs.Runs.{BreaksAtHead, BreaksAtOpening, StopsAtHead, StopsAtInput, StopsAtOpening}
 
 module _ {S : Type 0} (disk : S → Disk) (keys : Keys) (p : Params) where
   -- ---- a run that was refused
@@ -43,7 +43,15 @@ module _ {S : Type 0} (disk : S → Disk) (keys : Keys) (p : Params) where
   -- Its opening was refused, as `run` says, over a store that stood.
   pub record StoppedInOpening (r : TracedRun S) : Type 0 where
     pub fault : Fault
-    pub went : StopsAtOpening ring_kind ring_lives ring_audits (r.by).head keys (r.by).lanes (r.by).shares (disk r.old) (disk r.new) r.first r.last disk (r.before).input fault
+    pub went : StopsAtOpening ring_kind ring_lives ring_audits (r.by).head keys (r.by).lanes (r.by).shares (disk r.old) (disk r.new) r.first r.last disk r.new (r.before).input fault
+    pub params : went.p ≡ p
+    pub tells : (disk r.old).tells
+    pub at : Standing
+    pub stood : Stands ring_kind keys p (disk r.old).cells at
+
+  -- Its watch broke in its opening, which was finished, as `run` says, over a store that stood.
+  pub record BrokeInOpening (r : TracedRun S) : Type 0 where
+    pub went : BreaksAtOpening ring_kind ring_lives ring_audits (r.by).head keys (r.by).lanes (r.by).shares (disk r.old) (disk r.new) r.first r.last disk r.old r.new (r.before).input
     pub params : went.p ≡ p
     pub tells : (disk r.old).tells
     pub at : Standing

@@ -115,14 +115,16 @@ abbrev pub PartlyShown : List ℕ → (store : StoreKind) → {S : Type 0} → (
 PartlyShown [] store disk keys most p old new t u fault = RefusedDoes keys most p old new t u fault
 PartlyShown (cell ∷ head) store disk keys most p old new t u fault = store.opens_shown disk keys most p old new t u fault
 
--- The head's read was shown, behind which the store was this one, as it was before. From there on the opening stopped so.
-pub record StopsBehindHead (store : StoreKind) (audit : AuditWords store) (head_is : List ℕ) (keys : Keys) (most : ℕ) (p : Params) {S : Type 0} (disk : S → Disk) (old new : Disk) (t u : Trace) (fault : Fault) : Type 0 where
+-- The head's read was shown, behind which the store was this one, as it was before. From there on the opening stopped so; so far it came.
+pub record StopsBehindHead (store : StoreKind) (audit : AuditWords store) (head_is : List ℕ) (keys : Keys) (most : ℕ) (p : Params) {S : Type 0} (disk : S → Disk) (old : Disk) (new : S) (t u : Trace) (fault : Fault) : Type 0 where
   pub read : S
   pub between : Trace
   pub keeps : Keeps old (disk read)
   pub passes : Passes Same old (disk read)
   pub head : Shows (notes_of_head head_is) t between
-  pub stops : audit.opening_stops keys most p (disk read) new between u fault
+  pub seen : Notes (head_reads head_is) old.seen (disk read).seen
+  pub stops : audit.opening_stops keys most p (disk read) (disk new) between u fault
+  pub far : audit.opening_far disk keys p read new
 
 -- what the watch told before an early end, and behind it
 module _ (store : StoreKind) (life : LifeWords store) (audit : AuditWords store) (head_is : List ℕ) (keys : Keys) (most : ℕ) (shares : Shares) (old new : Disk) (t u : Trace) where
@@ -152,8 +154,8 @@ module _ (store : StoreKind) (life : LifeWords store) (audit : AuditWords store)
     pub shown : Shows (notes_of_head head_is) t u
     pub whole : u.broken ≡ false
 
-  -- Opening was refused, once the script had come in.
-  pub record StopsAtOpening {S : Type 0} (disk : S → Disk) (before : Flow) (fault : Fault) : Type 0 where
+  -- Opening was refused, once the script had come in, and left this store.
+  pub record StopsAtOpening {S : Type 0} (disk : S → Disk) (last : S) (before : Flow) (fault : Fault) : Type 0 where
     pub p : Params
     pub head : old.tells → store.is_head keys p (old.cells 0)
     pub script : Scripts
@@ -165,7 +167,7 @@ module _ (store : StoreKind) (life : LifeWords store) (audit : AuditWords store)
     pub seen : PartlySeen head_is store keys most p old new fault
     pub shown : PartlyShown head_is store disk keys most p old new t u fault
     -- what it left of the registers' gates is as its notes tell
-    pub stops : StopsBehindHead store audit head_is keys most p disk old new t u fault
+    pub stops : StopsBehindHead store audit head_is keys most p disk old last t u fault
     -- behind the head's read the watch was whole
     pub behind_head : (notes : List Note) × ShownBehindHead head_is notes t u
     -- unless it may have begun the next generation, no cell is written, and a crash leaves what it might have left before
@@ -189,8 +191,8 @@ module _ (store : StoreKind) (life : LifeWords store) (audit : AuditWords store)
     pub shown : Shows (note.Read 0 ∷ []) t u
     pub broken : u.broken ≡ true
 
-  -- It was whole behind the head's read, and broke in the opening, which was finished.
-  pub record BreaksAtOpening {S : Type 0} (disk : S → Disk) (before : Flow) : Type 0 where
+  -- It was whole behind the head's read, and broke in the opening, which was finished, from that store to this one.
+  pub record BreaksAtOpening {S : Type 0} (disk : S → Disk) (first last : S) (before : Flow) : Type 0 where
     pub p : Params
     pub script : Scripts
     pub found : store.Found
@@ -205,11 +207,12 @@ module _ (store : StoreKind) (life : LifeWords store) (audit : AuditWords store)
     pub left : (at : Standing) → old.tells → Stands store keys p old.cells at → AllStand store keys p old → LeavesOnly old new (StandsAsBefore store keys p old)
     pub opens : OpensStanding store disk keys p old new
     pub opens_life : old.tells → life.begins keys p old.cells found
+    pub opens_staged : OpensStaged head_is store life disk keys p first last
 
   -- Nothing was run: the head, the input or the opening was refused; or the watch broke by then.
-  abbrev pub EndsEarly : {S : Type 0} → (S → Disk) → Flow → Flow → RunErr → Type 0
-  EndsEarly disk before after (failed.Fault fault) = StopsAtHead before after fault ⊎ StopsAtInput before after fault ⊎ StopsAtOpening disk before fault
-  EndsEarly disk before after failed.Unwatched = BreaksAtHead before after ⊎ BreaksAtOpening disk before
+  abbrev pub EndsEarly : {S : Type 0} → (S → Disk) → (first last : S) → Flow → Flow → RunErr → Type 0
+  EndsEarly disk first last before after (failed.Fault fault) = StopsAtHead before after fault ⊎ StopsAtInput before after fault ⊎ StopsAtOpening disk last before fault
+  EndsEarly disk first last before after failed.Unwatched = BreaksAtHead before after ⊎ BreaksAtOpening disk first last before
 
 -- Why serving ended: the script did; memory was wanting; the output failed; the watch's sink did, and it broke; the store failed, perhaps at the last
 -- write or sync of the end of the epoch behind n; or the vault refused this call for a cause of its kind, from what was hidden behind calls of these shapes.
@@ -353,7 +356,7 @@ module _ (store : StoreKind) (life : LifeWords store) (audit : AuditWords store)
   abbrev pub Went : Keys → S → S → Outside → Outside → Trace → Trace → List (EpochRecord ℕ) → Option RunErr → Type 0
   Went keys old new before after t u records None = Ran keys old new before after t u records None
   Went keys old new before after t u records (Some err) =
-      ((records ≡ []) × EndsEarly store life audit by.head keys by.lanes by.shares (disk old) (disk new) t u disk before.input after.input err × ((disk new).tells → LivesOn disk keys old new [])) ⊎ Ran keys old new before after t u records (Some err)
+      ((records ≡ []) × EndsEarly store life audit by.head keys by.lanes by.shares (disk old) (disk new) t u disk old new before.input after.input err × ((disk new).tells → LivesOn disk keys old new [])) ⊎ Ran keys old new before after t u records (Some err)
 
   -- What it comes to before the fault's line is written.
   pub record RunOn (keys : Keys) (old new : S) (before after : Outside) (t u : Trace) (err : Option RunErr) : Type 0 where

@@ -1,10 +1,11 @@
 //! What an auditor knows behind a run that a crash cuts off within its opening, or within a call.
 
 ghost use Rattle.ob_top.specs.CutOpenings.{
+  BrokenOpeningsAreRead,
   CutHeadsAreRead,
   CutOpeningsAreRead,
   OpeningsOfRunsAreRead,
-  RefusedAreReadToSync,
+  RefusedOpeningsAreRead,
   StopsLeadOn,
 };
 ghost use Rattle.ob_top.specs.Cuts.{CutsAreRead, CutsAreReadFrom, CutsLeadOn};
@@ -24,12 +25,13 @@ pub fn cuts_are_read<S: Store>()
 /// And so with one that a crash cuts off at any moment of its opening: while it reads, the head first;
 /// once its first sync was shown; while its generation's gate is closed, the body laid and the gate
 /// opened; and while batches are shown again. It is known of each image that the moment surely leaves
-/// (`stops_are_read`), and the next run goes on from there. An opening that was refused is so up to its
-/// first sync; behind that, where it is told how far it came.
+/// (`stops_are_read`), and the next run goes on from there. So it is of an opening that would have been
+/// refused, as far as that came, and of one in which the watch broke.
 pub fn cut_openings_are_read<S: Store>()
     ensures openings { CutOpeningsAreRead (λ store. S.disk store) }
     ensures runs { OpeningsOfRunsAreRead (λ store. S.disk store) }
-    ensures refused { RefusedAreReadToSync (λ store. S.disk store) }
+    ensures refused { RefusedOpeningsAreRead (λ store. S.disk store) }
+    ensures broken { BrokenOpeningsAreRead (λ store. S.disk store) }
     ensures heads { CutHeadsAreRead (λ store. S.disk store) }
     ensures onward { StopsLeadOn (λ store. S.disk store) }
 {}

@@ -37,7 +37,7 @@ returns-in-Err-still_watched-clause-done g c =
           let all = from first before h in
           let b = all.is_begun in
           ended_early ring_kind ring_quiet ring_lives ring_audits ring_keeps (λ s. g.S.Store.disk s) (λ x t image at left. g.met.S.Store.counts_now x t image at left) _ _ c.args.keys.now first _ before _ _ _ _ c.in-Err-still_watched.err
-          (broke_early head_cells (λ s. g.S.Store.disk s) _ _ _ _ _ _ _ _ _ c.in-Err-still_watched.err c.in-Err-still_watched.ensures (λ broken. inr (record {
+          (broke_early head_cells (λ s. g.S.Store.disk s) first _ _ _ _ _ _ _ _ _ _ c.in-Err-still_watched.err c.in-Err-still_watched.ensures (λ broken. inr (record {
             p = c.in-Ok.begun.params;
             script = c.in-Ok.begun.scripts;
             found = f;
@@ -50,12 +50,13 @@ returns-in-Err-still_watched-clause-done g c =
             stood = b.stood;
             left = all.left;
             opens = all.since.standing;
+            opens_staged = all.since.stages;
             opens_life = λ tells word_of s here small. opened_lives c.args.keys.now c.in-Ok.begun.params word_of s (g.S.Store.disk first).cells f (b.opened.finds tells) here small;
           })))
           (open_lives (λ s. g.S.Store.disk s) c.args.keys.now first _ c.in-Ok.begun.opening.sealer all.opens),
       let b = behind.is_begun in
           ended_early ring_kind ring_quiet ring_lives ring_audits ring_keeps (λ s. g.S.Store.disk s) (λ x t image at left. g.met.S.Store.counts_now x t image at left) _ _ c.args.keys.now c.args.store.now _ _ _ _ _ _ c.in-Err-still_watched.err
-          (broke_early [] (λ s. g.S.Store.disk s) _ _ _ _ _ _ _ _ _ c.in-Err-still_watched.err c.in-Err-still_watched.ensures (λ broken. inr (record {
+          (broke_early [] (λ s. g.S.Store.disk s) c.args.store.now _ _ _ _ _ _ _ _ _ _ c.in-Err-still_watched.err c.in-Err-still_watched.ensures (λ broken. inr (record {
             p = c.in-Ok.begun.params;
             script = c.in-Ok.begun.scripts;
             found = f;
@@ -68,6 +69,7 @@ returns-in-Err-still_watched-clause-done g c =
             stood = b.stood;
             left = behind.left;
             opens = behind.since.standing;
+            opens_staged = behind.since.stages;
             opens_life = λ tells word_of s here small. opened_lives c.args.keys.now c.in-Ok.begun.params word_of s (g.S.Store.disk c.args.store.now).cells f (b.opened.finds tells) here small;
           })))
           (open_lives (λ s. g.S.Store.disk s) c.args.keys.now c.args.store.now _ c.in-Ok.begun.opening.sealer behind.opens),

@@ -20,7 +20,7 @@ returns-in-Err-clause-none_out g c = omega (arith, c.in-Err.ensures.out, c.requi
 pub returns-in-Err-clause-done : goal.returns-in-Err-clause-done
 returns-in-Err-clause-done g c =
     ended_early ring_kind ring_quiet ring_lives ring_audits ring_keeps (λ s. g.S.Store.disk s) (λ x t image at left. g.met.S.Store.counts_now x t image at left) _ _ c.args.keys.now _ _ _ _ _ _ _ c.in-Err.err
-    (early_at_head (λ s. g.S.Store.disk s) c.args.keys.now c.args.means.lanes c.args.means.shares _ _ _ _ _ _ c.in-Err.err (c.in-Err.ensures.refused c.args.means.lanes c.args.means.shares _)) c.in-Err.ensures.lives
+    (early_at_head (λ s. g.S.Store.disk s) _ _ c.args.keys.now c.args.means.lanes c.args.means.shares _ _ _ _ _ _ c.in-Err.err (c.in-Err.ensures.refused c.args.means.lanes c.args.means.shares _)) c.in-Err.ensures.lives
 
 -- ---- the rest of the run
 
