@@ -3,20 +3,12 @@
 ghost use Rattle.std.specs.Prelude.{◌≡◌};
 ghost use Rattle.ob_mem.specs.Memory.{disk_of_store};
 
-use crate::playing::{
-    ONE_EPOCH, PUT, RUN, STEPS, expect, formatted, insist, left_after, new_store,
-};
+use crate::playing::{ONE_EPOCH, PUT, RUN, STEPS, expect, formatted, insist, left_after};
 use ob_mem::{Fail, MemStore};
 use ob_top_calls::{END, let_go};
 use std::process::Abort;
 use std::sync::Wait;
 use std::thread::Threads;
-
-// What is told of an epoch of this number, whose one transaction is committed, with this behind it.
-fn told_of<R: AllocGlobal + Abort>(rt: &R, epoch: u64, get: &str) -> String {
-    let told = format!(in rt.alloc(); "epoch {epoch}/txn 1 client 1 committed/{get}");
-    told.expect(rt, "memory")
-}
 
 /// A run of two epochs, the first of this number, of which the second one reads what was put.
 pub fn expect_next<R: AllocGlobal + Threads + Wait + Sync + Abort>(
@@ -28,22 +20,32 @@ pub fn expect_next<R: AllocGlobal + Threads + Wait + Sync + Abort>(
     requires { (disk_of_store store.old).out ≡ 0 }
     ensures { (disk_of_store store.new).out ≡ 0 }
 {
-    let get = if found {
-        "get 5 = hi/"
-    } else {
-        "get 5 absent/"
-    };
-    let mut told = told_of(rt, epoch, "");
-    let next = told_of(rt, epoch.saturating_add(1), get);
-    told.push_str(next.as_str()).expect(rt, "memory");
+    let got = if found { "= hi" } else { "absent" };
+    let next = epoch.saturating_add(1);
+    let told = format!(in rt.alloc();
+        "epoch {epoch}/txn 1 client 1 committed/epoch {next}/txn 1 client 1 committed/get 5 {got}/"
+    );
+    let told = told.expect(rt, "memory");
     let script = "client 1/begin/commit/begin/get 5/commit/";
     expect(rt, store, RUN, script, 0, told.as_str());
 }
 
+/// What the cells have that aren't sure, by its number: what they got last, or a byte throughout.
+pub fn filling_of(n: usize) -> Option<u8> {
+    match n {
+        0 => None,
+        1 => Some(0),
+        _ => Some(0xA5),
+    }
+}
+
+// The filling of zeros.
+const ZEROS: usize = 1;
+
 // Whether an epoch has ended that makes so many writes and syncs, the last two of which are its
 // gate and the sync behind it, where a crash comes behind so many.
-fn has_ended(steps: usize, moment: usize, filling: Option<u8>) -> bool {
-    moment >= steps || (moment.saturating_add(1) == steps && filling != Some(0))
+fn has_ended(steps: usize, moment: usize, filling: usize) -> bool {
+    moment >= steps || (moment.saturating_add(1) == steps && filling != ZEROS)
 }
 
 /// A store behind the next run: how many writes and syncs it had before that, how many that run
@@ -72,13 +74,20 @@ fn steps_of<R: AllocGlobal + Threads + Wait + Sync + Abort>(
     store: &MemStore,
     epoch: u64,
 ) -> usize {
+    let told = format!(in rt.alloc(); "epoch {epoch}/txn 1 client 1 committed/");
+    let told = told.expect(rt, "memory");
     let mut copy = left_after(rt, store, END, None);
-    let told = told_of(rt, epoch, "");
-    let script = "client 1/begin/commit";
-    expect(rt, &mut copy, RUN, script, 0, told.as_str());
-    let moments = copy.moments();
+    expect(
+        rt,
+        &mut copy,
+        RUN,
+        "client 1/begin/commit",
+        0,
+        told.as_str(),
+    );
+    let steps = copy.moments();
     let_go(copy);
-    moments
+    steps
 }
 
 // The next run, whose first epoch has this number.
@@ -111,27 +120,20 @@ fn expect_third<R: AllocGlobal + Threads + Wait + Sync + Abort>(
     rt: &R,
     next: &Next,
     moment: usize,
-    filling: Option<u8>,
+    filling: usize,
 ) {
-    let mut left = left_after(rt, &next.store, next.before.saturating_add(moment), filling);
-    if next.in_doubt && moment == 0 && filling == Some(0) {
-        expect_next(rt, &mut left, 1, false);
+    let behind = next.before.saturating_add(moment);
+    let mut left = left_after(rt, &next.store, behind, filling_of(filling));
+    let (epoch, found) = if next.in_doubt && moment == 0 && filling == ZEROS {
+        (1, false)
     } else {
         let ended = has_ended(next.first, moment, filling) as u64;
         let both = has_ended(next.all, moment, filling) as u64;
         let epoch = next.epoch.saturating_add(ended).saturating_add(both);
-        expect_next(rt, &mut left, epoch, next.found);
-    }
+        (epoch, next.found)
+    };
+    expect_next(rt, &mut left, epoch, found);
     let_go(left);
-}
-
-// A filling by its number.
-fn filling_of(n: usize) -> Option<u8> {
-    match n {
-        0 => None,
-        1 => Some(0),
-        _ => Some(0xA5),
-    }
 }
 
 // The writes of a run, the last of which is that of the register's gate, and its syncs.
@@ -164,20 +166,21 @@ pub fn behind_call<R: AllocGlobal + Threads + Wait + Sync + Abort>(rt: &R, call:
 
 /// A run of a store that was just formatted.
 pub fn ran<R: AllocGlobal + Threads + Wait + Sync + Abort>(rt: &R) -> MemStore {
-    let mut ran = new_store(rt);
+    let mut ran = formatted(rt, &[]);
     expect(rt, &mut ran, RUN, PUT, 0, ONE_EPOCH);
     ran
 }
 
-/// The next run behind a crash of it: at each moment there are three images.
+/// The next run behind a crash of it, which comes behind the format's 72 writes and syncs: at each
+/// moment there are three images.
 pub fn behind_crash<R: AllocGlobal + Threads + Wait + Sync + Abort>(
     rt: &R,
     ran: &MemStore,
     image: usize,
 ) -> Next {
-    let (moment, filling) = (image / 3, filling_of(image % 3));
+    let (moment, filling) = (image / 3, image % 3);
     let ended = has_ended(STEPS, moment, filling);
-    let left = left_after(rt, ran, moment, filling);
+    let left = left_after(rt, ran, moment.saturating_add(72), filling_of(filling));
     next_of(rt, left, 1 + ended as u64, ended, false)
 }
 
@@ -191,9 +194,9 @@ pub fn expect_thirds<R: AllocGlobal + Threads + Wait + Sync + Abort>(
 ) -> u64 {
     let mut cases = from;
     for moment in 0..next.all.saturating_add(1) {
-        for n in 0..3 {
+        for filling in 0..3 {
             if moment == 0 || cases.checked_rem(every).unwrap_or(0) == 0 {
-                expect_third(rt, next, moment, filling_of(n));
+                expect_third(rt, next, moment, filling);
             }
             cases = cases.wrapping_add(1);
         }
@@ -219,19 +222,6 @@ fn each_failing_call_is_told_and_no_epoch_lost(rt: HostRuntime) {
     insist(&rt, count_cases(&rt) > 18_000, "cases");
 }
 
-fn expect_images<R: AllocGlobal + Threads + Wait + Sync + Abort>(rt: &R, ran: &MemStore) {
-    for image in 0..IMAGES {
-        let_next_go(behind_crash(rt, ran, image));
-    }
-}
-
-#[test]
-fn a_crash_at_each_moment_leaves_one_of_two_epochs(rt: HostRuntime) {
-    let ran = ran(&rt);
-    expect_images(&rt, &ran);
-    let_go(ran);
-}
-
 // The next number of a row, below this one.
 fn drawn(row: &mut u64, below: usize) -> usize {
     *row = row
@@ -240,27 +230,23 @@ fn drawn(row: &mut u64, below: usize) -> usize {
     (*row >> 33).checked_rem(below as u64).unwrap_or(0) as usize
 }
 
-// Ten crashes are drawn of the next run behind an image that is drawn.
-fn expect_drawn<R: AllocGlobal + Threads + Wait + Sync + Abort>(
-    rt: &R,
-    ran: &MemStore,
-    row: &mut u64,
-) {
-    let next = behind_crash(rt, ran, drawn(row, IMAGES));
-    for _crash in 0..10 {
-        let moment = drawn(row, next.all.saturating_add(1));
-        expect_third(rt, &next, moment, filling_of(drawn(row, 3)));
-    }
-    let_next_go(next);
-}
-
-// Of the images of a run 30 are drawn.
-#[test]
-fn a_second_crash_loses_no_epoch(rt: HostRuntime) {
-    let ran = ran(&rt);
+// The next run behind each image of a run, and behind each two crashes of the next one, which are
+// drawn.
+fn expect_images<R: AllocGlobal + Threads + Wait + Sync + Abort>(rt: &R) {
+    let ran = ran(rt);
     let mut row = 59;
-    for _image in 0..30 {
-        expect_drawn(&rt, &ran, &mut row);
+    for image in 0..IMAGES {
+        let next = behind_crash(rt, &ran, image);
+        for _crash in 0..2 {
+            let moment = drawn(&mut row, next.all.saturating_add(1));
+            expect_third(rt, &next, moment, drawn(&mut row, 3));
+        }
+        let_next_go(next);
     }
     let_go(ran);
+}
+
+#[test]
+fn a_crash_at_each_moment_leaves_one_of_two_epochs(rt: HostRuntime) {
+    expect_images(&rt);
 }

@@ -1,7 +1,10 @@
 //! Traces that have too little room: what is still done, and what is told.
 
-use crate::playing::{expect, formatted, insist, insist_at, left_after};
-use ob_mem::{MemSink, MemStore};
+ghost use Rattle.std.specs.Prelude.{◌≡◌};
+ghost use Rattle.ob_mem.specs.Memory.{disk_of_store};
+
+use crate::playing::{expect, formatted, insist_at, left_after};
+use ob_mem::MemStore;
 use ob_top_calls::{Answer, Ask, END, NEVER, WIDE, ask_for, call, has, has_front, let_go};
 use std::process::Abort;
 use std::sync::Wait;
@@ -28,44 +31,48 @@ static RUNS: [&str; 4] = [
 // A script of an empty transaction.
 const EMPTY: &str = "client 1/begin/commit";
 
-// From how many bytes of room on a run of one epoch makes how many writes and syncs.
-static STEPS: [(usize, usize); 5] = [(0, 0), (6, 5), (127, 9), (179, 13), (246, 56)];
-
 // How much room a trace of one epoch takes, and from how much on the epoch ends.
 const WHOLE: usize = 474;
 
 const ENDED: usize = 246;
 
-// How many writes and syncs a run makes whose trace has so much room.
+// How many writes and syncs a run of one epoch makes whose trace has so much room.
 fn steps_of(room: usize) -> usize {
-    let mut made = 0;
-    for &(from, steps) in &STEPS {
-        if from <= room {
-            made = steps;
-        }
+    if room < 6 {
+        0
+    } else if room < 127 {
+        5
+    } else if room < 179 {
+        9
+    } else if room < ENDED {
+        13
+    } else {
+        56
     }
-    made
 }
 
-// Whether the output has what is told of a run whose trace has so much room, where all would be told
-// this.
-fn is_told<R: AllocGlobal + Abort>(rt: &R, output: &MemSink, room: usize, told: &str) -> bool {
-    let mut text = String::new(rt.alloc());
-    if room >= ENDED {
-        text.push_str(told).expect(rt, "memory");
-    }
-    if room < WHOLE {
-        text.push_str("fault: sink/").expect(rt, "memory");
-    }
-    has(output, text.as_str())
-}
-
-// Whether this is the whole trace as far as there is so much room.
-fn is_cut(trace: &Option<MemSink>, room: usize) -> bool {
-    match trace {
-        Some(trace) => has_front(trace, TRACE, room),
-        None => false,
-    }
+/// Whether a call over a store under a trace, for which it asks, has this status, tells this, and
+/// shows these lines as far as there is room.
+pub fn is_traced<R: AllocGlobal + Threads + Wait + Sync + Abort>(
+    rt: &R,
+    store: &mut MemStore,
+    ask: &Ask<'_>,
+    status: u8,
+    told: &str,
+    lines: &str,
+) -> bool
+    requires { (disk_of_store store.old).out ≡ 0 }
+    ensures { (disk_of_store store.new).out ≡ 0 }
+{
+    let answer = call(rt, store, ask).expect(rt, "memory");
+    let Answer {
+        status: ended,
+        output,
+        trace,
+    } = answer;
+    let trace = trace.expect(rt, "a trace");
+    let room = ask.trace.unwrap_or(0);
+    ended == status && has(&output, told) && has_front(&trace, lines, room)
 }
 
 // What the next run is told: which epoch has ended tells how the one before went.
@@ -84,24 +91,28 @@ fn expect_next<R: AllocGlobal + Threads + Wait + Sync + Abort>(
     let_go(left);
 }
 
-// A run of one epoch whose trace has so much room, where all would be told this.
+// A run of one epoch whose trace has so much room. What is told where it has all, and where it ends
+// behind the epoch.
 fn expect_cut<R: AllocGlobal + Threads + Wait + Sync + Abort>(
     rt: &R,
-    made: &MemStore,
-    ask: (&str, &str),
-    told: &str,
+    words: &str,
+    script: &str,
+    told: (&str, &str),
     room: usize,
 ) {
-    let mut store = left_after(rt, made, END, None);
-    let mut ask = ask_for(ask.0, ask.1);
+    let mut store = formatted(rt, &[]);
+    let mut ask = ask_for(words, script);
     ask.trace = Some(room);
-    let answer = call(rt, &mut store, &ask).expect(rt, "memory");
-    let status = if room < WHOLE { 7 } else { 0 };
-    let so = answer.status == status
-        && is_told(rt, &answer.output, room, told)
-        && is_cut(&answer.trace, room)
-        && store.moments() == steps_of(room);
-    insist_at(rt, so, room as u64);
+    let (status, told) = if room >= WHOLE {
+        (0, told.0)
+    } else if room >= ENDED {
+        (7, told.1)
+    } else {
+        (7, "fault: sink/")
+    };
+    let so = is_traced(rt, &mut store, &ask, status, told, TRACE);
+    let steps = steps_of(room).saturating_add(72);
+    insist_at(rt, so && store.moments() == steps, room as u64);
     expect_next(rt, &store, room >= ENDED);
     let_go(store);
 }
@@ -113,87 +124,60 @@ static EDGES: [usize; 11] = [0, 5, 6, 126, 127, 178, 179, 245, 246, 473, 474];
 fn expect_all_cut<R: AllocGlobal + Threads + Wait + Sync + Abort>(
     rt: &R,
     script: &str,
-    told: &str,
+    told: (&str, &str),
 ) {
-    let made = formatted(rt, &[]);
     for room in 0..WHOLE + 2 {
-        expect_cut(rt, &made, (RUNS[room % 4], script), told, room);
-    }
-    for &room in &EDGES {
-        for &words in &RUNS {
-            expect_cut(rt, &made, (words, script), told, room);
+        for way in 0..4 {
+            if way == room % 4 || EDGES.contains(&room) {
+                expect_cut(rt, RUNS[way], script, told, room);
+            }
         }
     }
-    let_go(made);
 }
 
 #[test]
 fn a_trace_is_cut_off_where_its_room_ends(rt: HostRuntime) {
-    expect_all_cut(&rt, EMPTY, "epoch 1/txn 1 client 1 committed/");
+    let told = (
+        "epoch 1/txn 1 client 1 committed/",
+        "epoch 1/txn 1 client 1 committed/fault: sink/",
+    );
+    expect_all_cut(&rt, EMPTY, told);
 }
 
 #[test]
 fn a_batch_of_its_own_is_delivered_behind_a_trace_that_ends(rt: HostRuntime) {
-    let told = "epoch 1/txn 1 client 1 committed/get 5 absent/";
+    let told = (
+        "epoch 1/txn 1 client 1 committed/get 5 absent/",
+        "epoch 1/txn 1 client 1 committed/get 5 absent/fault: sink/",
+    );
     expect_all_cut(&rt, "client 1/begin/get 5/commit", told);
 }
 
-// What a store that was just formatted answers.
-fn answer_of_new<R: AllocGlobal + Threads + Wait + Sync + Abort>(rt: &R, ask: &Ask<'_>) -> Answer {
-    let mut store = formatted(rt, &[]);
-    let answer = call(rt, &mut store, ask).expect(rt, "memory");
-    let_go(store);
-    answer
-}
+// Reports where the trace ends within the epoch's end: the output's room, which write of it fails, and
+// so much as is told of one.
+static SHORT: [(usize, u64, &str); 6] = [
+    (0, NEVER, ""),
+    (1, NEVER, "e"),
+    (10, NEVER, "epoch 1/tx"),
+    (32, NEVER, "epoch 1/txn 1 client 1 committed"),
+    (33, NEVER, "epoch 1/txn 1 client 1 committed/"),
+    (WIDE, 0, ""),
+];
 
-// A report of which the output has room for so much, and this write fails, where the trace ends
-// within the epoch's end.
-fn expect_short<R: AllocGlobal + Threads + Wait + Sync + Abort>(
-    rt: &R,
-    room: usize,
-    bad_write: u64,
-) {
-    let mut ask = ask_for(RUNS[1], EMPTY);
-    ask.room = room;
-    ask.bad_write = bad_write;
-    ask.trace = Some(300);
-    let answer = answer_of_new(rt, &ask);
-    let told = answer.output.written();
-    let report = b"epoch 1\ntxn 1 client 1 committed\n";
-    let many = if bad_write == NEVER { room } else { 0 };
-    let so = answer.status == 7 && report.starts_with(told) && told.len() == many;
-    insist_at(rt, so, room as u64);
+fn expect_short<R: AllocGlobal + Threads + Wait + Sync + Abort>(rt: &R) {
+    for &(room, bad_write, told) in &SHORT {
+        let mut store = formatted(rt, &[]);
+        let mut ask = ask_for(RUNS[1], EMPTY);
+        ask.room = room;
+        ask.bad_write = bad_write;
+        ask.trace = Some(300);
+        let so = is_traced(rt, &mut store, &ask, 7, told, TRACE);
+        let_go(store);
+        insist_at(rt, so, room as u64);
+    }
 }
 
 #[test]
 fn no_fault_is_told_where_the_output_fails_too(rt: HostRuntime) {
-    for room in [0, 1, 10, 32, 33] {
-        expect_short(&rt, room, NEVER);
-    }
-    expect_short(&rt, WIDE, 0);
-}
-
-// Whether a sink is there that nothing was written to, and no write has failed.
-fn is_untouched(trace: &Option<MemSink>) -> bool {
-    match trace {
-        Some(trace) => trace.written().is_empty() && trace.faults() == 0,
-        None => false,
-    }
-}
-
-// A run that is handed a trace for which its words don't ask.
-fn expect_untraced<R: AllocGlobal + Threads + Wait + Sync + Abort>(rt: &R) {
-    let mut ask = ask_for("run S K", EMPTY);
-    ask.trace = Some(WIDE);
-    let answer = answer_of_new(rt, &ask);
-    insist(
-        rt,
-        answer.status == 0 && is_untouched(&answer.trace),
-        "run S K",
-    );
-}
-
-#[test]
-fn a_trace_without_the_option_is_left_as_it_is(rt: HostRuntime) {
-    expect_untraced(&rt);
+    expect_short(&rt);
 }

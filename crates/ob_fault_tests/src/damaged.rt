@@ -1,14 +1,10 @@
 //! Runs over a store of which cells are damaged: each cell, and two at once.
 
-ghost use Rattle.std.specs.Prelude.{◌≡◌};
-ghost use Rattle.ob_mem.specs.Memory.{disk_of_store};
-
-use crate::harms::{Harm, Told, expect_told, harm_store};
 use crate::playing::{
-    ONE_EPOCH, PUT, READS, RUN, STEPS, formatted, insist, insist_at, left_after, made_before,
+    ONE_EPOCH, PUT, READS, RUN, STEPS, expect, formatted, insist, insist_at, made_before,
 };
-use ob_mem::{Fail, MemStore};
-use ob_top_calls::{CELLS, END, let_go};
+use crate::rows::{parted, play};
+use ob_top_calls::{CELLS, flip, let_go};
 use std::process::Abort;
 use std::sync::Wait;
 use std::thread::Threads;
@@ -19,116 +15,77 @@ static FREE: [u64; 8] = [1, 2, 7, 8, 13, 14, 15, 16];
 
 static GATES: [u64; 2] = [4, 6];
 
-// What is told where a cell is changed, and how many writes and syncs come before.
-fn told_of(cell: u64) -> (Told, usize) {
+// The status where a cell is changed, and how many writes and syncs come before.
+fn status_of(cell: u64) -> (u8, usize) {
     if GATES.contains(&cell) {
-        return (Told::NotStore, 0);
+        return (3, 0);
     }
     for place in 0..READS.len() {
         if READS[place] == cell && !FREE.contains(&cell) {
-            return (Told::Damaged(cell), made_before(place).1);
+            return (4, made_before(place).1);
         }
     }
-    (Told::Done, STEPS)
+    (0, STEPS)
 }
 
-// A run of a copy of a store of which this cell is changed. Whether it is told of it.
-fn is_told<R: AllocGlobal + Threads + Wait + Sync + Abort>(
-    rt: &R,
-    made: &MemStore,
-    cell: u64,
-) -> bool {
-    let mut store = left_after(rt, made, END, None);
-    harm_store(rt, &mut store, Harm::Flip(cell));
-    let (told, steps) = told_of(cell);
-    expect_told(rt, &mut store, (RUN, PUT), told, ONE_EPOCH);
-    insist_at(rt, store.moments() == steps.saturating_add(1), cell);
+// A run of a store of which this cell is changed. Whether it is told of it.
+fn is_told<R: AllocGlobal + Threads + Wait + Sync + Abort>(rt: &R, cell: u64) -> bool {
+    let fault = format!(in rt.alloc(); "fault: damaged cell {cell} tag/").expect(rt, "memory");
+    let (status, steps) = status_of(cell);
+    let told = match status {
+        0 => ONE_EPOCH,
+        3 => "fault: not a store/",
+        _ => fault.as_str(),
+    };
+    let mut store = formatted(rt, &[]);
+    insist_at(rt, flip(&mut store, cell).is_ok(), cell);
+    expect(rt, &mut store, RUN, PUT, status, told);
+    insist_at(rt, store.moments() == steps.saturating_add(73), cell);
     let_go(store);
-    matches!(told, Told::Damaged(_))
+    status == 4
 }
 
 // How many cells are told where they are changed.
-fn count_told<R: AllocGlobal + Threads + Wait + Sync + Abort>(rt: &R, made: &MemStore) -> u64 {
+fn count_told<R: AllocGlobal + Threads + Wait + Sync + Abort>(rt: &R) -> u64 {
     let mut damaged: u64 = 0;
     for cell in 0..CELLS as u64 {
-        if is_told(rt, made, cell) {
-            damaged = damaged.wrapping_add(1);
-        }
+        damaged = damaged.wrapping_add(is_told(rt, cell) as u64);
     }
     damaged
 }
 
 #[test]
 fn each_damaged_cell_that_is_read_is_told(rt: HostRuntime) {
-    let made = formatted(&rt, &[]);
-    insist(&rt, count_told(&rt, &made) == 33, "cells");
-    let_go(made);
+    insist(&rt, count_told(&rt) == 33, "cells");
 }
 
-// Two cells of one phase, the first of which is damaged, and the second too or its read is refused:
-// which is told. Their phase is a batch, of which the order is 41, 46, 56, 42, 47, 57, or the
-// lifts, 49, 50, 64, 65.
-type Both = (u64, u64, bool, Told);
+// Two cells of one phase, of which the one is damaged, and the other too or its read is refused: which
+// is told. Their phase is a batch, of which the order is 41, 46, 56, 42, 47, 57, or the lifts, 49, 50,
+// 64, 65.
+const BOTH: &str = "\
+    new, flip 42, flip 56 -> 4 fault: damaged cell 56 tag/\n\
+    new, flip 57, flip 41 -> 4 fault: damaged cell 41 tag/\n\
+    new, flip 50, flip 64 -> 4 fault: damaged cell 50 tag/\n\
+    read 47, flip 46 -> 4 fault: damaged cell 46 tag/\n\
+    read 42, flip 56 -> 4 fault: damaged cell 56 tag/\n\
+    read 56, flip 42 -> 5 fault: store/\n\
+    read 41, flip 57 -> 5 fault: store/\n\
+    read 57, flip 41 -> 4 fault: damaged cell 41 tag/\n\
+    read 65, flip 49 -> 4 fault: damaged cell 49 tag/\n\
+    read 64, flip 65 -> 5 fault: store/";
 
-static BOTH: [Both; 10] = [
-    (42, 56, false, Told::Damaged(56)),
-    (57, 41, false, Told::Damaged(41)),
-    (50, 64, false, Told::Damaged(50)),
-    (46, 47, true, Told::Damaged(46)),
-    (56, 42, true, Told::Damaged(56)),
-    (42, 56, true, Told::Store),
-    (57, 41, true, Told::Store),
-    (41, 57, true, Told::Damaged(41)),
-    (49, 65, true, Told::Damaged(49)),
-    (65, 64, true, Told::Store),
-];
-
-static BY_LANES: [&str; 3] = [
-    "run S K --lanes 1",
-    "run S K --lanes 4",
-    "run S K --lanes 16",
-];
-
-// A store that is formatted, of which this cell's reads are refused while a batch or the lifts are
-// read, behind the format's 62 writes, a harm's and the run's.
-fn store_of<R: AllocGlobal + Threads + Wait + Sync + Abort>(
-    rt: &R,
-    cell: u64,
-    refused: bool,
-) -> MemStore
-    ensures { (disk_of_store result).out ≡ 0 }
-{
-    if !refused {
-        return formatted(rt, &[]);
+// Such runs, by these words.
+fn expect_first<R: AllocGlobal + Threads + Wait + Sync + Abort>(rt: &R, words: &str) {
+    for row in BOTH.lines() {
+        let (found, wanted) = parted(rt, row, " -> ");
+        let (_, faults) = play(rt, found, words, PUT, wanted);
+        insist(rt, (faults > 0) == found.starts_with("read"), row);
     }
-    let (writes, last) = (67, 69);
-    formatted(
-        rt,
-        &[
-            Fail::Read { cell, writes },
-            Fail::Read { cell, writes: last },
-        ],
-    )
-}
-
-// A run of a store of such two, by these words.
-fn expect_first<R: AllocGlobal + Threads + Wait + Sync + Abort>(rt: &R, words: &str, both: &Both) {
-    let (first, second, refused, told) = *both;
-    let mut store = store_of(rt, second, refused);
-    harm_store(rt, &mut store, Harm::Flip(first));
-    if !refused {
-        harm_store(rt, &mut store, Harm::Flip(second));
-    }
-    expect_told(rt, &mut store, (words, PUT), told, ONE_EPOCH);
-    insist(rt, (store.faults() > 0) == refused, words);
-    let_go(store);
 }
 
 #[test]
 fn of_two_that_fail_the_first_job_is_told(rt: HostRuntime) {
-    for both in &BOTH {
-        for &words in &BY_LANES {
-            expect_first(&rt, words, both);
-        }
-    }
+    expect_first(&rt, "run S K --lanes 1");
+    expect_first(&rt, "run S K --lanes 4");
+    expect_first(&rt, "run S K --lanes 16");
 }

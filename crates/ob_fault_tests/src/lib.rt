@@ -11,11 +11,11 @@ mod damaged;
 #[cfg(test)]
 mod forged;
 #[cfg(test)]
-mod harms;
-#[cfg(test)]
 mod playing;
 #[cfg(test)]
 mod refused;
+#[cfg(test)]
+mod rows;
 #[cfg(test)]
 mod statuses;
 #[cfg(test)]

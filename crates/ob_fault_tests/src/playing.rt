@@ -5,7 +5,7 @@ ghost use Rattle.ob_mem.specs.Memory.{disk_of_store};
 
 use ob_mem::{Fail, MemStore};
 use ob_top_calls as calls;
-use ob_top_calls::{CELLS, END, ask_for, let_go};
+use ob_top_calls::{CELLS, ask_for};
 use std::process::Abort;
 use std::sync::Wait;
 use std::thread::Threads;
@@ -84,16 +84,6 @@ pub fn formatted<R: AllocGlobal + Threads + Wait + Sync + Abort>(rt: &R, fails: 
     let words = "format S K 8 2 2 3 2 2 2 2 8";
     expect(rt, &mut store, words, "", 0, "store of 109 cells/");
     insist(rt, store.moments() == 72, words);
-    store
-}
-
-/// A store that was just formatted, with no call behind it.
-pub fn new_store<R: AllocGlobal + Threads + Wait + Sync + Abort>(rt: &R) -> MemStore
-    ensures { (disk_of_store result).out ≡ 0 }
-{
-    let formatted = formatted(rt, &[]);
-    let store = left_after(rt, &formatted, END, None);
-    let_go(formatted);
     store
 }
 

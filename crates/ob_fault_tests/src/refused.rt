@@ -1,6 +1,6 @@
 //! Runs of which a call fails: a read, a lane, the output, the input.
 
-use crate::crashes::expect_next;
+use crate::crashes::{expect_next, filling_of};
 use crate::playing::{
     ONE_EPOCH, PUT, READS, RUN, STEPS, expect, formatted, insist, insist_at, left_after,
     made_before,
@@ -11,14 +11,11 @@ use std::process::Abort;
 use std::sync::Wait;
 use std::thread::Threads;
 
-// The same run by one lane, and by four.
-static BY_LANES: [&str; 2] = ["run S K --lanes 1", "run S K --lanes 4"];
-
 // The epochs that a run behind what is left of an epoch that didn't end finds, whatever the cells
 // have that aren't sure.
 fn expect_not_ended<R: AllocGlobal + Threads + Wait + Sync + Abort>(rt: &R, store: &MemStore) {
-    for &filling in &[None, Some(0), Some(0xA5)] {
-        let mut left = left_after(rt, store, END, filling);
+    for n in 0..3 {
+        let mut left = left_after(rt, store, END, filling_of(n));
         expect_next(rt, &mut left, 1, false);
         let_go(left);
     }
@@ -35,13 +32,15 @@ fn is_told<R: AllocGlobal + Threads + Wait + Sync + Abort>(
     let mut store = formatted(rt, &[fail]);
     let answer = call(rt, &mut store, &ask_for(words, PUT)).expect(rt, "memory");
     let failed = store.faults() > 0;
-    if failed {
-        let so = answer.was(5, "fault: store/") && store.moments() == steps.saturating_add(72);
-        insist_at(rt, so, steps as u64);
-        expect_not_ended(rt, &store);
+    let (status, told, made) = if failed {
+        (5, "fault: store/", steps)
     } else {
-        let so = answer.was(0, ONE_EPOCH) && store.moments() == 72 + STEPS;
-        insist(rt, so, words);
+        (0, ONE_EPOCH, STEPS)
+    };
+    let so = answer.was(status, told) && store.moments() == made.saturating_add(72);
+    insist_at(rt, so, made as u64);
+    if failed {
+        expect_not_ended(rt, &store);
     }
     let_go(store);
     failed
@@ -58,20 +57,19 @@ fn expect_reads<R: AllocGlobal + Threads + Wait + Sync + Abort>(rt: &R, words: &
 
 #[test]
 fn each_failing_read_is_told(rt: HostRuntime) {
-    for &words in &BY_LANES {
-        expect_reads(&rt, words);
-    }
+    expect_reads(&rt, "run S K --lanes 1");
+    expect_reads(&rt, "run S K --lanes 4");
 }
 
 // The lanes of a run: five of the opening, whose reads come one by one, those of the first batch up
-// to this number, and those of the second one and of the lifts up to this.
+// to this number, and those of the second one and of the lifts up to this; none comes behind them.
 fn expect_lanes<R: AllocGlobal + Threads + Wait + Sync + Abort>(
     rt: &R,
     words: &str,
     first: u64,
     all: u64,
 ) {
-    for lane in 0..all {
+    for lane in 0..all.saturating_add(1) {
         let steps = if lane < 5 {
             0
         } else if lane < first {
@@ -79,47 +77,46 @@ fn expect_lanes<R: AllocGlobal + Threads + Wait + Sync + Abort>(
         } else {
             13
         };
-        insist_at(rt, is_told(rt, words, Fail::Lane(lane), steps), lane);
+        let failed = is_told(rt, words, Fail::Lane(lane), steps);
+        insist_at(rt, failed == (lane < all), lane);
     }
-    insist_at(rt, !is_told(rt, words, Fail::Lane(all), 0), all);
 }
 
 #[test]
 fn each_lane_that_cannot_be_had_is_told(rt: HostRuntime) {
-    expect_lanes(&rt, BY_LANES[0], 6, 8);
-    expect_lanes(&rt, BY_LANES[1], 9, 17);
+    expect_lanes(&rt, "run S K --lanes 1", 6, 8);
+    expect_lanes(&rt, "run S K --lanes 4", 9, 17);
 }
 
-// The read of the input that fails, the write of the output that does, and its room; the status,
-// what is written, how many writes and syncs are made, and whether the epoch has ended.
-type Ends = (u64, u64, usize, u8, &'static str, usize, bool);
+// The read of the input that fails, the write of the output that does, and its room; what is written,
+// how many writes and syncs are made, and whether the epoch has ended.
+type Ends = (u64, u64, usize, &'static str, usize, bool);
 
 static ENDS: [Ends; 3] = [
-    (NEVER, 0, WIDE, 7, "", STEPS, true),
-    (NEVER, NEVER, 3, 7, "epo", STEPS, true),
-    (0, NEVER, WIDE, 7, "fault: source/", 0, false),
+    (NEVER, 0, WIDE, "", STEPS, true),
+    (NEVER, NEVER, 3, "epo", STEPS, true),
+    (0, NEVER, WIDE, "fault: source/", 0, false),
 ];
 
-// A run that ends so.
-fn expect_end<R: AllocGlobal + Threads + Wait + Sync + Abort>(rt: &R, row: &Ends) {
-    let (bad_read, bad_write, room, status, told, steps, ended) = *row;
-    let mut store = formatted(rt, &[]);
-    let mut ask = ask_for(RUN, PUT);
-    ask.bad_read = bad_read;
-    ask.bad_write = bad_write;
-    ask.room = room;
-    let answer = call(rt, &mut store, &ask).expect(rt, "memory");
-    let so = answer.was(u64::from(status), told) && store.moments() == steps.saturating_add(72);
-    insist(rt, so, told);
-    expect_next(rt, &mut store, 1 + ended as u64, ended);
-    let_go(store);
+// Runs that end so.
+fn expect_ends<R: AllocGlobal + Threads + Wait + Sync + Abort>(rt: &R) {
+    for &(bad_read, bad_write, room, told, steps, ended) in &ENDS {
+        let mut store = formatted(rt, &[]);
+        let mut ask = ask_for(RUN, PUT);
+        ask.bad_read = bad_read;
+        ask.bad_write = bad_write;
+        ask.room = room;
+        let answer = call(rt, &mut store, &ask).expect(rt, "memory");
+        let so = answer.was(7, told) && store.moments() == steps.saturating_add(72);
+        insist(rt, so, told);
+        expect_next(rt, &mut store, 1 + ended as u64, ended);
+        let_go(store);
+    }
 }
 
 #[test]
 fn a_failing_output_or_input_is_told(rt: HostRuntime) {
-    for row in &ENDS {
-        expect_end(&rt, row);
-    }
+    expect_ends(&rt);
 }
 
 // A run with a script of so many line ends.

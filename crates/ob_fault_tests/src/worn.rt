@@ -1,37 +1,29 @@
 //! Runs over stores whose numbers are at their end.
 
-ghost use Rattle.std.specs.Prelude.{◌≡◌};
-ghost use Rattle.ob_mem.specs.Memory.{disk_of_store};
-
-use crate::harms::{Harm, harm_store};
-use crate::playing::{PUT, insist, new_store};
-use ob_mem::MemStore;
-use ob_top_calls::{Answer, WIDE, ask_for, call, has, let_go};
+use crate::cut::is_traced;
+use crate::playing::{PUT, insist};
+use crate::rows::stand;
+use ob_top_calls::{WIDE, ask_for, let_go};
 use std::process::Abort;
 use std::sync::Wait;
 use std::thread::Threads;
 
-// The last number of a register.
-const LAST: u64 = 4_611_686_018_427_387_903;
-
-// A run that is told of it, and what it shows.
+// A run over what stands before it, which is told of it, shows these lines, and makes so many writes and
+// syncs.
 fn expect_worn<R: AllocGlobal + Threads + Wait + Sync + Abort>(
     rt: &R,
-    store: &mut MemStore,
+    found: &str,
     shown: &str,
-)
-    requires { (disk_of_store store.old).out ≡ 0 }
-{
+    steps: usize,
+) {
+    let mut store = stand(rt, found);
+    let wanted = store.moments().saturating_add(steps);
     let mut ask = ask_for("run S K --trace T", PUT);
     ask.trace = Some(WIDE);
-    let Answer {
-        status,
-        output,
-        trace,
-    } = call(rt, store, &ask).expect(rt, "memory");
-    let trace = trace.expect(rt, "a trace");
-    let so = status == 8 && has(&output, "fault: worn at 4611686018427387904/");
-    insist(rt, so && has(&trace, shown), shown);
+    let told = "fault: worn at 4611686018427387904/";
+    let so = is_traced(rt, &mut store, &ask, 8, told, shown);
+    insist(rt, so && store.moments() == wanted, shown);
+    let_go(store);
 }
 
 // The generation's register has it: the store is read, and neither written nor synced.
@@ -41,36 +33,22 @@ const READ: &str = "\
 
 #[test]
 fn no_run_begins_behind_the_last_generation(rt: HostRuntime) {
-    let mut store = new_store(&rt);
-    harm_store(&rt, &mut store, Harm::Stamp(3, 0, LAST, 8));
-    expect_worn(&rt, &mut store, READ);
-    insist(&rt, store.moments() == 1, READ);
-    let_go(store);
+    expect_worn(&rt, "new, stamp 3 0 4611686018427387903 8", READ, 0);
 }
 
-// The epoch's register has it, and area 1 the checkpoint, which is that of a new store: the opening
-// and both batches are shown, and nothing of an end.
+// The epoch's register has it, and area 1 the checkpoint, which is that of a new store.
+const LAST: &str = "\
+    new, move 17 28, move 18 29, move 19 30, move 20 31, move 21 32, move 22 33, move 23 34, \
+    move 24 35, move 25 36, move 26 37, move 27 38, seal 28 0 4611686018427387903 8, \
+    stamp 7 0 4611686018427387903 8, open 8";
+
+// The opening and both batches are shown, and nothing of an end.
 const SHOWN: &str = "\
     O/R 0/R 1/R 2/R 3/R 4/R 5/R 6/R 7/R 8/R 28/R 29/R 30/R 31/R 32/R 33/R 34/R 35/R 36/R 37/R 38/\
     R 9/R 10/R 11/R 12/S/W 1/S/W 2/S/W 9/S/W 10/S/L 0/R 41/R 46/R 56/L 0/R 42/R 47/R 57/W 11/S/\
     W 12/S/L 0/R 43/R 39/R 40/R 48/R 44/R 45/R 58/R 54/R 55/L 0/";
 
-fn wear<R: Abort>(rt: &R, store: &mut MemStore)
-    requires { (disk_of_store store.old).out ≡ 0 }
-    ensures { (disk_of_store store.new).out ≡ 0 }
-{
-    for i in 0..11 {
-        harm_store(rt, store, Harm::Move(17 + i, 28 + i));
-    }
-    harm_store(rt, store, Harm::Seal(28, 0, LAST, 8));
-    harm_store(rt, store, Harm::Stamp(7, 0, LAST, 8));
-    harm_store(rt, store, Harm::Open(8));
-}
-
 #[test]
 fn no_epoch_ends_behind_the_last(rt: HostRuntime) {
-    let mut store = new_store(&rt);
-    wear(&rt, &mut store);
-    expect_worn(&rt, &mut store, SHOWN);
-    let_go(store);
+    expect_worn(&rt, LAST, SHOWN, 13);
 }

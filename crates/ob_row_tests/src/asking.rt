@@ -5,7 +5,7 @@ ghost use Rattle.ob_mem.specs.Memory.{disk_of_store};
 
 use ob_mem::{Fail, MemSink, MemStore};
 use ob_top_calls as calls;
-use ob_top_calls::{Answer, Ask, CELLS, ask_for, let_go};
+use ob_top_calls::{Answer, Ask, CELLS, ask_for};
 use std::process::Abort;
 use std::sync::Wait;
 use std::thread::Threads;
@@ -26,57 +26,32 @@ pub static RUNS: [&str; 4] = [
 /// The script of an epoch without a key.
 pub const EMPTY: &str = "client 1/begin/commit";
 
-/// A text in which a `/` stands for the end of a line, with these ends.
-pub fn lines_of<R: AllocGlobal + Abort>(rt: &R, text: &str) -> String {
-    text.replace(rt.alloc(), "/", "\n").expect(rt, "memory")
-}
-
-/// What a call told.
-#[derive(Drop)]
-pub struct Told {
-    pub status: u8,
-    pub output: String,
-    pub trace: String,
-}
-
 // What a sink got, as a text.
 fn text_of<R: AllocGlobal + Abort>(rt: &R, sink: &MemSink) -> String {
     let text = str::from_utf8(sink.written()).ok().expect(rt, "a text");
     String::from_str(rt.alloc(), text).expect(rt, "memory")
 }
 
-// What stands in an output and in a trace.
-fn told_of<R: AllocGlobal + Abort>(
-    rt: &R,
-    status: u8,
-    output: &MemSink,
-    trace: &Option<MemSink>,
-) -> Told {
-    let trace = trace.as_ref().expect(rt, "a trace");
-    Told {
-        status,
-        output: text_of(rt, output),
-        trace: text_of(rt, trace),
-    }
-}
-
-/// Makes a call over a store, with as much room for its trace as for its output.
+/// Makes a call over a store, with as much room for its trace as for its output, which has this status:
+/// what it told, and what it traced.
 pub fn call<R: AllocGlobal + Threads + Wait + Sync + Abort>(
     rt: &R,
     store: &mut MemStore,
     mut ask: Ask<'_>,
-) -> Told
+    status: u8,
+) -> (String, String)
     requires { (disk_of_store store.old).out ≡ 0 }
     ensures { (disk_of_store store.new).out ≡ 0 }
 {
     ask.trace = Some(ask.room);
     let Answer {
-        status,
+        status: ended,
         output,
         trace,
     } = calls::call(rt, store, &ask).expect(rt, "memory");
-    insist(rt, store.starved() == 0, ask.words);
-    told_of(rt, status, &output, &trace)
+    insist(rt, ended == status && store.starved() == 0, ask.words);
+    let trace = trace.expect(rt, "a trace");
+    (text_of(rt, &output), text_of(rt, &trace))
 }
 
 /// A new store of so many cells, of which these calls fail.
@@ -98,42 +73,45 @@ pub fn formatted<R: AllocGlobal + Threads + Wait + Sync + Abort>(
     let mut store = blank(rt, CELLS, fails);
     let mut ask = ask_for("format S K 8 2 2 3 2 2 2 2 8 --trace T", "");
     ask.tape = tape;
-    let told = call(rt, &mut store, ask);
-    let lines = told.trace.as_str().lines().count();
-    insist(rt, told.status == 0 && lines == 73, "format");
-    (store, told.trace)
+    let (_, trace) = call(rt, &mut store, ask, 0);
+    insist(rt, trace.as_str().lines().count() == 73, "format");
+    (store, trace)
 }
 
-/// What a crash at this moment leaves of a store of at most 109 cells: in those that aren't sure
-/// what they got last, or this byte throughout.
+// What the cells have that aren't sure, by its number: what they got last, or a byte throughout.
+fn filling_of(n: usize) -> Option<u8> {
+    match n {
+        0 => None,
+        1 => Some(0),
+        _ => Some(0xA5),
+    }
+}
+
+/// The filling of zeros.
+pub const ZEROS: usize = 1;
+
+/// What a crash at this moment leaves of a store of at most 109 cells, with this of three fillings in
+/// the cells that aren't sure: what they got last, zeros, or A5 hexadecimal.
 pub fn left_after<R: AllocGlobal + Abort>(
     rt: &R,
     store: &MemStore,
     moment: usize,
-    filling: Option<u8>,
+    filling: usize,
 ) -> MemStore
     ensures { (disk_of_store result).out ≡ 0 }
 {
-    calls::left_after(store, moment, filling).expect(rt, "memory")
+    calls::left_after(store, moment, filling_of(filling)).expect(rt, "memory")
 }
 
-/// What an audit of these lines says.
-pub fn audited<R: AllocGlobal + Threads + Wait + Sync + Abort>(rt: &R, trace: &str) -> String {
-    let mut store = blank(rt, 0, &[]);
-    let Told { status, output, .. } = call(rt, &mut store, ask_for("audit", trace));
-    let_go(store);
-    insist(rt, (status == 0) == (output.as_str() == "fits\n"), "audit");
-    output
-}
-
-/// Asserts that an audit of these lines says this.
+/// An audit of these lines says this.
 pub fn expect_said<R: AllocGlobal + Threads + Wait + Sync + Abort>(
     rt: &R,
     trace: &str,
     wanted: &str,
 ) {
-    let said = audited(rt, trace);
-    insist(rt, said.as_str() == wanted, wanted);
+    let answer = calls::call_alone(rt, &ask_for("audit", trace)).expect(rt, "memory");
+    let status = (wanted != "fits/") as u64;
+    insist(rt, answer.was(status, wanted), wanted);
 }
 
 /// The next number of a row, below this one.
@@ -146,10 +124,5 @@ pub fn drawn(row: &mut u64, below: usize) -> usize {
 
 /// How the next run goes, by the next number of a row.
 pub fn drawn_run(row: &mut u64) -> &'static str {
-    match drawn(row, 4) {
-        0 => RUNS[0],
-        1 => RUNS[1],
-        2 => RUNS[2],
-        _ => RUNS[3],
-    }
+    RUNS.get(drawn(row, 4)).copied().unwrap_or(RUNS[0])
 }

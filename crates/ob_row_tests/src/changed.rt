@@ -3,9 +3,9 @@
 ghost use Rattle.std.specs.Prelude.{◌≡◌};
 ghost use Rattle.ob_mem.specs.Memory.{disk_of_store};
 
-use crate::asking::{EMPTY, RUNS, Told, audited, blank, call, drawn, expect_said, insist};
+use crate::asking::{EMPTY, RUNS, blank, call, drawn, expect_said, insist};
 use ob_mem::MemStore;
-use ob_top_calls::{Ask, Txn, ask_for, let_go, push_client, push_txn};
+use ob_top_calls::{Answer, Txn, ask_for, call_alone, has, let_go, push_client, push_txn};
 use std::process::Abort;
 use std::sync::Wait;
 use std::thread::Threads;
@@ -18,75 +18,56 @@ const SLOTS: u64 = 283;
 // Room for what is told and traced.
 const WIDE: usize = 1_000_000;
 
-// A client's twenty transactions over 64 keys.
-fn push_txns<R: AllocGlobal + Abort>(rt: &R, script: &mut String, client: u64) {
-    for number in 0..20_u64 {
-        let read = client.wrapping_mul(7).wrapping_add(number.wrapping_mul(3));
+// The script of 16 clients, each with twenty transactions over 64 keys.
+fn clients<R: AllocGlobal + Abort>(rt: &R) -> String {
+    let mut script = String::new(rt.alloc());
+    for nth in 0..320_u64 {
+        let (client, number) = ((nth / 20).wrapping_add(1), nth % 20);
+        if number == 0 {
+            push_client(rt.alloc(), &mut script, client).expect(rt, "memory");
+        }
         let txn = Txn {
             client,
             number,
-            read: read % 64,
+            read: client.wrapping_mul(7).wrapping_add(number.wrapping_mul(3)) % 64,
             written: client.wrapping_mul(5).wrapping_add(number) % 64,
             reads_back: false,
         };
-        push_txn(rt.alloc(), script, txn).expect(rt, "memory");
-    }
-}
-
-// The script of 16 clients.
-fn clients<R: AllocGlobal + Abort>(rt: &R) -> String {
-    let mut script = String::new(rt.alloc());
-    for client in 1..17_u64 {
-        push_client(rt.alloc(), &mut script, client).expect(rt, "memory");
-        push_txns(rt, &mut script, client);
+        push_txn(rt.alloc(), &mut script, txn).expect(rt, "memory");
     }
     script
 }
 
-// Makes a call with wide room, which goes well, and puts its trace behind a text: its output.
+// Makes a call with wide room, which goes well, and puts its trace behind a text: of how many
+// transactions it tells.
 fn go_on<R: AllocGlobal + Threads + Wait + Sync + Abort>(
     rt: &R,
     store: &mut MemStore,
     text: &mut String,
-    mut ask: Ask<'_>,
-) -> String
+    words: &str,
+    script: &str,
+) -> usize
     requires { (disk_of_store store.old).out ≡ 0 }
     ensures { (disk_of_store store.new).out ≡ 0 }
 {
+    let mut ask = ask_for(words, script);
     ask.room = WIDE;
-    let Told {
-        status,
-        output,
-        trace,
-    } = call(rt, store, ask);
-    insist(rt, status == 0, ask.words);
+    let (output, trace) = call(rt, store, ask, 0);
     text.push_str(trace.as_str()).expect(rt, "memory");
-    output
+    output.as_str().matches("txn ").count()
 }
 
-// Puts the traces of a format, of a run of the clients and of one run behind it into a text: what the
-// format and the first run told.
-fn trace_all<R: AllocGlobal + Threads + Wait + Sync + Abort>(
-    rt: &R,
-    text: &mut String,
-) -> (String, String) {
-    let mut store = blank(rt, CELLS, &[]);
-    let script = clients(rt);
-    let format = ask_for("format S K 64 6 4 6 3 4 8 4 64 --trace T", "");
-    let made = go_on(rt, &mut store, text, format);
-    let ran = go_on(rt, &mut store, text, ask_for(RUNS[2], script.as_str()));
-    go_on(rt, &mut store, text, ask_for(RUNS[2], EMPTY));
-    let_go(store);
-    (made, ran)
-}
-
-// These traces.
+// The traces of a format, of a run of the clients and of one run behind it.
 fn traced<R: AllocGlobal + Threads + Wait + Sync + Abort>(rt: &R) -> String {
+    let mut store = blank(rt, CELLS, &[]);
     let mut text = String::new(rt.alloc());
-    let (made, ran) = trace_all(rt, &mut text);
-    let ended = ran.as_str().matches("txn ").count();
-    let so = made.as_str() == "store of 2823 cells\n" && ended == 320;
-    insist(rt, so, made.as_str());
+    let script = clients(rt);
+    let format = "format S K 64 6 4 6 3 4 8 4 64 --trace T";
+    go_on(rt, &mut store, &mut text, format, "");
+    let ended = go_on(rt, &mut store, &mut text, RUNS[2], script.as_str());
+    go_on(rt, &mut store, &mut text, RUNS[2], EMPTY);
+    let_go(store);
+    insist(rt, ended == 320, "transactions");
     text
 }
 
@@ -117,19 +98,25 @@ fn other_of<R: AllocGlobal + Abort>(rt: &R, lines: &[&str], line: &str, row: &mu
 // All lines, with this one in one place.
 fn with_line<R: AllocGlobal + Abort>(rt: &R, lines: &[&str], place: usize, by: &str) -> String {
     let mut text = String::new(rt.alloc());
-    let mut next: usize = 0;
-    for line in lines {
-        let line = if next == place { by } else { *line };
+    for next in 0..lines.len() {
+        let line = if next == place { by } else { lines[next] };
         text.push_str(line).expect(rt, "memory");
         text.push_str("\n").expect(rt, "memory");
-        next = next.saturating_add(1);
     }
     text
 }
 
-// The number of the line that breaks, or none where all fit.
-fn break_of<R: Abort>(rt: &R, said: &str) -> Option<usize> {
-    let rest = said.strip_prefix("breaks line ")?;
+// The number of the line at which an audit of these lines breaks, or none where all fit.
+fn break_of<R: AllocGlobal + Threads + Wait + Sync + Abort>(rt: &R, text: &str) -> Option<usize> {
+    let Answer { status, output, .. } = call_alone(rt, &ask_for("audit", text)).expect(
+        rt, "memory",
+    );
+    if status == 0 {
+        insist(rt, has(&output, "fits/"), "an audit");
+        return None;
+    }
+    let said = str::from_utf8(output.written()).ok().expect(rt, "a text");
+    let rest = said.strip_prefix("breaks line ").expect(rt, "a break");
     let (number, _) = rest.split_once(' ').expect(rt, "what is wanted");
     Some(number.parse::<usize>().ok().expect(rt, "a number"))
 }
@@ -144,15 +131,14 @@ fn fits_changed<R: AllocGlobal + Threads + Wait + Sync + Abort>(
     let line = lines.get(place).copied().unwrap_or("");
     let by = other_of(rt, lines, line, row);
     let text = with_line(rt, lines, place, by.as_str());
-    let said = audited(rt, text.as_str());
-    match break_of(rt, said.as_str()) {
+    let same = by.as_str() == line;
+    let holes = is_hole(line) && is_hole(by.as_str());
+    match break_of(rt, text.as_str()) {
         Some(number) => {
-            insist(rt, number > place, said.as_str());
+            insist(rt, number > place, line);
             false
         }
         None => {
-            let same = by.as_str() == line;
-            let holes = is_hole(line) && is_hole(by.as_str());
             insist(rt, same || holes, line);
             !same
         }
@@ -172,15 +158,15 @@ fn fitting<R: AllocGlobal + Threads + Wait + Sync + Abort>(rt: &R, text: &str) -
     fitting
 }
 
-// Whether the traces fit, and some changes leave them so, and fewer than a hundred.
-fn breaks_mostly<R: AllocGlobal + Threads + Wait + Sync + Abort>(rt: &R, text: &str) -> bool {
-    expect_said(rt, text, "fits\n");
-    let fitting = fitting(rt, text);
-    0 < fitting && fitting < 100
+// The traces fit, and some changes leave them so, and fewer than a hundred.
+fn expect_breaks<R: AllocGlobal + Threads + Wait + Sync + Abort>(rt: &R) {
+    let text = traced(rt);
+    expect_said(rt, text.as_str(), "fits/");
+    let fitting = fitting(rt, text.as_str());
+    insist(rt, 0 < fitting && fitting < 100, "lines");
 }
 
 #[test]
 fn a_line_that_is_changed_breaks_no_line_before_it(rt: HostRuntime) {
-    let text = traced(&rt);
-    insist(&rt, breaks_mostly(&rt, text.as_str()), "lines");
+    expect_breaks(&rt);
 }

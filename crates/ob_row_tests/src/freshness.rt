@@ -2,49 +2,41 @@
 //! a bucket's fill is read once, an epoch that is tried again shows the same leaves and reads, and a
 //! bucket is read where the events before have told that it lies.
 
-ghost use Rattle.std.specs.Prelude.{◌<◌};
-
 use std::process::Abort;
 
 // The buckets lie in 35 cells from the first of these on, and in as many from the second.
-const FIRST_HOME: u64 = 39;
+const FIRST_HOME: usize = 39;
 
-const SECOND_HOME: u64 = 74;
+const SECOND_HOME: usize = 74;
 
 const CELLS: usize = 109;
 
 // The lines of a format's trace.
 const FORMAT: usize = 73;
 
-/// A hole of the schedule, with what fills it.
-#[derive(Clone, Copy, PartialEq, Eq)]
-enum Hole {
-    Leaf(u64),
-    Slot(u64),
-}
+// A leaf is below this number.
+const LEAVES: u64 = 4;
 
-// A bucket that a cell belongs to, and whether that is in its second home.
-fn home_of(cell: u64) -> (usize, bool)
-    ensures { result.0 < 7 }
-{
-    let second = cell >= SECOND_HOME;
-    let first = if second { SECOND_HOME } else { FIRST_HOME };
-    ((cell.saturating_sub(first) / 5 % 7) as usize, second)
-}
+// What a cell of a bucket is: of the home where the bucket doesn't lie, without what an end has filled
+// it with or with it; or of that where it lies, and was read since it was filled or wasn't.
+const EMPTY: u8 = 0;
+
+const FILLED: u8 = 1;
+
+const UNREAD: u8 = 2;
+
+const READ: u8 = 3;
 
 /// What has been shown behind a format.
 #[derive(Drop)]
 struct Shown {
-    /// Whether a bucket lies in its second home.
-    second: [bool; 7],
-    /// Which slots were read since their bucket was filled.
-    read: [bool; CELLS],
-    /// The holes of the running epoch, as far as a run came that tried it.
-    holes: Vec<Hole>,
+    /// What each cell is.
+    cells: [u8; CELLS],
+    /// The holes of the running epoch, as far as a run came that tried it: leaves, and slots by their
+    /// cells.
+    holes: Vec<u64>,
     /// How many of them the present run has shown.
     place: usize,
-    /// Which buckets an end has filled in their other home.
-    filled: [bool; 7],
     /// Whether the second checkpoint is that of the epoch that stands.
     area: bool,
     /// Whether the epoch's register was being set, so that its gate's next write opens it.
@@ -56,32 +48,32 @@ struct Shown {
 }
 
 impl Shown {
+    // What an end has filled is where its bucket lies now, or isn't any more.
+    fn settle(&mut self, ended: bool) {
+        for cell in FIRST_HOME..CELLS {
+            if self.cells[cell] == FILLED {
+                self.cells[cell] = EMPTY;
+                if ended {
+                    let other = if cell < SECOND_HOME {
+                        cell + 35
+                    } else {
+                        cell - 35
+                    };
+                    self.cells[other] = EMPTY;
+                    self.cells[cell] = UNREAD;
+                }
+            }
+        }
+    }
+
     // A run begins.
     fn begin(&mut self) {
         self.place = 0;
         self.opens = false;
         self.newer = false;
         if !self.in_doubt {
-            self.filled = [false; 7];
+            self.settle(false);
         }
-    }
-
-    // The epoch has ended: each bucket that was filled has new slots, in its other home.
-    fn end(&mut self) {
-        for bucket in 0..7 {
-            if self.filled[bucket] {
-                self.second[bucket] = !self.second[bucket];
-            }
-        }
-        for cell in FIRST_HOME..CELLS as u64 {
-            let (bucket, second) = home_of(cell);
-            if self.filled[bucket] && second == self.second[bucket] {
-                self.read[cell as usize] = false;
-            }
-        }
-        self.area = !self.area;
-        self.holes.clear();
-        self.place = 0;
     }
 
     // What was in doubt is sure: the epoch has ended where the run goes on from there.
@@ -89,16 +81,18 @@ impl Shown {
         if !self.in_doubt {
             return;
         }
+        self.settle(self.newer);
         if self.newer {
-            self.end();
+            self.area = !self.area;
+            self.holes.clear();
+            self.place = 0;
         }
-        self.filled = [false; 7];
         self.in_doubt = false;
         self.opens = false;
     }
 
     // Whether the write may come.
-    fn write(&mut self, cell: u64) -> bool {
+    fn write(&mut self, cell: usize) -> bool {
         match cell {
             5 | 7 => self.opens = true,
             6 | 8 => {
@@ -107,44 +101,41 @@ impl Shown {
             }
             _ => {}
         }
-        if cell < FIRST_HOME {
-            return true;
+        if cell < FIRST_HOME || cell >= CELLS {
+            return cell < FIRST_HOME;
         }
-        let (bucket, second) = home_of(cell);
-        self.filled[bucket] = true;
-        second != self.second[bucket]
+        let away = self.cells[cell] < UNREAD;
+        self.cells[cell] = FILLED;
+        away
     }
 
-    // Whether the hole may be filled so, of which a slot's cell is below 109.
-    fn fill<R: AllocGlobal + Abort>(&mut self, rt: &R, hole: Hole) -> bool {
+    // Whether the hole may be filled so.
+    fn fill<R: AllocGlobal + Abort>(&mut self, rt: &R, hole: u64) -> bool {
         let place = self.place;
         self.place = place.saturating_add(1);
         if let Some(before) = self.holes.get(place) {
             return *before == hole;
         }
         self.holes.push(hole).expect(rt, "memory");
-        match hole {
-            Hole::Leaf(leaf) => leaf < 4,
-            Hole::Slot(cell) => {
-                assert!(*rt; cell < CELLS as u64);
-                let again = self.read[cell as usize];
-                self.read[cell as usize] = true;
-                !again
-            }
+        let cell = hole as usize;
+        if cell < FIRST_HOME || cell >= CELLS {
+            return hole < LEAVES;
         }
+        let unread = self.cells[cell] == UNREAD;
+        self.cells[cell] = READ;
+        unread
     }
 
     // Whether the read may come: the first cell of a checkpoint tells which epoch was found.
-    fn read<R: AllocGlobal + Abort>(&mut self, rt: &R, cell: u64) -> bool {
+    fn read<R: AllocGlobal + Abort>(&mut self, rt: &R, cell: usize) -> bool {
         if cell == 17 || cell == 28 {
             self.newer = (cell == 28) != self.area;
             return self.in_doubt || !self.newer;
         }
-        if cell < FIRST_HOME {
-            return true;
+        if cell < FIRST_HOME || cell >= CELLS {
+            return cell < FIRST_HOME;
         }
-        let (bucket, second) = home_of(cell);
-        second == self.second[bucket] && self.fill(rt, Hole::Slot(cell))
+        self.cells[cell] >= UNREAD && self.fill(rt, cell as u64)
     }
 
     // Whether the line may stand behind those before it.
@@ -154,9 +145,9 @@ impl Shown {
         match kind {
             "O" => self.begin(),
             "S" => self.sync(),
-            "W" => return self.write(number),
-            "L" => return self.fill(rt, Hole::Leaf(number)),
-            _ => return self.read(rt, number),
+            "W" => return self.write(number as usize),
+            "L" => return number < LEAVES && self.fill(rt, number),
+            _ => return self.read(rt, number as usize),
         }
         true
     }
@@ -165,12 +156,14 @@ impl Shown {
 /// Whether the runs that these lines tell of, behind a format, show each slot once and what was
 /// shown before them.
 pub fn is_fresh<R: AllocGlobal + Abort>(rt: &R, text: &str) -> bool {
+    let mut cells = [EMPTY; CELLS];
+    for cell in FIRST_HOME..SECOND_HOME {
+        cells[cell] = UNREAD;
+    }
     let mut shown = Shown {
-        second: [false; 7],
-        read: [false; CELLS],
+        cells,
         holes: Vec::new(rt.alloc()),
         place: 0,
-        filled: [false; 7],
         area: false,
         opens: false,
         in_doubt: false,
