@@ -1,5 +1,5 @@
-//! Worked cases through the top call: each with its words, script, output and status, its trace,
-//! and its store behind a crash; refusals in their order; audits of traces in a row; self-tests.
+//! Cases through the top call: its trace and what its store is asked for, line by line, also behind a
+//! crash; refusals in their order; audits of traces in a row; self-tests.
 #![tactic(auto)]
 
 #[cfg(test)]
@@ -9,18 +9,12 @@ mod audits;
 #[cfg(test)]
 mod calling;
 #[cfg(test)]
-mod forms;
+mod hasty;
 #[cfg(test)]
 mod lines;
-#[cfg(test)]
-mod lives;
 #[cfg(test)]
 mod refused;
 #[cfg(test)]
 mod rows;
 #[cfg(test)]
-mod summaries;
-#[cfg(test)]
 mod traced;
-#[cfg(test)]
-mod worked;
