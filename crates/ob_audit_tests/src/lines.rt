@@ -1,8 +1,10 @@
 //! Tests: lines are read.
 
+use crate::recipes::insist;
 use ob_audit::line_of;
 use ob_schedule::Line;
 use ob_store::Note;
+use std::process::Abort;
 
 // Texts, and the letter and the number of the line that each spells; a `?` where it spells none.
 static LINES: [(&str, u8, u64); 27] = [
@@ -50,12 +52,16 @@ fn spelled(line: Line) -> (u8, u64) {
     }
 }
 
+// Each text spells its line.
+fn are_read<R: Abort>(rt: &R) {
+    for i in 0..LINES.len() {
+        let (text, letter, number) = LINES[i];
+        let (first, second) = spelled(line_of(text.as_bytes()));
+        insist(rt, first == letter && second == number, text);
+    }
+}
+
 #[test]
 fn lines_are_read(rt: HostRuntime) {
-    for &(text, letter, number) in &LINES {
-        assert!(rt;
-            spelled(line_of(text.as_bytes())) == (letter, number),
-            "{text}"
-        );
-    }
+    are_read(&rt);
 }

@@ -1,6 +1,6 @@
 //! Tests: at places of traces that are drawn at random just those lines may stand that are wanted.
 
-use crate::recipes::trace_of;
+use crate::recipes::{insist, trace_of};
 use ob_audit::line_of;
 use ob_base::Params;
 use ob_follow::FollowPlain;
@@ -81,55 +81,58 @@ fn told(wanted: Wanted) -> (u8, u64, u64) {
     }
 }
 
+// What is wanted in the place of a line behind what is known; nothing where it may stand there.
+fn refusal<R: AllocGlobal + Abort>(rt: &R, known: &mut FollowPlain, line: &Line) -> Option<Wanted> {
+    known.next(rt.alloc(), line).expect(rt, "memory")
+}
+
 // What is known behind these lines, each of which may stand where it does.
 fn behind<R: AllocGlobal + Abort>(rt: &R, p: &Params, lines: &[Line]) -> FollowPlain {
     let mut known = FollowPlain::new(rt.alloc(), p).expect(rt, "memory");
-    for line in lines.iter().skip(1) {
-        let refused = known.next(rt.alloc(), line).expect(rt, "memory");
-        assert!(rt; refused.is_none());
+    for i in 1..lines.len() {
+        let refused = refusal(rt, &mut known, &lines[i]);
+        insist(rt, refused.is_none(), "a line of a trace that fits");
     }
     known
 }
 
-// A note that isn't wanted is refused for the same as before; one that is wanted may stand there.
-fn expect_told<R: AllocGlobal + Abort>(
+// Whether a line may stand behind these.
+fn may_stand<R: AllocGlobal + Abort>(rt: &R, p: &Params, lines: &[Line], line: &Line) -> bool {
+    let mut known = behind(rt, p, lines);
+    refusal(rt, &mut known, line).is_none()
+}
+
+// Whether a note that isn't wanted is refused for the same as before, and one that is wanted may
+// stand there.
+fn is_told<R: AllocGlobal + Abort>(
     rt: &R,
     p: &Params,
     lines: &[Line],
     known: &mut FollowPlain,
     wanted: Wanted,
     note: Note,
-) {
+) -> bool {
     let line = Line::Note(note);
     if is_named(wanted, lines, note) {
-        let refused = behind(rt, p, lines)
-            .next(rt.alloc(), &line)
-            .expect(rt, "memory");
-        assert!(rt; refused.is_none());
-    } else {
-        match known.next(rt.alloc(), &line).expect(rt, "memory") {
-            Some(again) => assert!(rt; told(again) == told(wanted)),
-            None => assert!(rt; false),
-        }
+        return may_stand(rt, p, lines, &line);
+    }
+    match refusal(rt, known, &line) {
+        Some(again) => told(again) == told(wanted),
+        None => false,
     }
 }
 
 // Of many notes just those may stand behind these lines that are wanted, and the next line is one
 // of them.
-fn expect_all_told<R: AllocGlobal + Abort>(
-    rt: &R,
-    p: &Params,
-    lines: &[Line],
-    next: Option<&Line>,
-) {
+fn expect_told<R: AllocGlobal + Abort>(rt: &R, p: &Params, lines: &[Line], next: Option<&Line>) {
     let mut known = behind(rt, p, lines);
-    let refused = known.next(rt.alloc(), &Line::Bad).expect(rt, "memory");
-    let wanted = refused.expect(rt, "a refused line");
+    let wanted = refusal(rt, &mut known, &Line::Bad).expect(rt, "a refused line");
     for i in 0..330 {
-        expect_told(rt, p, lines, &mut known, wanted, candidate(i));
+        let so = is_told(rt, p, lines, &mut known, wanted, candidate(i));
+        insist(rt, so, "just what is wanted");
     }
     if let Some(Line::Note(note)) = next {
-        assert!(rt; is_named(wanted, lines, *note));
+        insist(rt, is_named(wanted, lines, *note), "the next line");
     }
 }
 
@@ -147,18 +150,22 @@ fn lines_of(alloc: Global, recipe: &str) -> Result<Vec<Line>, AllocError> {
 fn expect_told_at<R: AllocGlobal + Abort>(rt: &R, p: &Params, number: u64) {
     let recipe = TRACES[(number % 7) as usize];
     let lines = lines_of(rt.alloc(), recipe).expect(rt, "memory");
-    assert!(rt; lines.len() > 10, "{recipe}");
+    assert!(rt; lines.len() > 10);
     let drawn = number.wrapping_mul(11400714819323198485) >> 32;
     let front = 1 + drawn as usize % lines.len();
-    expect_all_told(rt, p, &lines[..front], lines.get(front));
+    expect_told(rt, p, &lines[..front], lines.get(front));
+}
+
+// So it is behind each of 90 fronts.
+fn expect_all_told<R: AllocGlobal + Abort>(rt: &R) {
+    let p = Params::new(8, 2, 2, 3, 2, 2, 2, 2, 8);
+    let p = p.ok().expect(rt, "parameters in range");
+    for number in 0..90 {
+        expect_told_at(rt, &p, number);
+    }
 }
 
 #[test]
 fn just_the_wanted_lines_may_stand(rt: HostRuntime) {
-    let p = Params::new(8, 2, 2, 3, 2, 2, 2, 2, 8)
-        .ok()
-        .expect(&rt, "parameters in range");
-    for number in 0..90 {
-        expect_told_at(&rt, &p, number);
-    }
+    expect_all_told(&rt);
 }

@@ -1,6 +1,12 @@
 //! Traces for the tests, put together of the lines of a whole one.
 
 use std::alloc::{AllocError, Global};
+use std::process::Abort;
+
+/// Ends the test where this isn't so, and names the case.
+pub(crate) fn insist<R: Abort>(rt: &R, so: bool, case: &str) {
+    assert!(rt; so, "{case}");
+}
 
 // The trace of a format and of a run of one epoch, made elsewhere. The format has 73 lines, and the
 // opening of the run the lines from 74 to 99.

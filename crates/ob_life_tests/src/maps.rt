@@ -57,8 +57,8 @@ fn fetch_pads<R: Abort + Threads + Sync, V: Vault>(rt: &R, params: &Params, vaul
     insist(rt, fetched.is_ok(), "a batch");
 }
 
-// An epoch that puts one value.
-fn put<R: Abort + Threads + Sync, V: Vault>(
+// Ends an epoch by a put of a value.
+fn end<R: Abort + Threads + Sync, V: Vault>(
     rt: &R,
     params: &Params,
     vault: &mut V,
@@ -68,14 +68,9 @@ fn put<R: Abort + Threads + Sync, V: Vault>(
     requires params { V.params vault.old ≡ params.now }
     ensures params { V.params vault.new ≡ params.now }
 {
-    fetch_pads(rt, params, vault);
-    fetch_pads(rt, params, vault);
     assert!(rt; key < params.keys && !vault.spent() && vault.left() == 0);
-    insist(
-        rt,
-        vault.end(rt, &[Write { key, value }], &mut Blind).is_ok(),
-        "an end",
-    );
+    let ended = vault.end(rt, &[Write { key, value }], &mut Blind);
+    insist(rt, ended.is_ok(), "an end");
 }
 
 // The digest of no row.
@@ -108,6 +103,7 @@ fn reads_so<R: Abort + Threads + Sync, V: Vault>(
     wanted: &Read,
 ) -> bool
     requires params { V.params vault.old ≡ params.now }
+    ensures params { V.params vault.new ≡ params.now }
 {
     if vault.spent() {
         return false;
@@ -123,14 +119,7 @@ fn reads_so<R: Abort + Threads + Sync, V: Vault>(
     }
 }
 
-// One batch, an end, two batches, an end, and one batch.
-const TWO: &Read = &Read {
-    keys: 2,
-    map: OF_TWO,
-    epoch: 4,
-    left: 1,
-};
-
+// Of a new vault two batches, an end, and two batches.
 const NONE: &Read = &Read {
     keys: 0,
     map: OF_NONE,
@@ -138,24 +127,17 @@ const NONE: &Read = &Read {
     left: 0,
 };
 
-/// Whether the least and the greatest key of a new vault are read back, behind an epoch that puts
-/// each.
-pub fn reads_both_ends<R: Abort + Threads + Sync, V: Vault>(
-    rt: &R,
-    alloc: Global,
-    params: &Params,
-    vault: &mut V,
-) -> bool
-    requires params { V.params vault.old ≡ params.now }
-{
-    put(rt, params, vault, 7, long_value());
-    put(rt, params, vault, 0, Value::new(b"hi"));
-    fetch_pads(rt, params, vault);
-    reads_so(rt, alloc, params, vault, TWO)
-}
+// Behind three epochs and a batch: a batch, an end, two batches, an end, and a batch.
+const TWO: &Read = &Read {
+    keys: 2,
+    map: OF_TWO,
+    epoch: 5,
+    left: 1,
+};
 
-/// Whether a new vault's map is read as empty.
-pub fn reads_none<R: Abort + Threads + Sync, V: Vault>(
+/// Whether a new vault's map is read as empty, and behind an epoch that puts each the least and the
+/// greatest key are read back.
+pub fn reads_maps<R: Abort + Threads + Sync, V: Vault>(
     rt: &R,
     alloc: Global,
     params: &Params,
@@ -163,5 +145,11 @@ pub fn reads_none<R: Abort + Threads + Sync, V: Vault>(
 ) -> bool
     requires params { V.params vault.old ≡ params.now }
 {
-    reads_so(rt, alloc, params, vault, NONE)
+    let none = reads_so(rt, alloc, params, vault, NONE);
+    end(rt, params, vault, 7, long_value());
+    fetch_pads(rt, params, vault);
+    fetch_pads(rt, params, vault);
+    end(rt, params, vault, 0, Value::new(b"hi"));
+    fetch_pads(rt, params, vault);
+    none && reads_so(rt, alloc, params, vault, TWO)
 }

@@ -3,7 +3,7 @@
 ghost use Rattle.std.specs.Prelude.{◌≡◌};
 ghost use Rattle.ob_mem.specs.Memory.{disk_of_store};
 
-use crate::maps::{insist, let_go, reads_both_ends, reads_none, small_params, test_keys};
+use crate::maps::{insist, let_go, reads_maps, small_params, test_keys};
 use ob_flat::{FlatVault, format, prepare};
 use ob_mem::MemStore;
 use ob_store::Blind;
@@ -29,36 +29,24 @@ fn open<'a>(rt: &impl Abort, alloc: Global, store: &'a mut MemStore) -> FlatVaul
     FlatVault::over(store, opening.expect(rt, "an opening"))
 }
 
-// Whether both keys are read back, or no row where none was put.
-fn reads<R: Abort + Threads + Sync>(rt: &R, alloc: Global, store: &mut MemStore, puts: bool) -> bool
+// Whether its maps are read back.
+fn reads<R: Abort + Threads + Sync>(rt: &R, alloc: Global, store: &mut MemStore) -> bool
     requires { (disk_of_store store.old).out ≡ 0 }
 {
     let mut vault = open(rt, alloc, store);
     let params = vault.params();
-    if params != small_params() {
-        return false;
-    }
-    if puts {
-        reads_both_ends(rt, alloc, &params, &mut vault)
-    } else {
-        reads_none(rt, alloc, &params, &mut vault)
-    }
+    params == small_params() && reads_maps(rt, alloc, &params, &mut vault)
 }
 
 // The same of a new store.
-fn reads_new<R: Abort + Threads + Sync>(rt: &R, alloc: Global, puts: bool) -> bool {
+fn reads_new<R: Abort + Threads + Sync>(rt: &R, alloc: Global) -> bool {
     let mut store = new_store(rt, alloc);
-    let read = reads(rt, alloc, &mut store, puts);
+    let read = reads(rt, alloc, &mut store);
     let_go(store);
     read
 }
 
 #[test]
-fn keys_at_both_ends_are_read_back(rt: HostRuntime) {
-    insist(&rt, reads_new(&rt, rt.alloc(), true), "both keys");
-}
-
-#[test]
-fn an_empty_map_has_no_rows(rt: HostRuntime) {
-    insist(&rt, reads_new(&rt, rt.alloc(), false), "no row");
+fn maps_of_a_plain_vault_are_read_back(rt: HostRuntime) {
+    insist(&rt, reads_new(&rt, rt.alloc()), "both maps");
 }

@@ -3,7 +3,7 @@
 ghost use Rattle.std.specs.Prelude.{◌≡◌};
 ghost use Rattle.ob_mem.specs.Memory.{disk_of_store};
 
-use crate::maps::{insist, let_go, reads_both_ends, reads_none, small_params, test_keys};
+use crate::maps::{insist, let_go, reads_maps, small_params, test_keys};
 use ob_base::ring_cells;
 use ob_mem::MemStore;
 use ob_opening::{format, prepare};
@@ -53,8 +53,8 @@ fn open<'a, R: Abort + Threads + Sync, T: Tape>(
     }
 }
 
-// Whether both keys are read back, or no row where none was put.
-fn reads<R: Abort + Threads + Sync>(rt: &R, alloc: Global, store: &mut MemStore, puts: bool) -> bool
+// Whether its maps are read back.
+fn reads<R: Abort + Threads + Sync>(rt: &R, alloc: Global, store: &mut MemStore) -> bool
     requires { (disk_of_store store.old).out ≡ 0 }
 {
     let mut tape = ListTape::new(alloc, &[]).expect(rt, "memory");
@@ -62,27 +62,18 @@ fn reads<R: Abort + Threads + Sync>(rt: &R, alloc: Global, store: &mut MemStore,
         return false;
     };
     let params = vault.params();
-    if puts {
-        reads_both_ends(rt, alloc, &params, &mut vault)
-    } else {
-        reads_none(rt, alloc, &params, &mut vault)
-    }
+    reads_maps(rt, alloc, &params, &mut vault)
 }
 
 // The same of a new store.
-fn reads_new<R: Abort + Threads + Sync>(rt: &R, alloc: Global, puts: bool) -> bool {
+fn reads_new<R: Abort + Threads + Sync>(rt: &R, alloc: Global) -> bool {
     let mut store = new_store(rt, alloc);
-    let read = reads(rt, alloc, &mut store, puts);
+    let read = reads(rt, alloc, &mut store);
     let_go(store);
     read
 }
 
 #[test]
-fn keys_at_both_ends_are_read_back(rt: HostRuntime) {
-    insist(&rt, reads_new(&rt, rt.alloc(), true), "both keys");
-}
-
-#[test]
-fn an_empty_map_has_no_rows(rt: HostRuntime) {
-    insist(&rt, reads_new(&rt, rt.alloc(), false), "no row");
+fn maps_of_a_ring_vault_are_read_back(rt: HostRuntime) {
+    insist(&rt, reads_new(&rt, rt.alloc()), "both maps");
 }

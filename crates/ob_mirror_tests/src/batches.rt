@@ -2,8 +2,8 @@
 
 ghost use Rattle.std.specs.Prelude.{◌≡◌, ◌≤◌};
 
-use crate::spy::{Asked, let_go};
-use crate::steps::{insist, insist_at, new_spy};
+use crate::spy::let_go;
+use crate::steps::{NONE, insist, new_spy};
 use ob_base::{Check, Fault, Job};
 use ob_lanes::{Lanes, Readers, Slot, read_jobs};
 use ob_mem::Fail;
@@ -30,7 +30,7 @@ fn new_jobs(rt: &impl Abort, alloc: Global, many: usize) -> Vec<Job> {
 }
 
 // The bytes of the four cells.
-const BYTES: [u8; 4] = [1, 2, 3, 4];
+const BYTES: &[u8; 4] = b"1234";
 
 // Whether a cell was read well, as its byte throughout: so it is no sealed cell, and its tag is told.
 fn is_read(slot: &Slot, wanted: usize) -> bool {
@@ -74,56 +74,51 @@ pub fn reads_all<S: Lanes, R: Abort + Threads + Sync>(
         && are_read(readers.slots.as_slice())
 }
 
-// How many lanes read how many jobs, the cell that the first half fails to read, and how often it
-// comes: as the cells go round, it is each fourth.
-const BATCHES: &[(usize, usize, u64, usize)] = &[
-    (1, 4, 2, 1),
-    (4, 16, 0, 4),
-    (16, 16, 3, 4),
-    (16, 128, 1, 32),
-];
-
-// Whether the second was asked for this cell alone, so often.
-fn are_reads_of(heard: &[Asked], cell: u64, many: usize) -> bool {
+// Whether a store was asked for this read alone, so often.
+fn are_reads_of(heard: &[u8], cell: u64, many: usize) -> bool {
     for i in 0..heard.len() {
-        if heard[i] != Asked::Read(cell) {
+        let letter = if i % 2 == 0 {
+            b'R'
+        } else {
+            b'0' + (cell % 10) as u8
+        };
+        if heard[i] != letter {
             return false;
         }
     }
-    heard.len() == many
+    heard.len() / 2 == many
 }
 
-// Makes a mirror of two such stores, of which the first fails to read one cell, and has lanes read
-// all cells: whether the second is asked for that one alone.
-fn reads_rows<R: Abort + Threads + Sync>(
+// Makes a mirror of two such stores, of which the first fails to read one cell, and has so many lanes
+// read so many jobs: whether the second is asked for that cell alone, each fourth time.
+fn reads_of_either<R: Abort + Threads + Sync>(
     rt: &R,
     alloc: Global,
-    row: &(usize, usize, u64, usize),
+    lanes: usize,
+    many: usize,
+    cell: u64,
 ) -> bool
-    requires { (1 ≤ row.now.0) × (row.now.0 ≤ 16) }
+    requires { (1 ≤ lanes) × (lanes ≤ 16) }
 {
-    let (lanes, many, cell, reads) = *row;
-    let mut first = new_spy(rt, alloc, BYTES, &[Fail::Read { cell, writes: 4 }]);
-    let mut second = new_spy(rt, alloc, BYTES, &[]);
+    let mut first = new_spy(rt, alloc, BYTES, Fail::Read { cell, writes: 4 });
+    let mut second = new_spy(rt, alloc, BYTES, NONE);
     let mut mirror = Mirror::over(&mut first, &mut second, Places::new());
     let read = reads_all(rt, alloc, &mut mirror, lanes, many);
     let _lent = mirror.into_lent();
-    let so = read && are_reads_of(second.heard.as_slice(), cell, reads);
+    let so = read && are_reads_of(second.heard.as_slice(), cell, many / 4);
     let_go(first);
     let_go(second);
     so
 }
 
-// Each row goes so.
-fn read_by_either<R: Abort + Threads + Sync>(rt: &R, alloc: Global) {
-    for i in 0..BATCHES.len() {
-        let row = &BATCHES[i];
-        let some = 1 <= row.0 && row.0 <= 16;
-        insist_at(rt, some && reads_rows(rt, alloc, row), i);
-    }
+fn each_batch_is_read<R: Abort + Threads + Sync>(rt: &R, alloc: Global) -> bool {
+    reads_of_either(rt, alloc, 1, 4, 2)
+        && reads_of_either(rt, alloc, 4, 16, 0)
+        && reads_of_either(rt, alloc, 16, 16, 3)
+        && reads_of_either(rt, alloc, 16, 128, 1)
 }
 
 #[test]
 fn lanes_of_a_mirror_read_of_either_half(rt: HostRuntime) {
-    read_by_either(&rt, rt.alloc());
+    insist(&rt, each_batch_is_read(&rt, rt.alloc()), "four batches");
 }

@@ -3,9 +3,8 @@
 ghost use Rattle.std.specs.Prelude.{◌≡◌};
 ghost use Rattle.ob_mem.specs.Memory.{disk_of_store};
 
-use crate::spy::Asked::{self, Read, Sync, Write};
 use crate::spy::{Spy, let_go};
-use crate::steps::{Step, holds, insist_at, new_spy, play};
+use crate::steps::{NONE, holds, insist_at, new_spy, play};
 use ob_mem::Fail;
 use ob_mirror::{Mirror, Places, join};
 use ob_store::Blind;
@@ -13,120 +12,119 @@ use std::alloc::Global;
 use std::process::Abort;
 
 // Two stores of four cells: what fails in each (behind four writes and a sync), what is called of
-// the mirror behind a join, and what each was asked then, behind the join's own calls.
-struct Row {
-    fails_first: &'static [Fail],
-    fails_second: &'static [Fail],
-    steps: &'static [Step],
-    first: &'static [Asked],
-    second: &'static [Asked],
-}
+// the mirror behind a join; what each was asked then, behind the join's own calls; and what fills the
+// first cells of both.
+type Row = (
+    Fail,
+    Fail,
+    &'static str,
+    &'static str,
+    &'static str,
+    &'static str,
+);
 
-const ROWS: &[Row] = &[
+static ROWS: [Row; 13] = [
     // Nothing fails: the second has the first's writes and syncs, and no read.
-    Row {
-        fails_first: &[],
-        fails_second: &[],
-        steps: &[
-            Step::Read(1, 2),
-            Step::Write(1, 9),
-            Step::Synced,
-            Step::Read(1, 9),
-            Step::Write(3, 7),
-            Step::Read(0, 1),
-            Step::Synced,
-        ],
-        first: &[Read(1), Write(1), Sync, Read(1), Write(3), Read(0), Sync],
-        second: &[Write(1), Sync, Write(3), Sync],
-    },
-    // A write of the second fails, the first is asked no less.
-    Row {
-        fails_first: &[],
-        fails_second: &[Fail::Write(8)],
-        steps: &[
-            Step::NotWritten(1, 9),
-            Step::Synced,
-            Step::Read(1, 9),
-            Step::Write(1, 8),
-        ],
-        first: &[Write(1), Sync, Read(1), Write(1)],
-        second: &[Write(1), Sync, Write(1)],
-    },
-    // A write of the first fails, the second is asked no less.
-    Row {
-        fails_first: &[Fail::Write(4)],
-        fails_second: &[],
-        steps: &[Step::NotWritten(1, 9), Step::Synced],
-        first: &[Write(1), Sync],
-        second: &[Write(1), Sync],
-    },
-    // A sync of the second.
-    Row {
-        fails_first: &[],
-        fails_second: &[Fail::Sync(2)],
-        steps: &[
-            Step::Write(1, 9),
-            Step::NotSynced,
-            Step::Read(1, 9),
-            Step::Synced,
-        ],
-        first: &[Write(1), Sync, Read(1), Sync],
-        second: &[Write(1), Sync, Sync],
-    },
-    // A sync of the first.
-    Row {
-        fails_first: &[Fail::Sync(1)],
-        fails_second: &[],
-        steps: &[Step::Write(1, 9), Step::NotSynced, Step::Synced],
-        first: &[Write(1), Sync, Sync],
-        second: &[Write(1), Sync, Sync],
-    },
+    (
+        NONE,
+        NONE,
+        "R12 W19 S R19 W37 R01 S",
+        "R1W1S.R1W3R0S.",
+        "W1S.W3S.",
+        "1937",
+    ),
     // A read of the first fails: the second serves it, and just that one.
-    Row {
-        fails_first: &[Fail::Read { cell: 2, writes: 5 }],
-        fails_second: &[],
-        steps: &[
-            Step::Write(1, 9),
-            Step::Read(2, 3),
-            Step::Read(0, 1),
-            Step::Read(1, 9),
-        ],
-        first: &[Write(1), Read(2), Read(0), Read(1)],
-        second: &[Write(1), Read(2)],
-    },
+    (READ, NONE, "W19 R23 R01 R19", "W1R2R0R1", "W1R2", "19"),
     // It fails of both.
-    Row {
-        fails_first: &[Fail::Read { cell: 2, writes: 5 }],
-        fails_second: &[Fail::Read { cell: 2, writes: 9 }],
-        steps: &[Step::Write(1, 9), Step::NotRead(2), Step::Read(0, 1)],
-        first: &[Write(1), Read(2), Read(0)],
-        second: &[Write(1), Read(2)],
-    },
+    (
+        READ,
+        Fail::Read { cell: 2, writes: 9 },
+        "W19 r2 R01",
+        "W1R2R0",
+        "W1R2",
+        "19",
+    ),
     // A lane of the second is refused, and the first's given back: else no write could be made.
-    Row {
-        fails_first: &[],
-        fails_second: &[Fail::Lane(0)],
-        steps: &[Step::NoLane, Step::Write(0, 6), Step::Read(0, 6)],
-        first: &[Write(0), Read(0)],
-        second: &[Write(0)],
-    },
+    (NONE, Fail::Lane(0), "l W06 R06", "W0R0", "W0", "6234"),
     // A lane of the first.
-    Row {
-        fails_first: &[Fail::Lane(1)],
-        fails_second: &[],
-        steps: &[Step::NoLane, Step::Write(0, 6), Step::Read(0, 6)],
-        first: &[Write(0), Read(0)],
-        second: &[Write(0)],
-    },
+    (Fail::Lane(1), NONE, "l W06 R06", "W0R0", "W0", "6234"),
+    // A write or a sync of either is refused: the other is asked no less.
+    (
+        NONE,
+        Fail::Write(8),
+        "w19 S R19 W37 S",
+        "W1S.R1W3S.",
+        "W1S.W3S.",
+        "1937",
+    ),
+    (
+        NONE,
+        Fail::Sync(2),
+        "W19 s R19 W37 S",
+        "W1S.R1W3S.",
+        "W1S.W3S.",
+        "1937",
+    ),
+    (
+        NONE,
+        Fail::Write(9),
+        "W19 S w37 S",
+        "W1S.W3S.",
+        "W1S.W3S.",
+        "1937",
+    ),
+    (
+        NONE,
+        Fail::Sync(3),
+        "W19 S W37 s",
+        "W1S.W3S.",
+        "W1S.W3S.",
+        "1937",
+    ),
+    (
+        Fail::Write(4),
+        NONE,
+        "w19 S W37 S",
+        "W1S.W3S.",
+        "W1S.W3S.",
+        "1937",
+    ),
+    (
+        Fail::Sync(1),
+        NONE,
+        "W19 s W37 S",
+        "W1S.W3S.",
+        "W1S.W3S.",
+        "1937",
+    ),
+    (
+        Fail::Write(5),
+        NONE,
+        "W19 S w37 S",
+        "W1S.W3S.",
+        "W1S.W3S.",
+        "1937",
+    ),
+    (
+        Fail::Sync(2),
+        NONE,
+        "W19 S W37 s",
+        "W1S.W3S.",
+        "W1S.W3S.",
+        "1937",
+    ),
 ];
 
-// What a join asks of the first, and of the second.
-const JOIN_FIRST: [Asked; 4] = [Read(0), Read(1), Read(2), Read(3)];
+// The first half refuses cell 2 behind a write of the mirror.
+const READ: Fail = Fail::Read { cell: 2, writes: 5 };
 
-const JOIN_SECOND: [Asked; 5] = [Write(0), Write(1), Write(2), Write(3), Sync];
+// What a join asks of the first, and of the second.
+const JOIN_FIRST: &str = "R0R1R2R3";
+
+const JOIN_SECOND: &str = "W0W1W2W3S.";
 
 /// Makes these calls of a mirror.
-pub fn mirror_plays(rt: &impl Abort, first: &mut Spy, second: &mut Spy, steps: &[Step])
+pub fn mirror_plays(rt: &impl Abort, first: &mut Spy, second: &mut Spy, steps: &str)
     requires first { (disk_of_store first.old.store).out ≡ 0 }
     requires second { (disk_of_store second.old.store).out ≡ 0 }
 {
@@ -134,34 +132,39 @@ pub fn mirror_plays(rt: &impl Abort, first: &mut Spy, second: &mut Spy, steps: &
     play(rt, &mut mirror, steps);
 }
 
-// Whether this was asked, behind those.
-fn are_asked(heard: &[Asked], before: &[Asked], then: &[Asked]) -> bool {
+// Whether a store was asked this, behind that.
+fn was_asked(spy: &Spy, before: &str, then: &str) -> bool {
+    let heard = spy.heard.as_slice();
     heard.len().checked_sub(before.len()) == Some(then.len())
-        && heard.starts_with(before)
-        && heard.ends_with(then)
+        && heard.starts_with(before.as_bytes())
+        && heard.ends_with(then.as_bytes())
 }
 
-// Whether a join is made, or refused with the first as it was, and each half was asked so.
+// Whether a join is made, or refused, and each half was asked so, and is left so; of a refused join
+// the second isn't looked at.
 fn asks_so(rt: &impl Abort, first: &mut Spy, second: &mut Spy, row: &Row, is_joined: bool) -> bool
     requires first { (disk_of_store first.old.store).out ≡ 0 }
     requires second { (disk_of_store second.old.store).out ≡ 0 }
 {
+    let (_, _, steps, asked_first, asked_second, left) = *row;
     if join(first, second, 4, &mut Blind).is_err() {
         return !is_joined
-            && are_asked(first.heard.as_slice(), &[], row.first)
-            && are_asked(second.heard.as_slice(), &[], row.second)
-            && holds(first, &[(3, 4)]);
+            && was_asked(first, "", asked_first)
+            && was_asked(second, "", asked_second)
+            && holds(first, left);
     }
-    mirror_plays(rt, first, second, row.steps);
+    mirror_plays(rt, first, second, steps);
     is_joined
-        && are_asked(first.heard.as_slice(), &JOIN_FIRST, row.first)
-        && are_asked(second.heard.as_slice(), &JOIN_SECOND, row.second)
+        && was_asked(first, JOIN_FIRST, asked_first)
+        && was_asked(second, JOIN_SECOND, asked_second)
+        && holds(first, left)
+        && holds(second, left)
 }
 
 // The same of two stores that are made for it.
 fn row_goes_so(rt: &impl Abort, alloc: Global, row: &Row, is_joined: bool) -> bool {
-    let mut first = new_spy(rt, alloc, [1, 2, 3, 4], row.fails_first);
-    let mut second = new_spy(rt, alloc, [0, 9, 0, 9], row.fails_second);
+    let mut first = new_spy(rt, alloc, b"1234", row.0);
+    let mut second = new_spy(rt, alloc, b"0909", row.1);
     let so = asks_so(rt, &mut first, &mut second, row, is_joined);
     let_go(first);
     let_go(second);
@@ -177,42 +180,28 @@ fn rows_go_so(rt: &impl Abort, alloc: Global, rows: &[Row], is_joined: bool) {
 
 #[test]
 fn each_half_is_asked_in_its_turn(rt: HostRuntime) {
-    rows_go_so(&rt, rt.alloc(), ROWS, true);
+    rows_go_so(&rt, rt.alloc(), &ROWS, true);
 }
 
 // What fails in each half, and what a refused join has asked of each.
-const REFUSED: &[Row] = &[
-    Row {
-        fails_first: &[Fail::Lane(0)],
-        fails_second: &[],
-        steps: &[],
-        first: &[],
-        second: &[],
-    },
-    Row {
-        fails_first: &[Fail::Read { cell: 2, writes: 4 }],
-        fails_second: &[],
-        steps: &[],
-        first: &[Read(0), Read(1), Read(2)],
-        second: &[Write(0), Write(1)],
-    },
-    Row {
-        fails_first: &[],
-        fails_second: &[Fail::Write(6)],
-        steps: &[],
-        first: &[Read(0), Read(1), Read(2)],
-        second: &[Write(0), Write(1), Write(2)],
-    },
-    Row {
-        fails_first: &[],
-        fails_second: &[Fail::Sync(1)],
-        steps: &[],
-        first: &[Read(0), Read(1), Read(2), Read(3)],
-        second: &[Write(0), Write(1), Write(2), Write(3), Sync],
-    },
+static REFUSED: [Row; 7] = [
+    (Fail::Lane(0), NONE, "", "", "", "1234"),
+    (
+        Fail::Read { cell: 2, writes: 4 },
+        NONE,
+        "",
+        "R0R1R2",
+        "W0W1",
+        "12",
+    ),
+    (NONE, Fail::Write(4), "", "R0", "W0", "1234"),
+    (NONE, Fail::Write(5), "", "R0R1", "W0W1", "1234"),
+    (NONE, Fail::Write(6), "", "R0R1R2", "W0W1W2", "1234"),
+    (NONE, Fail::Write(7), "", "R0R1R2R3", "W0W1W2W3", "1234"),
+    (NONE, Fail::Sync(1), "", JOIN_FIRST, JOIN_SECOND, "1234"),
 ];
 
 #[test]
 fn a_refused_join_only_reads_the_first(rt: HostRuntime) {
-    rows_go_so(&rt, rt.alloc(), REFUSED, false);
+    rows_go_so(&rt, rt.alloc(), &REFUSED, false);
 }

@@ -2,20 +2,14 @@
 #![tactic(auto)]
 
 #[cfg(test)]
+mod bare;
+#[cfg(test)]
 mod batches;
 #[cfg(test)]
 mod calls;
 #[cfg(test)]
 mod crashes;
 #[cfg(test)]
-mod mute;
-#[cfg(test)]
-mod refusals;
-#[cfg(test)]
-mod silent;
-#[cfg(test)]
 mod spy;
 #[cfg(test)]
 mod steps;
-#[cfg(test)]
-mod telling;

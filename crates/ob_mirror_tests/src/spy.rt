@@ -9,32 +9,16 @@ use ob_base::Failed;
 use ob_claims::{Claims, Round};
 use ob_lanes::{Hand, Lanes, SealedJobs, read_hands};
 use ob_mem::{MemLane, MemStore};
-use ob_store::Store;
+use ob_store::{Event, Store};
 use std::alloc::Global;
 use std::thread::Threads;
 
-/// What a store was asked for.
-#[derive(Clone, Copy, PartialEq, Eq)]
-pub enum Asked {
-    Read(u64),
-    Write(u64),
-    Sync,
-}
-
-/// A store in memory, and the calls that it was asked for, the reads of a lane where it was given
-/// back. It tells what the store in it tells.
+/// A store in memory of ten cells at most, and the calls that it was asked for, a lane's reads where
+/// it was given back: `R1` and `W1` of cell 1, and `S.`.
 #[derive(Drop)]
 pub struct Spy {
-    alloc: Global,
     pub store: MemStore,
-    pub heard: Vec<Asked>,
-}
-
-/// A lane, and the cells that it was to read.
-#[derive(Drop)]
-pub struct SpyLane {
-    lane: MemLane,
-    cells: Vec<u64>,
+    pub heard: Vec<u8>,
 }
 
 impl Spy {
@@ -43,7 +27,6 @@ impl Spy {
         ensures { result.store ≡ store }
     {
         Spy {
-            alloc,
             store,
             heard: Vec::new(alloc),
         }
@@ -53,21 +36,31 @@ impl Spy {
 /// Lets one go. What a drop takes is proved in each function that has one, so tests call this.
 pub fn let_go(_spy: Spy) {}
 
-// The reads of a lane.
-fn note_reads(heard: &mut Vec<Asked>, cells: &[u64]) {
-    for i in 0..cells.len() {
-        let _kept: bool = heard.push(Asked::Read(cells[i])).is_ok();
+// The digit of a cell.
+fn digit(cell: u64) -> u8 {
+    b'0' + (cell % 10) as u8
+}
+
+// Puts calls behind those that were heard.
+fn note(heard: &mut Vec<u8>, events: &[Event]) {
+    for i in 0..events.len() {
+        let call = match events[i] {
+            Event::Read(cell) => [b'R', digit(cell)],
+            Event::Write(cell) => [b'W', digit(cell)],
+            Event::Sync => [b'S', b'.'],
+        };
+        let _kept: bool = heard.extend_from_slice(&call).is_ok();
     }
 }
 
 impl Store for Spy {
-    type Lane = SpyLane;
+    type Lane = MemLane;
 
     ghost disk = { λ m. disk_of_store m.store };
 
-    ghost lane_faults = { λ lane. lane.lane.faults };
+    ghost lane_faults = { λ lane. lane.faults };
 
-    ghost lane_seen = { λ lane. told lane.lane.starved lane.lane.events.items };
+    ghost lane_seen = { λ lane. told lane.starved lane.events.items };
 
     ghost counts_now = { λ m t c le left. counts_now m.store.past t c le left };
 
@@ -75,32 +68,26 @@ impl Store for Spy {
 
     ghost includes_reads = { λ m tells leaves. includes_reads m.store.past };
 
-    fn lane(&mut self) -> Result<SpyLane, Failed> {
-        let lane = self.store.lane()?;
-        Ok(SpyLane {
-            lane,
-            cells: Vec::new(self.alloc),
-        })
+    fn lane(&mut self) -> Result<MemLane, Failed> {
+        self.store.lane()
     }
 
-    fn read(&self, lane: &mut SpyLane, cell: u64, out: &mut [u8; 128]) -> Result<(), Failed> {
-        let _kept: bool = lane.cells.push(cell).is_ok();
-        self.store.read(&mut lane.lane, cell, out)
+    fn read(&self, lane: &mut MemLane, cell: u64, out: &mut [u8; 128]) -> Result<(), Failed> {
+        self.store.read(lane, cell, out)
     }
 
-    fn absorb(&mut self, lane: SpyLane) {
-        let SpyLane { lane, cells } = lane;
-        note_reads(&mut self.heard, cells.as_slice());
+    fn absorb(&mut self, lane: MemLane) {
+        note(&mut self.heard, &lane.events);
         self.store.absorb(lane);
     }
 
     fn write(&mut self, cell: u64, bytes: &[u8; 128]) -> Result<(), Failed> {
-        let _kept: bool = self.heard.push(Asked::Write(cell)).is_ok();
+        note(&mut self.heard, &[Event::Write(cell)]);
         self.store.write(cell, bytes)
     }
 
     fn sync(&mut self) -> Result<(), Failed> {
-        let _kept: bool = self.heard.push(Asked::Sync).is_ok();
+        note(&mut self.heard, &[Event::Sync]);
         self.store.sync()
     }
 }
@@ -109,7 +96,7 @@ impl Lanes for Spy {
     fn read_parts<R: Threads + Sync>(
         &self,
         rt: &R,
-        hands: &mut [Option<Hand<SpyLane>>],
+        hands: &mut [Option<Hand<MemLane>>],
         claims: &Claims,
         round: &Round,
         asked: &SealedJobs,

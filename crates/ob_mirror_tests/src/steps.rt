@@ -1,4 +1,4 @@
-//! Calls on a store as rows: what is called, and what it has to answer.
+//! Calls on a store as words: what is called, and what it has to answer.
 
 ghost use Rattle.std.specs.Prelude.{◌≡◌, ◌≤◌};
 ghost use Rattle.ob_mem.specs.Memory.{disk_of_store};
@@ -19,49 +19,29 @@ pub fn insist_at<R: Abort>(rt: &R, so: bool, case: usize) {
     assert!(rt; so, "{case}");
 }
 
-/// A call on a store, and its answer. A read has a lane of its own.
-#[derive(Clone, Copy)]
-pub enum Step {
-    /// Fills a cell with a byte.
-    Write(u64, u8),
-    NotWritten(u64, u8),
-    /// Makes sure of what was written.
-    Synced,
-    NotSynced,
-    /// Reads a cell: all of it is this byte.
-    Read(u64, u8),
-    NotRead(u64),
-    /// No lane is made.
-    NoLane,
-}
-
-// Whether a lane reads a cell as this byte throughout; of none, whether it fails to read it.
-fn lane_reads<S: Store>(store: &S, lane: &mut S::Lane, cell: u64, wanted: Option<u8>) -> bool {
-    let mut bytes = [0x99; 128];
-    let read = store.read(lane, cell, &mut bytes);
-    match wanted {
-        Some(wanted) => read.is_ok() && bytes == [wanted; 128],
-        None => read.is_err(),
-    }
-}
-
-// The same with a lane of its own.
-fn reads_as<S: Store>(store: &mut S, cell: u64, wanted: Option<u8>) -> bool
+// Reads a cell by a lane of its own: the byte that fills it; none where the store refused, or where
+// no byte does.
+fn read_byte<S: Store>(store: &mut S, cell: u64) -> Option<u8>
     ensures { (S.disk store.new).out ≤ (S.disk store.old).out }
 {
     let Ok(mut lane) = store.lane() else {
-        return false;
+        return None;
     };
-    let is_so = lane_reads(store, &mut lane, cell, wanted);
+    let mut bytes = [0x99; 128];
+    let read = store.read(&mut lane, cell, &mut bytes).is_ok();
     store.absorb(lane);
-    is_so
+    if read && bytes == [bytes[0]; 128] {
+        Some(bytes[0])
+    } else {
+        None
+    }
 }
 
-/// Whether these cells are so filled.
-pub fn holds<S: Store>(store: &mut S, cells: &[(u64, u8)]) -> bool {
-    for i in 0..cells.len() {
-        let (cell, byte) = cells[i];
-        if !reads_as(store, cell, Some(byte)) {
+/// Whether the cells from 0 on are filled with these bytes.
+pub fn holds<S: Store>(store: &mut S, bytes: &str) -> bool {
+    let bytes = bytes.as_bytes();
+    for cell in 0..bytes.len() {
+        if read_byte(store, cell as u64) != Some(bytes[cell]) {
             return false;
         }
     }
@@ -80,36 +60,53 @@ fn has_no_lane<S: Store>(store: &mut S) -> bool
 }
 
 // Whether a call answers as it has to.
-fn answers_so<S: Store>(store: &mut S, step: Step) -> bool
+fn answers_so<S: Store>(store: &mut S, call: u8, cell: u64, byte: u8) -> bool
     requires { (S.disk store.old).out ≡ 0 }
     ensures { (S.disk store.new).out ≡ 0 }
 {
-    match step {
-        Step::Write(cell, byte) => store.write(cell, &[byte; 128]).is_ok(),
-        Step::NotWritten(cell, byte) => store.write(cell, &[byte; 128]).is_err(),
-        Step::Synced => store.sync().is_ok(),
-        Step::NotSynced => store.sync().is_err(),
-        Step::Read(cell, byte) => reads_as(store, cell, Some(byte)),
-        Step::NotRead(cell) => reads_as(store, cell, None),
-        Step::NoLane => has_no_lane(store),
+    match call {
+        b'W' => store.write(cell, &[byte; 128]).is_ok(),
+        b'w' => store.write(cell, &[byte; 128]).is_err(),
+        b'S' => store.sync().is_ok(),
+        b's' => store.sync().is_err(),
+        b'R' => read_byte(store, cell) == Some(byte),
+        b'r' => read_byte(store, cell).is_none(),
+        _ => has_no_lane(store),
     }
 }
 
-/// Makes calls one behind the other, each of which has to answer so.
-pub fn play<S: Store>(rt: &impl Abort, store: &mut S, steps: &[Step])
+// The letter at a place of a word.
+fn letter(word: &str, place: usize) -> u8 {
+    let letters = word.as_bytes();
+    if place < letters.len() {
+        letters[place]
+    } else {
+        b'-'
+    }
+}
+
+/// Makes calls one behind the other, each of which has to answer so: `W19` fills cell 1 with the byte
+/// `9`, `S` syncs, `R19` reads cell 1 as filled with `9`; `w19`, `s` and `r1` are refused, and at `l`
+/// no lane is made.
+pub fn play<S: Store>(rt: &impl Abort, store: &mut S, steps: &str)
     requires { (S.disk store.old).out ≡ 0 }
     ensures { (S.disk store.new).out ≡ 0 }
 {
-    for i in 0..steps.len() {
-        insist_at(rt, answers_so(store, steps[i]), i);
+    for word in steps.split(' ') {
+        let cell = u64::from(letter(word, 1).saturating_sub(b'0'));
+        let so = answers_so(store, letter(word, 0), cell, letter(word, 2));
+        insist(rt, so, word);
     }
 }
 
-/// Four cells of these bytes, where these calls fail: four writes and a sync stand before them.
-pub fn new_spy(rt: &impl Abort, alloc: Global, bytes: [u8; 4], fails: &[Fail]) -> Spy
+/// No call of a test comes to this number.
+pub const NONE: Fail = Fail::Lane(99);
+
+/// Four cells of these bytes, where this call fails: four writes and a sync stand before it.
+pub fn new_spy(rt: &impl Abort, alloc: Global, bytes: &[u8; 4], fail: Fail) -> Spy
     ensures { (disk_of_store result.store).out ≡ 0 }
 {
-    let fails = fails.to_vec(alloc).expect(rt, "memory");
+    let fails = [fail].to_vec(alloc).expect(rt, "memory");
     let mut store = MemStore::new(alloc, 4, fails).expect(rt, "memory");
     for i in 0..4 {
         let written = store.write(i as u64, &[bytes[i]; 128]).is_ok();

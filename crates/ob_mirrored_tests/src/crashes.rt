@@ -1,16 +1,16 @@
 //! Crashes of both halves: each stands alone, with each epoch that was reported.
 
-use crate::playing::{Halves, MIRRORED, expect_next, insist, let_both_go, ran};
-use ob_top_calls::{Noting, ask_for, let_noting_go, noted_after};
+use crate::playing::{Call, Halves, NONE, TWO_ALONE, expect_next, insist, let_both_go, ran};
+use ob_top_calls::{Noting, let_noting_go, noted_after};
 use std::process::Abort;
 use std::sync::Wait;
 use std::thread::Threads;
 
-/// A run of two epochs, and what is told of it.
-pub const TWO: &str = "client 1/begin/put 5 hi/commit/begin/get 5/commit";
-
-pub const TOLD: &str = "\
-    epoch 1/txn 1 client 1 committed/put 5 hi/epoch 2/txn 1 client 1 committed/get 5 = hi/";
+// A run of two epochs.
+const TWO: Call = Call {
+    words: "run S K --mirror F",
+    ..TWO_ALONE
+};
 
 // How many writes and syncs stand before the run in the first half, and in the second with the
 // join's.
@@ -47,7 +47,8 @@ fn stands_alone<R: AllocGlobal + Threads + Wait + Sync + Abort>(
 }
 
 // Both halves of such a run, behind each moment of it.
-fn expect_each<R: AllocGlobal + Threads + Wait + Sync + Abort>(rt: &R, halves: &Halves) {
+fn expect_each<R: AllocGlobal + Threads + Wait + Sync + Abort>(rt: &R) {
+    let halves = ran(rt, NONE, NONE, &TWO);
     let all = halves.first.store.moments().saturating_sub(FIRST_BEGAN);
     let second = halves.second.store.moments();
     insist(rt, second == all.saturating_add(SECOND_BEGAN), "as many");
@@ -55,11 +56,10 @@ fn expect_each<R: AllocGlobal + Threads + Wait + Sync + Abort>(rt: &R, halves: &
         stands_alone(rt, &halves.first, FIRST_BEGAN, moment, all);
         stands_alone(rt, &halves.second, SECOND_BEGAN, moment, all);
     }
+    let_both_go(halves);
 }
 
 #[test]
 fn each_half_alone_finds_what_was_reported(rt: HostRuntime) {
-    let halves = ran(&rt, &[], &[], &ask_for(MIRRORED, TWO), 0, TOLD);
-    expect_each(&rt, &halves);
-    let_both_go(halves);
+    expect_each(&rt);
 }

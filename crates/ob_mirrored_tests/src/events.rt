@@ -1,93 +1,159 @@
-//! What each half is asked in a run over a mirror.
-
-ghost use Rattle.std.specs.Prelude.{◌≡◌};
-ghost use Rattle.ob_mem.specs.Memory.{disk_of_store};
+//! What each half is asked in a run over a mirror, and what its trace tells.
 
 use crate::playing::{
-    MIRRORED, asked, expect, expect_alone, formatted, insist, let_both_go, lines_with, ran,
+    Call, Halves, NONE, asked, blank, expect_alone, formatted, insist, let_both_go, run_over,
+    text_of,
 };
-use ob_top_calls::{CELLS, Noting, ask_for, let_noting_go};
+use ob_mem::MemSink;
+use ob_top_calls::{CELLS, NEVER, let_noting_go, sink_of};
 use std::process::Abort;
 use std::sync::Wait;
 use std::thread::Threads;
 
-// The lines of the same call of each cell.
-fn of_each_cell<R: AllocGlobal + Abort>(rt: &R, call: &str) -> String {
-    let mut text = String::new(rt.alloc());
+// What follows the lines of the same call of each cell.
+fn behind_cells<'a>(text: &'a str, mark: &str) -> Option<&'a str> {
+    let mut rest = text;
     for cell in 0..CELLS {
-        let line = format!(in rt.alloc(); "{call} {cell}\n").expect(rt, "memory");
-        text.push_str(line.as_str()).expect(rt, "memory");
+        let Some((line, behind)) = rest.split_once('\n') else {
+            return None;
+        };
+        let number = line.strip_prefix(mark).unwrap_or("");
+        if number.parse::<usize>().unwrap_or(CELLS) != cell {
+            return None;
+        }
+        rest = behind;
     }
-    text
+    Some(rest)
 }
 
-// What is read of the first half behind its head: the epoch's register, and each cell.
-fn join_reads<R: AllocGlobal + Abort>(rt: &R) -> String {
-    let reads = of_each_cell(rt, "R");
-    joined(rt, "R 5\nR 6\nR 7\nR 8\n", reads.as_str(), "")
+// Whether one text has the other one's lines, but for those of it that begin so.
+fn has_lines(text: &str, skipped: &str, wanted: &str) -> bool {
+    let mut others = wanted.lines();
+    for line in text.lines() {
+        if !line.starts_with(skipped) && others.next().unwrap_or("") != line {
+            return false;
+        }
+    }
+    others.next().is_none()
 }
 
-// One text behind another.
-fn joined<R: AllocGlobal + Abort>(rt: &R, one: &str, two: &str, three: &str) -> String {
-    format!(in rt.alloc(); "{one}{two}{three}").expect(rt, "memory")
-}
-
-const EMPTY: &str = "client 1/begin/commit";
-
-const TOLD: &str = "epoch 1/txn 1 client 1 committed/";
-
-// What a run over one store alone asks of it.
-fn asked_alone<R: AllocGlobal + Threads + Wait + Sync + Abort>(rt: &R) -> String {
-    let mut alone = formatted(rt, &[]);
-    expect_alone(rt, &mut alone, &ask_for("run S K --lanes 1", EMPTY), TOLD);
-    let run = joined(rt, asked(rt, &alone), "", "");
-    let_noting_go(alone);
-    run
-}
-
-// The first half is asked the same, and behind the head what joins both.
-fn expect_first<R: AllocGlobal + Abort>(rt: &R, first: &Noting, run: &str) {
-    let reads = join_reads(rt);
-    let rest = run.strip_prefix("R 0\n").expect(rt, "the head's read");
-    let wanted = joined(rt, "R 0\n", reads.as_str(), rest);
-    insist(rt, asked(rt, first) == wanted.as_str(), "the first");
+// The first half is asked the same as a store alone, and behind the head what joins both: the
+// epoch's register, and each cell.
+fn asks_first(first: &str, run: &str) -> bool {
+    let join = first
+        .strip_prefix("R 0\nR 5\nR 6\nR 7\nR 8\n")
+        .unwrap_or("");
+    match behind_cells(join, "R ") {
+        Some(rest) => run.strip_prefix("R 0\n").unwrap_or("") == rest,
+        None => false,
+    }
 }
 
 // The second one is asked to write each cell and to sync, and then the run's writes and syncs.
-fn expect_second<R: AllocGlobal + Abort>(rt: &R, second: &Noting, run: &str) {
-    let changes = lines_with(rt, run, "R", false);
-    let writes = lines_with(rt, run, "W", true);
-    let counts = changes.lines().count() == 56 && writes.lines().count() == 46;
-    insist(rt, counts, "56 writes and syncs, and 46 of them writes");
-    let copies = of_each_cell(rt, "W");
-    let wanted = joined(rt, copies.as_str(), "S\n", changes.as_str());
-    insist(rt, asked(rt, second) == wanted.as_str(), "the second");
+fn asks_second(second: &str, run: &str) -> bool {
+    match behind_cells(second, "W ").unwrap_or("").strip_prefix("S\n") {
+        Some(changes) => changes.lines().count() == 56 && has_lines(run, "R", changes),
+        None => false,
+    }
 }
 
-#[test]
-fn the_second_half_is_asked_to_write_and_sync_what_the_first_is(rt: HostRuntime) {
-    let run = asked_alone(&rt);
-    let ask = ask_for("run S K --lanes 1 --mirror F", EMPTY);
-    let halves = ran(&rt, &[], &[], &ask, 0, TOLD);
-    expect_first(&rt, &halves.first, run.as_str());
-    expect_second(&rt, &halves.second, run.as_str());
+// Behind its first line a trace has what was asked of the first half, and the leaves.
+fn traces_first(trace: &str, first: &str) -> bool {
+    match trace.strip_prefix("O M\n") {
+        Some(calls) => calls.lines().count() == 216 && has_lines(calls, "L", first),
+        None => false,
+    }
+}
+
+// A run of an empty transaction over one store, and over both with a trace.
+const EMPTY_ALONE: Call = Call {
+    words: "run S K --lanes 1",
+    script: "client 1/begin/commit",
+    status: 0,
+    told: "epoch 1/txn 1 client 1 committed/",
+};
+
+const EMPTY: Call = Call {
+    words: "run S K --lanes 1 --mirror F --trace T",
+    ..EMPTY_ALONE
+};
+
+// A sink for a trace, of which this write fails.
+fn sink<R: AllocGlobal + Abort>(rt: &R, bad: u64) -> Option<MemSink> {
+    Some(sink_of(rt.alloc(), 4000, bad).expect(rt, "memory"))
+}
+
+// Such a run with this trace: both halves behind it.
+fn traced<R: AllocGlobal + Threads + Wait + Sync + Abort>(
+    rt: &R,
+    call: &Call,
+    trace: &mut Option<MemSink>,
+) -> Halves {
+    let first = formatted(rt, NONE);
+    let second = blank(rt, CELLS, NONE);
+    run_over(rt, first, second, call, trace)
+}
+
+// Each half is asked what it has to be, and the trace tells it.
+fn expect_events<R: AllocGlobal + Threads + Wait + Sync + Abort>(rt: &R) {
+    let mut alone = formatted(rt, NONE);
+    expect_alone(rt, &mut alone, &EMPTY_ALONE);
+    let mut trace = sink(rt, NEVER);
+    let halves = traced(rt, &EMPTY, &mut trace);
+    let trace = trace.expect(rt, "the trace");
+    let run = asked(rt, &alone);
+    let first = asked(rt, &halves.first);
+    insist(rt, asks_first(first, run), "the first");
+    insist(
+        rt,
+        asks_second(asked(rt, &halves.second), run),
+        "the second",
+    );
+    insist(
+        rt,
+        traces_first(text_of(rt, trace.written()), first),
+        "the trace",
+    );
+    let_noting_go(alone);
     let_both_go(halves);
 }
 
-// With the option, a second store has to be there.
-fn expect_missed<R: AllocGlobal + Threads + Wait + Sync + Abort>(rt: &R, first: &mut Noting)
-    requires { (disk_of_store first.old.store).out ≡ 0 }
-{
-    let mut none: Option<Noting> = None;
-    let ask = ask_for(MIRRORED, "");
-    expect(rt, first, &mut none, &ask, 5, "fault: store/");
+#[test]
+fn each_half_is_asked_what_is_traced(rt: HostRuntime) {
+    expect_events(&rt);
+}
+
+// What a run tells whose trace fails.
+const CUT: Call = Call {
+    status: 7,
+    told: "fault: sink/",
+    ..EMPTY
+};
+
+// The sink of a trace fails at this write: the output's fault is told, once what was begun is done.
+fn is_cut<R: AllocGlobal + Threads + Wait + Sync + Abort>(
+    rt: &R,
+    write: u64,
+    reads: usize,
+    copies: usize,
+) {
+    let mut trace = sink(rt, write);
+    let halves = traced(rt, &CUT, &mut trace);
+    let read = asked(rt, &halves.first).lines().count();
+    let copied = asked(rt, &halves.second).lines().count();
+    let_both_go(halves);
+    assert!(rt; read == reads && copied == copies, "{write}");
+}
+
+// At the first line, behind the head's read, in the copy, and behind it.
+fn are_cut<R: AllocGlobal + Threads + Wait + Sync + Abort>(rt: &R) {
+    is_cut(rt, 0, 0, 0);
+    is_cut(rt, 1, 1, 0);
+    is_cut(rt, 2, CELLS + 5, CELLS + 1);
+    is_cut(rt, 114, CELLS + 5, CELLS + 1);
 }
 
 #[test]
-fn without_the_option_the_second_is_asked_nothing(rt: HostRuntime) {
-    let ask = ask_for("run S K", EMPTY);
-    let mut halves = ran(&rt, &[], &[], &ask, 0, TOLD);
-    insist(&rt, asked(&rt, &halves.second) == "", "nothing");
-    expect_missed(&rt, &mut halves.first);
-    let_both_go(halves);
+fn a_trace_that_fails_stops_the_run_behind_the_join_at_the_latest(rt: HostRuntime) {
+    are_cut(&rt);
 }

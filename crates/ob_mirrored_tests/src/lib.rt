@@ -11,5 +11,3 @@ mod events;
 mod playing;
 #[cfg(test)]
 mod refused;
-#[cfg(test)]
-mod traced;

@@ -11,7 +11,7 @@ use ob_mirrored::{Room, obladi_mirrored};
 use ob_seal::ListTape;
 use ob_store::Store;
 use ob_top_calls::{
-    Ask, CELLS, Noting, ask_for, has, let_noting_go, noted, noted_blank, sink_of, source_of,
+    CELLS, KEYS, NEVER, Noting, WIDE, has, let_noting_go, noted, noted_blank, sink_of, source_of,
     words_of,
 };
 use std::process::Abort;
@@ -23,41 +23,63 @@ pub fn insist<R: Abort>(rt: &R, so: bool, case: &str) {
     assert!(rt; so, "{case}");
 }
 
-/// A run over a mirror.
-pub const MIRRORED: &str = "run S K --mirror F";
+/// A call of the top: its words and its script, and what it has to answer, its status and what it
+/// tells. A `/` stands for the end of a line.
+#[derive(Clone, Copy)]
+pub struct Call {
+    pub words: &'static str,
+    pub script: &'static str,
+    pub status: u8,
+    pub told: &'static str,
+}
 
-/// The script of an epoch, and what is told of it.
-pub const PUT: &str = "client 1/begin/put 5 hi/commit";
+/// A run of an epoch over a mirror.
+pub const PUT: Call = Call {
+    words: "run S K --mirror F",
+    script: "client 1/begin/put 5 hi/commit",
+    status: 0,
+    told: "epoch 1/txn 1 client 1 committed/put 5 hi/",
+};
 
-pub const ONE_EPOCH: &str = "epoch 1/txn 1 client 1 committed/put 5 hi/";
+/// A run of two epochs over one store.
+pub const TWO_ALONE: Call = Call {
+    words: "run S K",
+    script: "client 1/begin/put 5 hi/commit/begin/get 5/commit",
+    status: 0,
+    told: "epoch 1/txn 1 client 1 committed/put 5 hi/epoch 2/txn 1 client 1 committed/get 5 = hi/",
+};
 
-/// How many writes and syncs its run makes.
-pub const WRITES: u64 = 46;
+/// No call comes to this number.
+pub const NONE: Fail = Fail::Lane(NEVER);
 
-pub const SYNCS: u64 = 10;
-
-/// Makes a call over two stores, with what is handed in as its trace: its status, and its output.
-pub fn call_on<'a, R: AllocGlobal + Threads + Wait + Sync + Abort, S: Lanes + 'a, M: Store + 'a>(
+/// Makes a call over two stores, with what is handed in as its trace, and compares its status and what
+/// it tells.
+pub fn expect_under<
+    'a,
+    R: AllocGlobal + Threads + Wait + Sync + Abort,
+    S: Lanes + 'a,
+    M: Store + 'a,
+>(
     rt: &R,
     first: &mut S,
     second: &mut Option<M>,
     room: Room<S::Lane, M::Lane>,
-    ask: &Ask<'_>,
+    call: &Call,
     trace: &mut Option<MemSink>,
-) -> (u8, MemSink)
+)
     requires first { (S.disk first.old).out ≡ 0 }
     requires second { SecondIn M.disk second.old }
     ensures first { (S.disk first.new).out ≡ 0 }
     ensures second { SecondStays M.disk second.old second.new }
 {
-    let words = words_of(rt.alloc(), ask.words).expect(rt, "memory");
-    let mut tape = ListTape::new(rt.alloc(), ask.tape).expect(rt, "memory");
-    let mut input = source_of(rt.alloc(), ask.script, ask.bad_read).expect(rt, "memory");
-    let mut output = sink_of(rt.alloc(), ask.room, ask.bad_write).expect(rt, "memory");
+    let words = words_of(rt.alloc(), call.words).expect(rt, "memory");
+    let mut tape = ListTape::new(rt.alloc(), &[]).expect(rt, "memory");
+    let mut input = source_of(rt.alloc(), call.script, NEVER).expect(rt, "memory");
+    let mut output = sink_of(rt.alloc(), WIDE, NEVER).expect(rt, "memory");
     let status = obladi_mirrored(
         rt,
         &words,
-        ask.keys.map(str::as_bytes),
+        Some(KEYS.as_bytes()),
         Some(first),
         second,
         room,
@@ -67,40 +89,41 @@ pub fn call_on<'a, R: AllocGlobal + Threads + Wait + Sync + Abort, S: Lanes + 'a
         trace,
         &mut Eager,
     );
-    (status, output)
+    insist(
+        rt,
+        status == call.status && has(&output, call.told),
+        call.told,
+    );
 }
 
-/// Makes a call without a trace, and compares its status and what it tells.
+/// The same over two stores of one kind.
 pub fn expect<R: AllocGlobal + Threads + Wait + Sync + Abort>(
     rt: &R,
     first: &mut Noting,
     second: &mut Option<Noting>,
-    ask: &Ask<'_>,
-    status: u8,
-    told: &str,
+    call: &Call,
+    trace: &mut Option<MemSink>,
 )
     requires first { (disk_of_store first.old.store).out ≡ 0 }
     requires second { SecondIn (λ n. disk_of_store n.store) second.old }
     ensures first { (disk_of_store first.new.store).out ≡ 0 }
     ensures second { SecondStays (λ n. disk_of_store n.store) second.old second.new }
 {
-    let mut none: Option<MemSink> = None;
-    let (answer, output) = call_on(rt, first, second, Room::new(), ask, &mut none);
-    insist(rt, answer == status && has(&output, told), told);
+    expect_under(rt, first, second, Room::new(), call, trace);
 }
 
-/// The same over one store alone, by a call that goes well.
+/// The same over one store alone, without a trace.
 pub fn expect_alone<R: AllocGlobal + Threads + Wait + Sync + Abort>(
     rt: &R,
     store: &mut Noting,
-    ask: &Ask<'_>,
-    told: &str,
+    call: &Call,
 )
     requires { (disk_of_store store.old.store).out ≡ 0 }
     ensures { (disk_of_store store.new.store).out ≡ 0 }
 {
     let mut none: Option<Noting> = None;
-    expect(rt, store, &mut none, ask, 0, told);
+    let mut untraced: Option<MemSink> = None;
+    expect(rt, store, &mut none, call, &mut untraced);
 }
 
 /// Both halves behind a run.
@@ -117,14 +140,13 @@ pub fn let_both_go(halves: Halves) {
     let_noting_go(second);
 }
 
-/// The same over these two: both behind it.
+/// A call over these two, with what is handed in as its trace: both behind it.
 pub fn run_over<R: AllocGlobal + Threads + Wait + Sync + Abort>(
     rt: &R,
     mut first: Noting,
     second: Noting,
-    ask: &Ask<'_>,
-    status: u8,
-    told: &str,
+    call: &Call,
+    trace: &mut Option<MemSink>,
 ) -> Halves
     requires first { (disk_of_store first.store).out ≡ 0 }
     requires second { (disk_of_store second.store).out ≡ 0 }
@@ -132,27 +154,26 @@ pub fn run_over<R: AllocGlobal + Threads + Wait + Sync + Abort>(
     ensures second { (disk_of_store result.second.store).out ≡ 0 }
 {
     let mut second: Option<Noting> = Some(second);
-    expect(rt, &mut first, &mut second, ask, status, told);
+    expect(rt, &mut first, &mut second, call, trace);
     let second = second.expect(rt, "the second");
     Halves { first, second }
 }
 
 /// The same over a first half that was just formatted and a second one that is new, of each of which
-/// these calls fail.
+/// this call fails.
 pub fn ran<R: AllocGlobal + Threads + Wait + Sync + Abort>(
     rt: &R,
-    first_fails: &[Fail],
-    second_fails: &[Fail],
-    ask: &Ask<'_>,
-    status: u8,
-    told: &str,
+    first_fails: Fail,
+    second_fails: Fail,
+    call: &Call,
 ) -> Halves
     ensures first { (disk_of_store result.first.store).out ≡ 0 }
     ensures second { (disk_of_store result.second.store).out ≡ 0 }
 {
+    let mut none: Option<MemSink> = None;
     let first = formatted(rt, first_fails);
     let second = blank(rt, CELLS, second_fails);
-    run_over(rt, first, second, ask, status, told)
+    run_over(rt, first, second, call, &mut none)
 }
 
 /// A run of two epochs over one store alone, behind so many epochs, of which the second one reads
@@ -165,31 +186,43 @@ pub fn expect_next<R: AllocGlobal + Threads + Wait + Sync + Abort>(
     requires { (disk_of_store store.old.store).out ≡ 0 }
     ensures { (disk_of_store store.new.store).out ≡ 0 }
 {
-    let txn = "txn 1 client 1 committed/";
-    let value = if ended > 0 { "= hi" } else { "absent" };
-    let (one, two) = (ended.saturating_add(1), ended.saturating_add(2));
-    let told = format!(in rt.alloc(); "epoch {one}/{txn}epoch {two}/{txn}get 5 {value}/");
-    let told = told.expect(rt, "memory");
-    let ask = ask_for("run S K", "client 1/begin/commit/begin/get 5/commit/");
-    expect_alone(rt, store, &ask, told.as_str());
+    let told = match ended {
+        0 => "epoch 1/txn 1 client 1 committed/epoch 2/txn 1 client 1 committed/get 5 absent/",
+        1 => "epoch 2/txn 1 client 1 committed/epoch 3/txn 1 client 1 committed/get 5 = hi/",
+        _ => "epoch 3/txn 1 client 1 committed/epoch 4/txn 1 client 1 committed/get 5 = hi/",
+    };
+    let call = Call {
+        words: "run S K",
+        script: "client 1/begin/commit/begin/get 5/commit/",
+        status: 0,
+        told,
+    };
+    expect_alone(rt, store, &call);
 }
 
-/// A new store of so many cells, of which these calls fail.
-pub fn blank<R: AllocGlobal + Abort>(rt: &R, cells: usize, fails: &[Fail]) -> Noting
+/// A new store of so many cells, of which this call fails.
+pub fn blank<R: AllocGlobal + Abort>(rt: &R, cells: usize, fail: Fail) -> Noting
     ensures { (disk_of_store result.store).out ≡ 0 }
 {
-    noted_blank(rt.alloc(), cells, fails).expect(rt, "memory")
+    noted_blank(rt.alloc(), cells, &[fail]).expect(rt, "memory")
 }
 
-/// A store of 8 keys, of which these calls fail, just formatted: by 62 writes and 10 syncs.
-pub fn formatted<R: AllocGlobal + Threads + Wait + Sync + Abort>(rt: &R, fails: &[Fail]) -> Noting
+/// Makes a store of 8 keys.
+pub const FORMAT: Call = Call {
+    words: "format S K 8 2 2 3 2 2 2 2 8",
+    script: "",
+    status: 0,
+    told: "store of 109 cells/",
+};
+
+/// A store of 8 keys, of which this call fails, just formatted: by 62 writes and 10 syncs.
+pub fn formatted<R: AllocGlobal + Threads + Wait + Sync + Abort>(rt: &R, fail: Fail) -> Noting
     ensures { (disk_of_store result.store).out ≡ 0 }
 {
-    let mut made = blank(rt, CELLS, fails);
-    let ask = ask_for("format S K 8 2 2 3 2 2 2 2 8", "");
-    expect_alone(rt, &mut made, &ask, "store of 109 cells/");
+    let mut made = blank(rt, CELLS, fail);
+    expect_alone(rt, &mut made, &FORMAT);
     let Noting { store, .. } = made;
-    insist(rt, store.moments() == 72, ask.words);
+    insist(rt, store.moments() == 72, "72 writes and syncs");
     noted(rt.alloc(), store).expect(rt, "memory")
 }
 
@@ -202,16 +235,4 @@ pub fn text_of<'a, R: Abort>(rt: &R, bytes: &'a [u8]) -> &'a str {
 pub fn asked<'a, R: Abort>(rt: &R, store: &'a Noting) -> &'a str {
     insist(rt, store.told.faults() == 0, "room for all lines");
     text_of(rt, store.told.written())
-}
-
-/// The lines that begin so, or the others.
-pub fn lines_with<R: AllocGlobal + Abort>(rt: &R, text: &str, mark: &str, with: bool) -> String {
-    let mut chosen = String::new(rt.alloc());
-    for line in text.lines() {
-        if line.starts_with(mark) == with {
-            chosen.push_str(line).expect(rt, "memory");
-            chosen.push_str("\n").expect(rt, "memory");
-        }
-    }
-    chosen
 }

@@ -1,5 +1,5 @@
 use Rattle.std.proofs.Common.{◌≡◌}
 use Rattle.ob_mirror_tests.proofs.steps.play.Given as goal
 
-abbrev pub invariant-loop-i : goal.invariant-loop-i
-invariant-loop-i g l = (g.S.Store.disk l.store).out ≡ 0
+abbrev pub invariant-loop-word : goal.invariant-loop-word
+invariant-loop-word g l = (g.S.Store.disk l.store).out ≡ 0
