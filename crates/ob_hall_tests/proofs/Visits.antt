@@ -27,9 +27,9 @@ module _ {V : Type 0} (client : V → ℕ) (gone : V → Bool) (hall : Hall) whe
   are_clients cs visiting k d lt = is_client _ (visiting k d lt)
 
   -- one whose flag was looked at
-  pub back_ready : (before after : Pass × V) (served : Bool) → IsReady hall before.0 → MatchBool served (StepsToSignOff visits hall before after) (after ≡ before) → IsReady hall after.0
-  back_ready before after true ready steps = steps.goes_on.is_client.ready
-  back_ready before after false ready same = subst (λ (c : Pass × V). IsReady hall c.0) (sym same) ready
+  pub still_visiting : (before after : Pass × V) (served : Bool) → IsVisiting hall before.0 (client before.1) (gone before.1) → MatchBool served (StepsToSignOff visits hall before after) (after ≡ before) → IsVisiting hall after.0 (client after.1) (gone after.1)
+  still_visiting before after true is steps = let c = steps.goes_on.is_client in record { ready = c.ready; named = c.named; said = c.fits }
+  still_visiting before after false is same = subst (λ (c : Pass × V). IsVisiting hall c.0 (client c.1) (gone c.1)) (sym same) is
 
   later_ready : (before after : Pass × V) → IsClient visits hall before → IsLater visits hall before after → IsReady hall after.0
   later_ready before after is (inl same) = subst (λ (c : Pass × V). IsReady hall c.0) (sym same) is.ready

@@ -4,9 +4,10 @@ ghost use Rattle.std.specs.Prelude.{◌≡◌, ◌≤◌, [], true};
 ghost use Rattle.std.specs.Thread.{IsSync};
 ghost use Rattle.ob_turn.specs.BellCalls.{IsBellSeat};
 
-use ob_base::Memory;
+use crate::insist;
 use ob_turn::{Bell, BellSeat};
 use std::alloc::Global;
+use std::process::Abort;
 use std::thread::{Threads, join};
 
 // Raises the bell one by one.
@@ -73,21 +74,18 @@ fn raise_beside<R: Threads + Sync>(
     (never, told, reader)
 }
 
-// Whether a bell that is raised beside its reader never falls, and what it tells at the end.
-fn raised_to<R: Threads + Sync>(
-    rt: &R,
-    alloc: Global,
-    top: u64,
-) -> Result<(bool, u64, u64), Memory> {
-    let (bell, seat) = Bell::new(alloc, 2)?;
+// Whether a bell that is raised beside its reader never falls, and tells the last number at the
+// end.
+fn rings_well<R: Threads + Sync + Abort>(rt: &R, alloc: Global, top: u64) -> bool {
+    let Ok((bell, seat)) = Bell::new(alloc, 2) else {
+        panic!(rt; "no memory")
+    };
     let (never, told, reader) = raise_beside(rt, &bell, seat, top);
-    Ok((never, told, bell.close_with(reader)))
+    let last = bell.close_with(reader);
+    never && told == top && last == top
 }
 
 #[test]
 fn a_bell_that_another_thread_raises_never_falls(rt: HostRuntime) {
-    let Ok((never, told, last)) = raised_to(&rt, rt.alloc(), 500) else {
-        panic!(rt; "no memory")
-    };
-    assert!(rt; never && told == 500 && last == 500);
+    insist(&rt, rings_well(&rt, rt.alloc(), 500), 0);
 }

@@ -5,6 +5,7 @@ ghost use Rattle.ob_hall_tests.specs.Halls.{AreStarting, AreDone, MayStart, HasW
 use crate::asking::{Clock, follow};
 use crate::driver::{hold_a_turn, stop_once_asked};
 use crate::halls::{closed, opened};
+use crate::insist;
 use crate::scripts::{Plan, clients_of, lines_of};
 use crate::visitor::Visitor;
 use ob_base::Value;
@@ -59,9 +60,14 @@ fn take_parts<R: Threads + Wait + Sync>(rt: &R, hall: &Hall, passes: &mut [Pass]
     );
 }
 
-// How many calls were made at a hall, how many of them were answered as wanted, and how many
-// transactions there were.
-fn at_hall<R: Threads + Wait + Sync + AllocGlobal + Abort>(rt: &R, plan: Plan) -> [u64; 3] {
+// Whether so many calls were made at a hall, each of them answered as wanted, and there were so
+// many transactions.
+fn at_hall<R: Threads + Wait + Sync + AllocGlobal + Abort>(
+    rt: &R,
+    plan: Plan,
+    calls: u64,
+    txns: u64,
+) -> bool {
     let value = Value::new(b"a").expect(rt, "a value");
     let work = Work {
         plan,
@@ -70,30 +76,30 @@ fn at_hall<R: Threads + Wait + Sync + AllocGlobal + Abort>(rt: &R, plan: Plan) -
     };
     let (hall, mut passes) = opened(rt, clients_of(&work.plan));
     take_parts(rt, &hall, passes.as_mut_slice(), &work);
-    let txns = closed(hall, passes);
-    [work.clock.made(), work.clock.right(), txns]
+    let begun = closed(hall, passes);
+    work.clock.made() == calls && work.clock.right() == calls && begun == txns
 }
 
 // What is done at each hall, and how many calls and transactions that makes, counted by hand. The
 // sixteen clients that don't wait for each other come five times.
-const HALLS: &[(Plan, [u64; 3])] = &[
+const HALLS: &[(Plan, u64, u64)] = &[
     // The driver's turn, the client's call and the turn's end.
-    (Plan::Durable, [3, 3, 0]),
-    (Plan::Alone, [6, 6, 1]),
-    (Plan::InOrder, [8, 8, 2]),
-    (Plan::GetWaits, [4, 4, 1]),
-    (Plan::CommitWaits, [4, 4, 1]),
-    (Plan::BesideRunners, [3200, 3200, 800]),
-    (Plan::Apart, [32_000, 32_000, 8000]),
-    (Plan::Apart, [32_000, 32_000, 8000]),
-    (Plan::Apart, [32_000, 32_000, 8000]),
-    (Plan::Apart, [32_000, 32_000, 8000]),
-    (Plan::Apart, [32_000, 32_000, 8000]),
+    (Plan::Durable, 3, 0),
+    (Plan::Alone, 6, 1),
+    (Plan::InOrder, 8, 2),
+    (Plan::GetWaits, 4, 1),
+    (Plan::CommitWaits, 4, 1),
+    (Plan::BesideRunners, 3200, 800),
+    (Plan::Apart, 32_000, 8000),
+    (Plan::Apart, 32_000, 8000),
+    (Plan::Apart, 32_000, 8000),
+    (Plan::Apart, 32_000, 8000),
+    (Plan::Apart, 32_000, 8000),
 ];
 
 #[test]
 fn each_call_is_answered_as_wanted(rt: HostRuntime) {
-    for (i, (plan, wanted)) in HALLS.iter().enumerate() {
-        assert!(&rt; at_hall(&rt, *plan) == *wanted, "hall {i}");
+    for (i, (plan, calls, txns)) in HALLS.iter().enumerate() {
+        insist(&rt, at_hall(&rt, *plan, *calls, *txns), i);
     }
 }

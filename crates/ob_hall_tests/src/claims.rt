@@ -4,7 +4,11 @@ ghost use Rattle.std.specs.Prelude.{◌≡◌, ◌≤◌, ◌<◌, ◌+◌, [], 
 ghost use Rattle.ob_claims.specs.ClaimCalls.{IsClaimSeat, HasCome, HasEveryPart};
 ghost use Rattle.ob_hall_tests.specs.Claiming.{IsThreads};
 
+use crate::insist;
+use crate::shared::{needs_send, needs_sync};
 use ob_claims::{ClaimSeat, Claims, Round};
+use std::alloc::Global;
+use std::process::Abort;
 use std::sync::atomic::AtomicU64;
 use std::sync::atomic::Ordering::SeqCst;
 use std::thread;
@@ -13,76 +17,65 @@ use std::thread::Threads;
 const THREADS: usize = 16;
 
 // The most numbers of a round.
-const MOST: usize = 50;
+const MOST: u64 = 50;
 
-// Claims a number for each of the places, or none where none is left.
-fn claim_each(claims: &Claims, seat: &mut ClaimSeat, round: &Round, places: &mut [Option<usize>])
-    requires own { IsClaimSeat claims.now seat.old }
-    requires opened { HasCome seat.old round.now }
-    ensures own { IsClaimSeat claims.now seat.new }
-    ensures parts { seat.new.me.0.parts ≡ seat.old.me.0.parts }
-{
-    for i in 0..places.len() {
-        places[i] = claims.next(seat, round);
-    }
-}
-
-// What five claims give in a round of so many numbers, by the one seat that there is.
-fn claimed_alone(claims: &Claims, seat: &mut ClaimSeat, count: u64) -> Option<[Option<usize>; 5]>
+// Whether five claims in a round of so many numbers give its places in order, and then none, to the
+// seat that has all parts.
+fn claims_in_order(claims: &Claims, seat: &mut ClaimSeat, count: u64) -> bool
     requires own { IsClaimSeat claims.now seat.old }
     requires all { HasEveryPart claims.now seat.old }
     ensures own { IsClaimSeat claims.now seat.new }
     ensures all { HasEveryPart claims.now seat.new }
 {
     let Ok(round) = claims.open(seat, count) else {
-        return None;
+        return false;
     };
-    let mut places = [None; 5];
-    claim_each(claims, seat, &round, &mut places);
-    Some(places)
+    let mut well = true;
+    for place in 0..5 {
+        let wanted = if (place as u64) < count {
+            Some(place)
+        } else {
+            None
+        };
+        well &= claims.next(seat, &round) == wanted;
+    }
+    well
 }
 
-#[test]
-fn one_seat_claims_each_number_once(rt: HostRuntime) {
-    let Ok((claims, mut seat)) = Claims::new(rt.alloc(), 1) else {
-        panic!(rt; "no memory")
-    };
-    let three = claimed_alone(&claims, &mut seat, 3);
-    let two = claimed_alone(&claims, &mut seat, 2);
-    let settled = claims.settle(&mut seat);
-    let none = claimed_alone(&claims, &mut seat, 0);
-    claims.clear(&mut seat);
-    assert!(&rt; three == Some([Some(0), Some(1), Some(2), None, None]));
-    assert!(&rt; two == Some([Some(0), Some(1), None, None, None]));
-    assert!(&rt; settled == 5 && none == Some([None; 5]));
-    assert!(&rt; claims.settle(&mut seat) == 0);
+// Whether the seat that has all parts claims each number of three rounds once, and the counter
+// stands behind the first two of them by their numbers, and at 0 once it is cleared.
+fn claims_alone(claims: &Claims, seat: &mut ClaimSeat) -> bool
+    requires own { IsClaimSeat claims.now seat.old }
+    requires all { HasEveryPart claims.now seat.old }
+    ensures own { IsClaimSeat claims.now seat.new }
+    ensures all { HasEveryPart claims.now seat.new }
+{
+    let three = claims_in_order(claims, seat, 3);
+    let two = claims_in_order(claims, seat, 2);
+    let settled = claims.settle(seat);
+    let none = claims_in_order(claims, seat, 0);
+    claims.clear(seat);
+    let cleared = claims.settle(seat);
+    three && two && none && settled == 5 && cleared == 0
 }
 
-#[test]
-fn a_round_past_the_limit_is_refused_and_the_open_one_goes_on(rt: HostRuntime) {
-    let Ok((claims, mut seat)) = Claims::new(rt.alloc(), 1) else {
-        panic!(rt; "no memory")
-    };
-    let Ok(round) = claims.open(&mut seat, 2) else {
-        panic!(rt; "worn")
-    };
-    let first = claims.next(&mut seat, &round);
-    let refused = claims.open(&mut seat, 1 << 62).is_err();
-    let second = claims.next(&mut seat, &round);
-    assert!(&rt; refused && first == Some(0) && second == Some(1));
-}
-
-// Claims what is left of a round, and marks each place.
-fn claim_all(claims: &Claims, seat: &mut ClaimSeat, round: &Round, marks: &[AtomicU64])
+// Claims what is left of a round: counts the places, and adds up their bits.
+fn claim_all(
+    claims: &Claims,
+    seat: &mut ClaimSeat,
+    round: &Round,
+    many: &AtomicU64,
+    bits: &AtomicU64,
+)
     requires own { IsClaimSeat claims.now seat.old }
     requires opened { HasCome seat.old round.now }
     ensures own { IsClaimSeat claims.now seat.new }
     ensures parts { seat.new.me.0.parts ≡ seat.old.me.0.parts }
 {
     while let Some(place) = claims.next(seat, round) {
-        if let Some(mark) = marks.get(place) {
-            mark.fetch_add(1, SeqCst);
-        }
+        let bit: u64 = 1 << (place as u64 % 64);
+        many.fetch_add(1, SeqCst);
+        bits.fetch_add(bit, SeqCst);
     }
 }
 
@@ -92,7 +85,8 @@ fn claim_by_threads<R: Threads + Sync>(
     claims: &Claims,
     seats: &mut [ClaimSeat],
     round: &Round,
-    marks: &[AtomicU64],
+    many: &AtomicU64,
+    bits: &AtomicU64,
 )
     requires threads { All (λ s. IsThreads claims.now s) seats.old }
     requires opened { All (λ s. HasCome s round.now) seats.old }
@@ -106,7 +100,7 @@ fn claim_by_threads<R: Threads + Sync>(
         &|_, seat: &mut ClaimSeat|
             requires { IsThreads claims.now seat.old × HasCome seat.old round.now }
             ensures { IsThreads claims.entry.now seat.new }
-        { claim_all(claims, seat, round, marks) },
+        { claim_all(claims, seat, round, many, bits) },
     );
 }
 
@@ -144,13 +138,17 @@ fn join_all(claims: &Claims, seat: &mut ClaimSeat, seats: &mut Vec<ClaimSeat>)
     }
 }
 
-// Whether the places below so many are marked once, and no other; the marks are taken away.
-fn are_marked_once(marks: &[AtomicU64], count: u64) -> bool {
-    let mut once = true;
-    for i in 0..marks.len() {
-        once &= marks[i].swap(0, SeqCst) == u64::from((i as u64) < count);
+// Whether so many claims were counted, and the sum of their bits is that of the places below so
+// many: then each of these was claimed once, since no fewer bits have that sum, and no others. Both
+// are set to 0.
+fn is_each_once(many: &AtomicU64, bits: &AtomicU64, count: u64) -> bool {
+    let claimed = many.swap(0, SeqCst);
+    let sum = bits.swap(0, SeqCst);
+    if count >= 64 {
+        return false;
     }
-    once
+    let behind: u64 = 1 << count;
+    claimed == count && sum.saturating_add(1) == behind
 }
 
 // A round of so many numbers, claimed by all threads: whether each of its places was claimed once,
@@ -160,7 +158,8 @@ fn is_round_claimed<R: Threads + Sync>(
     claims: &Claims,
     seat: &mut ClaimSeat,
     seats: &mut Vec<ClaimSeat>,
-    marks: &[AtomicU64],
+    many: &AtomicU64,
+    bits: &AtomicU64,
     count: u64,
 ) -> bool
     requires own { IsClaimSeat claims.now seat.old }
@@ -179,10 +178,11 @@ fn is_round_claimed<R: Threads + Sync>(
         return false;
     };
     split_all(claims, seat, seats);
-    claim_by_threads(rt, claims, seats.as_mut_slice(), &round, marks);
+    claim_by_threads(rt, claims, seats.as_mut_slice(), &round, many, bits);
     join_all(claims, seat, seats);
     let more = claims.settle(seat).saturating_sub(before);
-    more >= count && more <= count.saturating_add(THREADS as u64) && are_marked_once(marks, count)
+    let last = count.saturating_add(THREADS as u64);
+    more >= count && more <= last && is_each_once(many, bits, count)
 }
 
 // Whether each of so many rounds is claimed; the counter is cleared before each of a hundred.
@@ -191,7 +191,6 @@ fn are_rounds_claimed<R: Threads + Sync>(
     claims: &Claims,
     seat: &mut ClaimSeat,
     seats: &mut Vec<ClaimSeat>,
-    marks: &[AtomicU64],
     rounds: u64,
 ) -> bool
     requires own { IsClaimSeat claims.now seat.old }
@@ -201,38 +200,35 @@ fn are_rounds_claimed<R: Threads + Sync>(
     requires room { 16 ≤ vec_capacity seats.old }
     ensures none { seats.new.items ≡ [] }
 {
+    let (many, bits) = (AtomicU64::new(0), AtomicU64::new(0));
     let mut well = true;
     for round in 0..rounds {
         if round % 100 == 0 {
             claims.clear(seat);
         }
-        well &= is_round_claimed(rt, claims, seat, seats, marks, round % MOST as u64 + 1);
+        well &= is_round_claimed(rt, claims, seat, seats, &many, &bits, round % MOST + 1);
     }
     well
 }
 
-#[test]
-fn threads_claim_each_number_of_each_round_once(rt: HostRuntime) {
-    let Ok((claims, mut seat)) = Claims::new(rt.alloc(), THREADS as u64 + 1) else {
+// The same of new claims: alone, and by all threads.
+fn claims_well<R: Threads + Sync + Abort>(rt: &R, alloc: Global) -> bool {
+    let Ok((claims, mut seat)) = Claims::new(alloc, THREADS as u64 + 1) else {
         panic!(rt; "no memory")
     };
-    let Ok(mut seats) = Vec::with_capacity(rt.alloc(), THREADS) else {
+    let Ok(mut seats) = Vec::with_capacity(alloc, THREADS) else {
         panic!(rt; "no memory")
     };
-    let mut marks = Vec::new(rt.alloc());
-    for _ in 0..MOST {
-        let Ok(()) = marks.push(AtomicU64::new(0)) else {
-            panic!(rt; "no memory")
-        };
-    }
-    let well = are_rounds_claimed(&rt, &claims, &mut seat, &mut seats, marks.as_slice(), 1_000);
+    let alone = claims_alone(&claims, &mut seat);
+    let well = are_rounds_claimed(rt, &claims, &mut seat, &mut seats, 1_000);
     seats.destroy_empty();
-    assert!(&rt; well);
+    alone && well
 }
 
-fn needs_sync<T: Sync>(_shared: &T) {}
-
-fn needs_send<T: Send>(_sent: &T) {}
+#[test]
+fn a_seat_and_threads_claim_each_number_of_each_round_once(rt: HostRuntime) {
+    insist(&rt, claims_well(&rt, rt.alloc()), 0);
+}
 
 fn claims_are_shared(claims: &Claims, round: &Round, seat: &ClaimSeat) {
     needs_sync(claims);

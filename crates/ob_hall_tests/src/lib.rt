@@ -24,3 +24,12 @@ mod starts;
 mod turns;
 #[cfg(test)]
 mod visitor;
+
+#[cfg(test)]
+use std::process::Abort;
+
+// That this holds of a case.
+#[cfg(test)]
+fn insist(rt: &impl Abort, holds: bool, case: usize) {
+    assert!(rt; holds, "case {case}");
+}

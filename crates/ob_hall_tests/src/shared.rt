@@ -1,7 +1,6 @@
-//! What threads share and what they own: turns, bells and halls.
+//! What threads share and what they own: turns and bells.
 
 use crate::turns::{Added, Counter};
-use ob_hall::{Hall, Pass};
 use ob_turn::{Bell, BellSeat, Stepped, Turn, TurnSeat};
 
 // A turn and a bell side by side, as a session layer holds them: generic in its parts.
@@ -10,9 +9,11 @@ struct Beside<A, B> {
     bell: B,
 }
 
-fn needs_sync<T: Sync>(_shared: &T) {}
+/// Takes what threads may share.
+pub fn needs_sync<T: Sync>(_shared: &T) {}
 
-fn needs_send<T: Send>(_sent: &T) {}
+/// Takes what may be sent to a thread.
+pub fn needs_send<T: Send>(_sent: &T) {}
 
 fn turns_are_shared<E, T: Stepped<E> + Send>(turn: &Turn<T, E>, seat: &TurnSeat<T, E>) {
     needs_sync(turn);
@@ -31,9 +32,4 @@ fn both_are_shared(
     needs_sync(both);
     needs_send(both);
     needs_send(seats);
-}
-
-fn a_pass_is_sent_and_a_hall_is_shared(pass: &Pass, hall: &Hall) {
-    needs_send(pass);
-    needs_sync(hall);
 }

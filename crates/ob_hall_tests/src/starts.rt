@@ -8,6 +8,7 @@ ghost use Rattle.ob_hall_tests.specs.Halls.{AreStarting, AreDone, IsVisiting};
 ghost use denote.Param.Send.{IsSync};
 
 use crate::halls::{closed, opened};
+use crate::insist;
 use crate::visitor::Visitor;
 use ob_hall::{Hall, Pass};
 use ob_session::Runner;
@@ -58,8 +59,14 @@ impl Crew {
     }
 }
 
-// A client for each pass but the driver's, the last one first.
-fn seat(hall: &Hall, passes: &mut Vec<Pass>, waiting: &mut Vec<Client<Visitor>>)
+// A client for each pass but the driver's, the last one first: whether each of them comes back as
+// it went from what its thread would do with its flag set.
+fn seat<R: Wait>(
+    rt: &R,
+    hall: &Hall,
+    passes: &mut Vec<Pass>,
+    waiting: &mut Vec<Client<Visitor>>,
+) -> bool
     requires starting { AreStarting hall.now 0 passes.old.items }
     requires three { length passes.old.items ≡ 4 }
     requires none { waiting.old.items ≡ [] }
@@ -70,13 +77,18 @@ fn seat(hall: &Hall, passes: &mut Vec<Pass>, waiting: &mut Vec<Client<Visitor>>)
     ensures visiting { All (λ c. IsVisiting hall.now c.0 c.1.client c.1.gone) waiting.new.items }
     ensures three { length waiting.new.items ≡ 3 }
 {
+    let by_hand = AtomicBool::new(true);
+    let mut unserved = true;
     while passes.len() > 1 {
         let Some(pass) = passes.pop() else {
             unreachable!()
         };
         let visitor = Visitor::new(pass.number());
-        waiting.push_reserved((pass, visitor));
+        let (client, served) = run_unless(rt, hall, &by_hand, (pass, visitor));
+        unserved &= !served;
+        waiting.push_reserved(client);
     }
+    unserved
 }
 
 // Gives the passes of the clients back, the first client's first: whether each of them was in its
@@ -168,12 +180,9 @@ fn in_scope<'c, R: Threads + Wait + Sync>(
     )
 }
 
-// How many of three clients went to threads where so many starts are tried, and whether each came
-// back to its place and has signed off.
-fn with_starts<R: Threads + Wait + Sync + AllocGlobal + Abort>(
-    rt: &R,
-    starts: usize,
-) -> (usize, bool)
+// Whether of three clients, none of which signs off while its flag is set, as many went to threads as
+// starts are tried, and each came back to its place and has signed off.
+fn starts_well<R: Threads + Wait + Sync + AllocGlobal + Abort>(rt: &R, starts: usize) -> bool
     requires { starts ≤ 3 }
 {
     let flags = [
@@ -183,38 +192,18 @@ fn with_starts<R: Threads + Wait + Sync + AllocGlobal + Abort>(
     ];
     let mut crew = new_crew(rt);
     let (hall, mut passes) = opened(rt, &[1, 2, 3]);
-    seat(&hall, &mut passes, &mut crew.waiting);
+    let unserved = seat(rt, &hall, &mut passes, &mut crew.waiting);
     let (away, joined) = in_scope(rt, rt.alloc(), &hall, &flags[..starts], &mut crew);
     let well = unseat(&hall, &mut passes, &mut joined.back);
     closed(hall, passes);
     crew.destroy_empty();
-    (away, well)
-}
-
-// Whether a client's thread made its steps, and whether the client has signed off.
-fn run_alone<R: Wait + AllocGlobal + Abort>(rt: &R, by_hand: bool) -> (bool, bool) {
-    let (hall, mut passes) = opened(rt, &[1, 2, 3]);
-    let Some(pass) = passes.pop() else {
-        unreachable!()
-    };
-    let visitor = Visitor::new(pass.number());
-    let flag = AtomicBool::new(by_hand);
-    let (client, served) = run_unless(rt, &hall, &flag, (pass, visitor));
-    let (pass, visitor) = client;
-    passes.push_reserved(pass);
-    closed(hall, passes);
-    (served, visitor.gone)
+    unserved && well && away == starts
 }
 
 // However many are started each comes back. One whose flag is set comes back as it went.
 #[test]
 fn each_client_signs_off_but_one_whose_flag_is_set(rt: HostRuntime) {
     for starts in 0..4 {
-        assert!(&rt;
-            with_starts(&rt, starts) == (starts, true),
-            "{starts} starts"
-        );
+        insist(&rt, starts_well(&rt, starts), starts);
     }
-    assert!(&rt; run_alone(&rt, true) == (false, false));
-    assert!(&rt; run_alone(&rt, false) == (true, true));
 }

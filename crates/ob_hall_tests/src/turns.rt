@@ -6,6 +6,7 @@ ghost use Rattle.ob_hall_tests.specs.declared.turns.Added.{Added};
 ghost use Rattle.ob_turn.specs.History.{entry};
 ghost use Rattle.ob_turn.specs.TurnCalls.{IsTurnSeat, IsIdle, IsSame};
 
+use crate::insist;
 use ob_base::Memory;
 use ob_turn::{Guard, Stepped, Turn, TurnSeat, close};
 use std::alloc::Global;
@@ -162,7 +163,10 @@ const SUMS: &[(u32, u32, u64)] = &[(0, 1, 40), (4, 300, 45_050), (63, 1000, 1_92
 
 #[test]
 fn threads_that_add_in_turns_reach_the_sum(rt: HostRuntime) {
-    for (others, times, sum) in SUMS {
-        assert!(&rt; sum_of(&rt, rt.alloc(), *others, *times).ok() == Some(*sum));
+    for (i, (others, times, sum)) in SUMS.iter().enumerate() {
+        let reached = sum_of(&rt, rt.alloc(), *others, *times)
+            .ok()
+            .expect(&rt, "memory");
+        insist(&rt, reached == *sum, i);
     }
 }

@@ -1,10 +1,7 @@
 -- Two runners of the tests.
-use Rattle.std.proofs.Common.{◌≡◌, ◌∙◌, ◌≤◌, ℕ, Bool, false, All, List, [], ◌∷◌, true≢false, sym, ap, subst, arith}
+use Rattle.std.proofs.Common.{◌≡◌, ◌≤◌, ℕ, All, List, [], ◌∷◌, sym, ap, subst, ◌∙◌, arith}
 use Rattle.std.proofs.lemmas.List.Elements.{All-nil, All-cons, All-weaker}
-use Rattle.ob_session.specs.Clients.{has_signed_off}
 use Rattle.ob_hall.specs.Passes.{Steps}
-use Rattle.ob_hall.specs.Testing.{Visits}
-use Rattle.ob_run.specs.Ends.{QuietRule}
 use Rattle.ob_serve_tests.specs.Pairs.{IsNewPair, AreTwo}
 
 module _ {U : Type 0} (client bound : U → ℕ) (fits : U → Steps → Type 0) (runners : List U) where
@@ -17,9 +14,3 @@ module _ {U : Type 0} (client bound : U → ℕ) (fits : U → Steps → Type 0)
 
   pub below_all : (keys : ℕ) → keys ≡ 8 → AreTwo client bound fits runners → All (λ u. bound u ≤ keys) runners
   below_all keys is two = All-weaker (λ u. bound u ≤ 8) (λ u. bound u ≤ keys) (λ u low. omega (arith, low, is)) runners two.below
-
--- whoever is still here may call
-pub still_here : (client : ℕ) (gone : Bool) (said steps : Steps) → gone ≡ false → Visits client gone said → QuietRule client said steps
-still_here client gone said steps here fits off =
-    let none : said ≡ [] = subst (λ (b : Bool). Visits client b said) here fits in
-    absurd (true≢false (sym off ∙ ap has_signed_off none))

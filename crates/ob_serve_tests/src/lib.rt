@@ -6,14 +6,20 @@
 mod ending;
 mod first;
 #[cfg(test)]
-mod gate;
-#[cfg(test)]
 mod overlap;
 #[cfg(test)]
 mod ring;
 #[cfg(test)]
 mod runs;
 #[cfg(test)]
-mod starved;
+mod scripted;
 
 pub use first::First;
+#[cfg(test)]
+use std::process::Abort;
+
+// That this holds of a case.
+#[cfg(test)]
+fn insist(rt: &impl Abort, holds: bool, case: usize) {
+    assert!(rt; holds, "case {case}");
+}

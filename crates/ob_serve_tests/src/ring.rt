@@ -3,8 +3,8 @@
 ghost use Rattle.std.specs.Prelude.{◌≡◌};
 ghost use Rattle.ob_mem.specs.Memory.{disk_of_store};
 
-use crate::runs::{blank, test_keys};
-use ob_base::{Params, ring_cells};
+use crate::runs::{blank, small, test_keys};
+use ob_base::ring_cells;
 use ob_lanes::Lanes;
 use ob_mem::{Fail, MemStore};
 use ob_opening::{format, prepare};
@@ -15,11 +15,6 @@ use std::alloc::Global;
 use std::process::Abort;
 use std::thread::Threads;
 
-// Eight keys, two batches of two places, two writes.
-fn small(rt: &impl Abort) -> Params {
-    Params::new(8, 2, 2, 3, 2, 2, 2, 2, 8).expect(rt, "parameters in range")
-}
-
 /// A tape of zeros.
 pub fn new_tape(rt: &impl Abort, alloc: Global) -> ListTape
     ensures { result.generation ≡ 0 }
@@ -27,7 +22,7 @@ pub fn new_tape(rt: &impl Abort, alloc: Global) -> ListTape
     ListTape::new(alloc, &[]).expect(rt, "memory")
 }
 
-/// A new ring store of eight keys, two batches of two places, two writes, of which this call fails.
+/// A new ring store of the tests' parameters, of which this call fails.
 pub fn new_store<R: Threads + Sync + Abort>(rt: &R, alloc: Global, fail: Fail) -> MemStore
     ensures { (disk_of_store result).out ≡ 0 }
 {

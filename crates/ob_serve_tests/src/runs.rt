@@ -1,22 +1,19 @@
-//! Runs of two clients over a store in memory, and the calls of the store that fail.
+//! Runs of two clients over a store in memory.
 
 ghost use Rattle.std.specs.Prelude.{◌≡◌, suc};
 ghost use Rattle.ob_mem.specs.Memory.{disk_of_store};
 ghost use Rattle.ob_desk.specs.Desk.{new_desk, setup_of};
 ghost use Rattle.ob_driver.specs.Testing.{two_clients};
 ghost use Rattle.ob_run.specs.Ends.{IsQuiet};
-ghost use Rattle.ob_runner.specs.RunnerViews.{client_of, bound_of, MayHaveMade};
-ghost use Rattle.ob_serve_tests.specs.Pairs.{IsNewPair, AreTwo, CanOpen};
+ghost use Rattle.ob_serve_tests.specs.Pairs.{AreTwo, CanOpen};
 
-use crate::gate::{Gate, Gated, at_gate};
-use ob_base::{Fault, Params};
+use crate::scripted::{Heard, Hold, clients, heard_at};
+use ob_base::Params;
 use ob_conduct::RunErr;
 use ob_desk::{Desk, Eager};
 use ob_flat::{FlatVault, format, head, prepare};
 use ob_mem::{Fail, MemSink, MemStore};
 use ob_run::run;
-use ob_runner::ScriptRunner;
-use ob_script::parse;
 use ob_seal::Keys;
 use ob_serial::Vault;
 use ob_session::Runner;
@@ -25,6 +22,7 @@ use ob_store::{Blind, Store};
 use std::alloc::Global;
 use std::process::Abort;
 use std::sync::Wait;
+use std::sync::atomic::Ordering::SeqCst;
 use std::thread::Threads;
 
 /// Keys of 96 bytes of 7.
@@ -43,11 +41,16 @@ pub fn blank(rt: &impl Abort, alloc: Global, cells: usize, fail: Fail) -> MemSto
     MemStore::new(alloc, cells, fails).expect(rt, "memory")
 }
 
-/// A store of eight keys, two batches of two places, two writes, of which this call fails.
+/// Eight keys, two batches of two places, two writes.
+pub fn small(rt: &impl Abort) -> Params {
+    Params::new(8, 2, 2, 3, 2, 2, 2, 2, 8).expect(rt, "parameters in range")
+}
+
+/// A new plain store of these, of which this call fails.
 pub fn formatted(rt: &impl Abort, alloc: Global, fail: Fail) -> MemStore
     ensures { (disk_of_store result).out ≡ 0 }
 {
-    let params = Params::new(8, 2, 2, 3, 2, 2, 2, 2, 8).expect(rt, "parameters in range");
+    let params = small(rt);
     let mut store = blank(rt, alloc, 25, fail);
     assert!(rt; format(&mut store, &test_keys(), &params, &mut Blind).is_ok());
     store
@@ -61,37 +64,7 @@ pub fn new_output(rt: &impl Abort, alloc: Global, room: usize) -> MemSink {
     output
 }
 
-// ---- two clients
-
-/// The runner of a client's part of a script.
-pub fn runner_of(rt: &impl Abort, alloc: Global, script: &[u8], number: u32) -> ScriptRunner
-    ensures { IsNewPair (λ r. client_of r) (λ r. bound_of r) (λ r said. MayHaveMade r said) number
-        result }
-{
-    let Ok(scripts) = parse(alloc, script, 8) else {
-        panic!(rt; "no script")
-    };
-    let Ok(runner) = ScriptRunner::new(alloc, &scripts, number) else {
-        panic!(rt; "no memory")
-    };
-    runner
-}
-
-/// Both runners.
-pub fn both<U: Runner>(rt: &impl Abort, alloc: Global, first: U, second: U) -> Vec<U>
-    requires first { IsNewPair U.client U.bound U.fits 1 first }
-    requires second { IsNewPair U.client U.bound U.fits 2 second }
-    ensures { AreTwo U.client U.bound U.fits result.items }
-{
-    let Ok(mut runners) = Vec::with_capacity(alloc, 2) else {
-        panic!(rt; "no memory")
-    };
-    runners.push_reserved(first);
-    runners.push_reserved(second);
-    runners
-}
-
-/// Opens a store.
+/// Opens a plain store.
 pub fn open<'a, S: Store>(rt: &impl Abort, alloc: Global, store: &'a mut S) -> FlatVault<'a, S>
     requires { (S.disk store.old).out ≡ 0 }
 {
@@ -127,11 +100,64 @@ pub fn desk_at<V: Vault>(rt: &impl Abort, alloc: Global, params: &Params, vault:
     desk
 }
 
-/// Runs the clients 1 and 2 over a vault.
-///
-/// # Errors
-/// Those of the run.
-pub fn run_over<R: Threads + Wait + Sync + Abort, V: Vault, U: Runner + Send>(
+// ---- runs
+
+/// A run of both clients.
+#[derive(Clone, Copy)]
+pub enum Run {
+    /// In threads, over a plain store: the room of its output.
+    Plain { room: usize },
+    /// In threads or by hand, where the second client finds no memory.
+    Starved { threads: bool },
+    /// In threads, over a ring store that holds its first batch.
+    Batch,
+    /// In threads, over a ring store that holds its first end: the room of its output, and whether
+    /// the second client stops the desk meanwhile.
+    End { room: usize, stops: bool },
+    /// The next one at that ring store, by hand, in which each client reads one key.
+    Next,
+}
+
+const PLAIN: &[u8] =
+    b"client 1\nbegin\nput 5 hi\ncommit\nbegin\nget 5\ncommit\nclient 2\nbegin\nget 6\ncommit\n";
+
+const STARVED: &[u8] = b"client 1\nbegin\nabort\nclient 2\nbegin\nabort\n";
+
+// Each client waits for a key.
+const BATCH: &[u8] = b"client 1\nbegin\nget 5\ncommit\nclient 2\nbegin\nget 6\nput 6 b\ncommit\n";
+
+const END: &[u8] =
+    b"client 1\nbegin\nput 5 a\ncommit\nclient 2\nbegin\nabort\nbegin\nput 6 b\ncommit\n";
+
+// In an epoch that was cut off no batch is left, so the keys are read in the one behind it.
+const READS: &[u8] = b"client 1\nbegin\ncommit\nbegin\nget 5\ncommit\n\
+    client 2\nbegin\ncommit\nbegin\nget 6\ncommit\n";
+
+// Its script, the room of its output, whether the second client stops the desk, and whether the
+// clients run in threads.
+fn setting_of(run: Run) -> (&'static [u8], usize, bool, bool) {
+    match run {
+        Run::Plain { room } => (PLAIN, room, false, true),
+        Run::Starved { threads } => (STARVED, 1000, true, threads),
+        Run::Batch => (BATCH, 1000, false, true),
+        Run::End { room, stops } => (END, room, stops, true),
+        Run::Next => (READS, 1000, false, false),
+    }
+}
+
+/// How a run went: how it ended, whether a write was held, what each client was told, and what was
+/// written.
+#[derive(Drop)]
+pub struct Went {
+    pub fault: Option<RunErr>,
+    pub reached: bool,
+    pub first: Heard,
+    pub second: Heard,
+    pub output: MemSink,
+}
+
+// Runs the clients 1 and 2 over a vault.
+fn run_over<R: Threads + Wait + Sync + Abort, V: Vault, U: Runner + Send>(
     rt: &R,
     alloc: Global,
     params: &Params,
@@ -151,97 +177,39 @@ pub fn run_over<R: Threads + Wait + Sync + Abort, V: Vault, U: Runner + Send>(
     )
 }
 
-/// Runs the clients 1 and 2 over a new store, of which this call fails. Its fetches pass a gate.
-///
-/// # Errors
-/// Those of the run.
-pub fn run_two<R: Threads + Wait + Sync + Abort, U: Runner + Send>(
+/// Runs both clients over a vault.
+pub fn run_pair<R: Threads + Wait + Sync + Abort, V: Vault>(
     rt: &R,
     alloc: Global,
-    fail: Fail,
-    gate: &Gate,
-    runners: &mut Vec<U>,
-    output: &mut MemSink,
-    threads: bool,
-) -> Result<(), RunErr>
-    requires two { AreTwo U.client U.bound U.fits runners.old.items }
-    requires quiet { IsQuiet U.turn }
+    params: &Params,
+    vault: &mut V,
+    hold: &Hold,
+    run: Run,
+) -> Went
+    requires { V.params vault.old ≡ params.now }
 {
-    let mut store = formatted(rt, alloc, fail);
-    let vault = open(rt, alloc, &mut store);
-    let params = vault.params();
-    let mut gated = Gated { vault, gate };
-    run_over(rt, alloc, &params, &mut gated, runners, output, threads)
-}
-
-/// How a run in threads of both clients of a script ends, where this call of its store fails, the
-/// fetches pass this gate, which the second client opens, and the output has so much room.
-///
-/// # Errors
-/// Those of the run.
-pub fn run_scripts<R: Threads + Wait + Sync + Abort>(
-    rt: &R,
-    alloc: Global,
-    script: &[u8],
-    fail: Fail,
-    gate: &Gate,
-    room: usize,
-) -> Result<(), RunErr> {
+    let (script, room, stops, threads) = setting_of(run);
     let mut output = new_output(rt, alloc, room);
-    let first = at_gate(rt, alloc, script, 1, gate, false);
-    let second = at_gate(rt, alloc, script, 2, gate, true);
-    let mut runners = both(rt, alloc, first, second);
-    run_two(rt, alloc, fail, gate, &mut runners, &mut output, true)
+    let mut pair = clients(rt, alloc, script, hold, stops);
+    let ended = run_over(rt, alloc, params, vault, &mut pair, &mut output, threads);
+    Went {
+        fault: ended.err(),
+        reached: hold.reached.load(SeqCst),
+        first: heard_at(&pair, 0),
+        second: heard_at(&pair, 1),
+        output,
+    }
 }
 
-// ---- faults
-
-const SCRIPT: &[u8] =
-    b"client 1\nbegin\nput 5 hi\ncommit\nbegin\nget 5\ncommit\nclient 2\nbegin\nget 6\ncommit\n";
-
-/// How a run in threads ends where this call of its store fails and the output has so much room.
-///
-/// # Errors
-/// Those of the run.
-pub fn ends<R: Threads + Wait + Sync + Abort>(
+/// Runs both clients over a new plain store, of which this call fails.
+pub fn run_plain<R: Threads + Wait + Sync + Abort>(
     rt: &R,
     alloc: Global,
     fail: Fail,
-    room: usize,
-) -> Result<(), RunErr> {
-    run_scripts(rt, alloc, SCRIPT, fail, &Gate::new(true), room)
-}
-
-// The store failed; or it did where the end of this epoch is in doubt; or the output did.
-const FAILED: Option<RunErr> = Some(RunErr::Fault(Fault::StoreFault { unsure: None }));
-
-const FIRST_UNSURE: Option<RunErr> = Some(RunErr::Fault(Fault::StoreFault { unsure: Some(1) }));
-
-const SECOND_UNSURE: Option<RunErr> = Some(RunErr::Fault(Fault::StoreFault { unsure: Some(2) }));
-
-const SINK: Option<RunErr> = Some(RunErr::Fault(Fault::SinkFault));
-
-// Counted from 0, the first end's last write is 31 and its last sync 15, and an end makes 11
-// writes and 4 syncs. There are two ends, or three where the second client comes late.
-const FAULTS: &[(Fail, usize, Option<RunErr>)] = &[
-    (Fail::Write(30), 1000, FAILED),
-    (Fail::Write(31), 1000, FIRST_UNSURE),
-    (Fail::Write(41), 1000, FAILED),
-    (Fail::Write(42), 1000, SECOND_UNSURE),
-    (NEVER, 1000, None),
-    (Fail::Sync(14), 1000, FAILED),
-    (Fail::Sync(15), 1000, FIRST_UNSURE),
-    (Fail::Sync(19), 1000, SECOND_UNSURE),
-    (Fail::Sync(20), 0, SINK),
-    (Fail::Sync(20), 30, SINK),
-];
-
-#[test]
-fn faults_are_told_and_each_thread_ends(rt: HostRuntime) {
-    for (i, (fail, room, wanted)) in FAULTS.iter().enumerate() {
-        assert!(&rt;
-            ends(&rt, rt.alloc(), *fail, *room).err() == *wanted,
-            "row {i}"
-        );
-    }
+    run: Run,
+) -> Went {
+    let mut store = formatted(rt, alloc, fail);
+    let mut vault = open(rt, alloc, &mut store);
+    let params = vault.params();
+    run_pair(rt, alloc, &params, &mut vault, &Hold::new(true), run)
 }

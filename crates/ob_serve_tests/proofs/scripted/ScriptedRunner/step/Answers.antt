@@ -3,7 +3,7 @@ use Rattle.ob_session.specs.Steps.{Leads}
 use Rattle.ob_hall.specs.Passes.{Steps}
 use Rattle.ob_runner.specs.RunnerViews.{client_of, runner_state}
 use Rattle.ob_serve_tests.proofs.Overlapping.{leads_again, fits_asked, stands_asked}
-use Rattle.ob_serve_tests.proofs.overlap.OverlappingRunner.step.Goals as goal
+use Rattle.ob_serve_tests.proofs.scripted.ScriptedRunner.step.Goals as goal
 
 pub returns-in-Some-clause-made : goal.returns-in-Some-clause-made
 returns-in-Some-clause-made c =
