@@ -15,6 +15,4 @@ mod refusals;
 #[cfg(test)]
 mod rows;
 #[cfg(test)]
-mod shown;
-#[cfg(test)]
 mod steps;
