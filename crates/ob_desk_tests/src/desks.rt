@@ -1,7 +1,7 @@
 //! A desk's calls as data, and what each is answered.
 
 use ob_base::{Fault, Key, Params, Value, Write};
-use ob_desk::{Begun, Desk, Done, Got, Look, Txn, has_closed};
+use ob_desk::{Begun, Desk, Done, Got, Txn, has_closed};
 use ob_desk_calls as calls;
 use ob_desk_calls::{may_close, may_look, may_publish, may_sign_off, may_take};
 use ob_serial::{EpochRecord, Outcome, Why};
@@ -11,7 +11,6 @@ use std::process::Abort;
 
 /// A call. The transaction of number n is the first epoch's of ticket n, which client n began; that
 /// of number 20 + n is the second epoch's of ticket n, which client n + 1 began.
-#[derive(Clone, Copy)]
 pub enum Call {
     // Another desk from here on, on which clients 1 to n have begun.
     Anew(u32),
@@ -113,47 +112,22 @@ fn seven() -> Option<Value> {
     Value::new(b"7")
 }
 
-fn is_seven(value: &Value) -> bool {
-    value.as_slice() == b"7".as_slice()
-}
-
-fn of_got(got: Option<Got>) -> Answer {
-    let Some(got) = got else {
-        return Answer::Not;
-    };
-    match got {
-        Got::Value { value: None } => Answer::Absent,
-        Got::Value { value: Some(value) } => {
-            if is_seven(&value) {
-                Answer::Seven
-            } else {
-                Answer::Not
-            }
-        }
-        Got::Queued => Answer::Queued,
-        Got::Aborted { why } => Answer::Aborted(why),
+fn of_got(got: &Option<Got>) -> Answer {
+    match *got {
+        Some(Got::Value { value: None }) => Answer::Absent,
+        Some(Got::Value { value }) if value == seven() => Answer::Seven,
+        Some(Got::Queued) => Answer::Queued,
+        Some(Got::Aborted { why }) => Answer::Aborted(why),
+        _ => Answer::Not,
     }
 }
 
-fn of_done(done: Option<Done>) -> Answer {
-    let Some(done) = done else {
-        return Answer::Not;
-    };
-    match done {
-        Done::Yes => Answer::Yes,
-        Done::Aborted { why } => Answer::Aborted(why),
+fn of_done(done: &Option<Done>) -> Answer {
+    match *done {
+        Some(Done::Yes) => Answer::Yes,
+        Some(Done::Aborted { why }) => Answer::Aborted(why),
+        None => Answer::Not,
     }
-}
-
-// 8 keys, 2 read batches of 2 places, 2 write places, 6 clients.
-fn open_to_six(rt: &impl Abort, alloc: Global) -> Desk {
-    let Ok(p) = Params::new(8, 2, 2, 3, 2, 2, 2, 2, 6) else {
-        panic!(rt; "parameters in range")
-    };
-    let Ok(desk) = Desk::new(alloc, &p, 1, 2, &[1, 2, 3, 4, 5, 6], NO_SHARES) else {
-        panic!(rt; "no memory")
-    };
-    desk
 }
 
 // One key for each client.
@@ -162,56 +136,44 @@ const ONE_EACH: Shares = Shares {
     writes: Some(1),
 };
 
-// 8 keys, 2 read batches of 2 places, of which so many are left, 2 write places, 2 clients.
-fn open_to_two(rt: &impl Abort, alloc: Global, left: u32) -> Desk {
+// The desk that the call opens, if it opens one: of 8 keys, 2 read batches of 2 places, and 2 write
+// places. At one with shares are 2 clients, else 6, of whom none has begun.
+fn open(alloc: Global, call: &Call) -> Option<Desk> {
     let Ok(p) = Params::new(8, 2, 2, 3, 2, 2, 2, 2, 6) else {
-        panic!(rt; "parameters in range")
+        return None;
     };
-    assert!(rt; left <= 2);
-    let Ok(desk) = Desk::new(alloc, &p, 1, left, &[1, 2], ONE_EACH) else {
-        panic!(rt; "no memory")
-    };
-    desk
-}
-
-// How many clients have begun at the desk that a call opens, if it opens one.
-fn begun_at(call: &Call) -> Option<u32> {
     match *call {
-        Call::Anew(begun) => Some(begun),
-        Call::Shared(_) => Some(2),
+        Call::Anew(_) => Desk::new(alloc, &p, 1, 2, &[1, 2, 3, 4, 5, 6], NO_SHARES).ok(),
+        Call::Shared(left) if left <= 2 => Desk::new(alloc, &p, 1, left, &[1, 2], ONE_EACH).ok(),
         _ => None,
     }
 }
 
-// The desk that the call opens, at which no client has begun.
-fn open(rt: &impl Abort, alloc: Global, call: &Call) -> Desk {
-    match *call {
-        Call::Shared(left) => open_to_two(rt, alloc, left),
-        _ => open_to_six(rt, alloc),
-    }
-}
-
-// The calls, as far as they may be made.
-fn begin(rt: &impl Abort, desk: &mut Desk, client: u32) -> Answer {
-    let Some(begun) = calls::begin(desk, client).expect(rt, "memory") else {
-        return Answer::Not;
-    };
-    match begun {
-        Begun::Txn { txn } => Answer::Began {
+// The calls, as far as they may be made. Want of memory is no answer that is wanted.
+fn begin(desk: &mut Desk, client: u32) -> Answer {
+    match calls::begin(desk, client) {
+        Ok(Some(Begun::Txn { txn })) => Answer::Began {
             epoch: txn.epoch,
             ticket: txn.ticket,
         },
-        Begun::Stopped { fault } => Answer::StoppedBy(fault),
+        Ok(Some(Begun::Stopped { fault })) => Answer::StoppedBy(fault),
+        _ => Answer::Not,
     }
 }
 
-fn get(rt: &impl Abort, desk: &mut Desk, txn: &Txn, key: Key) -> Answer {
-    of_got(calls::get(desk, txn, key).expect(rt, "memory"))
+fn get(desk: &mut Desk, txn: &Txn, key: Key) -> Answer {
+    match calls::get(desk, txn, key) {
+        Ok(got) => of_got(&got),
+        Err(_) => Answer::Not,
+    }
 }
 
 // A put of seven, or a delete where there is no value.
-fn write(rt: &impl Abort, desk: &mut Desk, txn: &Txn, key: Key, value: &Option<Value>) -> Answer {
-    of_done(calls::write(desk, txn, key, value).expect(rt, "memory"))
+fn write(desk: &mut Desk, txn: &Txn, key: Key, value: &Option<Value>) -> Answer {
+    match calls::write(desk, txn, key, value) {
+        Ok(done) => of_done(&done),
+        Err(_) => Answer::Not,
+    }
 }
 
 fn abort(desk: &mut Desk, txn: &Txn) -> Answer {
@@ -222,14 +184,12 @@ fn abort(desk: &mut Desk, txn: &Txn) -> Answer {
 }
 
 fn settled(desk: &Desk, txn: &Txn) -> Answer {
-    let Some(outcome) = calls::settled(desk, txn) else {
-        return Answer::Not;
-    };
-    match outcome {
-        None => Answer::Open,
-        Some(Outcome::Committed) => Answer::Committed,
-        Some(Outcome::Aborted { why }) => Answer::Aborted(why),
-        Some(Outcome::Unsure { epoch }) => Answer::Unsure(epoch),
+    match calls::settled(desk, txn) {
+        None => Answer::Not,
+        Some(None) => Answer::Open,
+        Some(Some(Outcome::Committed)) => Answer::Committed,
+        Some(Some(Outcome::Aborted { why })) => Answer::Aborted(why),
+        Some(Some(Outcome::Unsure { epoch })) => Answer::Unsure(epoch),
     }
 }
 
@@ -253,33 +213,26 @@ fn round(desk: &mut Desk) -> Answer {
     Answer::Yes
 }
 
-fn of_write(write: &Write) -> Option<Wrote> {
-    match write.value {
-        None => Some(Wrote::Del(write.key)),
-        Some(value) => {
-            if is_seven(&value) {
-                Some(Wrote::Put(write.key))
-            } else {
-                None
-            }
-        }
-    }
-}
-
+// The nth write, where that is a delete, or a put of seven.
 fn wrote_at(writes: &[Write], n: usize) -> Option<Wrote> {
-    match writes.get(n) {
-        Some(write) => of_write(write),
-        None => None,
+    let write = writes.get(n)?;
+    if write.value.is_none() {
+        return Some(Wrote::Del(write.key));
+    }
+    if write.value == seven() {
+        Some(Wrote::Put(write.key))
+    } else {
+        None
     }
 }
 
-fn close(rt: &impl Abort, desk: &mut Desk, alloc: Global) -> Answer {
+fn close(desk: &mut Desk, alloc: Global) -> Answer {
+    let Ok(mut out) = Vec::with_capacity(alloc, desk.params().writes as usize) else {
+        return Answer::Not;
+    };
     if !may_close(desk) {
         return Answer::Not;
     }
-    let Ok(mut out) = Vec::with_capacity(alloc, desk.params().writes as usize) else {
-        panic!(rt; "no memory")
-    };
     desk.close(&mut out);
     if out.len() > 2 {
         return Answer::Not;
@@ -290,14 +243,8 @@ fn close(rt: &impl Abort, desk: &mut Desk, alloc: Global) -> Answer {
 // How the transaction ended whose ticket is the nth.
 fn ended(told: &EpochRecord<Key>, n: usize, ticket: u64) -> Option<Outcome<Key>> {
     match told.txns.get(n) {
-        Some(txn) => {
-            if txn.ticket == ticket {
-                Some(txn.outcome)
-            } else {
-                None
-            }
-        }
-        None => None,
+        Some(txn) if txn.ticket == ticket => Some(txn.outcome),
+        _ => None,
     }
 }
 
@@ -319,27 +266,15 @@ fn look(desk: &Desk) -> Answer {
     if !may_look(desk) {
         return Answer::Not;
     }
-    let Look {
-        waiting,
-        live,
-        queued,
-        left,
-        txns,
-        clients,
-    } = desk.look();
+    let seen = desk.look();
     Answer::Seen {
-        waiting,
-        live,
-        queued,
-        left,
-        txns,
-        clients,
+        waiting: seen.waiting,
+        live: seen.live,
+        queued: seen.queued,
+        left: seen.left,
+        txns: seen.txns,
+        clients: seen.clients,
     }
-}
-
-fn stop(desk: &mut Desk, fault: Fault) -> Answer {
-    desk.stop(fault);
-    Answer::Yes
 }
 
 fn unsure(desk: &mut Desk, fault: Fault) -> Answer {
@@ -358,62 +293,74 @@ fn stopped(desk: &Desk) -> Answer {
 }
 
 // A call's answer, where it opens no desk.
-fn make(rt: &impl Abort, desk: &mut Desk, alloc: Global, call: &Call) -> Answer {
+fn make(desk: &mut Desk, alloc: Global, call: &Call) -> Answer {
     match *call {
         Call::Anew(_) | Call::Shared(_) => Answer::Not,
-        Call::Begin(client) => begin(rt, desk, client),
-        Call::Get(n, key) => get(rt, desk, &txn(n), key),
-        Call::Poll(n) => of_got(calls::poll(desk, &txn(n))),
-        Call::Put(n, key) => write(rt, desk, &txn(n), key, &seven()),
-        Call::Del(n, key) => write(rt, desk, &txn(n), key, &None),
-        Call::Commit(n) => of_done(calls::commit(desk, &txn(n))),
+        Call::Begin(client) => begin(desk, client),
+        Call::Get(n, key) => get(desk, &txn(n), key),
+        Call::Poll(n) => of_got(&calls::poll(desk, &txn(n))),
+        Call::Put(n, key) => write(desk, &txn(n), key, &seven()),
+        Call::Del(n, key) => write(desk, &txn(n), key, &None),
+        Call::Commit(n) => of_done(&calls::commit(desk, &txn(n))),
         Call::Abort(n) => abort(desk, &txn(n)),
         Call::Settled(n) => settled(desk, &txn(n)),
         Call::SignOff(n) => sign_off(desk, n),
         Call::Round => round(desk),
-        Call::Close => close(rt, desk, alloc),
+        Call::Close => close(desk, alloc),
         Call::Publish => publish(desk),
         Call::Look => look(desk),
-        Call::Stop(fault) => stop(desk, fault),
+        Call::Stop(fault) => {
+            desk.stop(fault);
+            Answer::Yes
+        }
         Call::Unsure(fault) => unsure(desk, fault),
         Call::Stopped => stopped(desk),
     }
 }
 
-fn begin_first(rt: &impl Abort, desk: &mut Desk, begun: u32) {
-    for n in 0..begun {
-        begin(rt, desk, n + 1);
+// How many clients have begun at the desk that a call opens.
+fn begun_at(call: &Call) -> u32 {
+    match *call {
+        Call::Anew(begun) => begun,
+        _ => 2,
     }
 }
 
-// How many of the calls up to the next that opens a desk are answered as wanted, up to the first
-// that isn't.
-fn play(rt: &impl Abort, desk: &mut Desk, alloc: Global, rows: &[Row]) -> usize {
+// How many of the calls are answered as wanted, up to the first that isn't, or opens another desk.
+fn played(desk: &mut Desk, alloc: Global, rows: &[Row]) -> usize {
     for i in 0..rows.len() {
-        let (call, wanted) = &rows[i];
-        if begun_at(call).is_some() || make(rt, desk, alloc, call) != *wanted {
+        if make(desk, alloc, &rows[i].0) != rows[i].1 {
             return i;
         }
     }
     rows.len()
 }
 
-// The same at the desk that the call opens.
-fn play_at(rt: &impl Abort, alloc: Global, call: &Call, rows: &[Row]) -> usize {
-    let mut desk = open(rt, alloc, call);
-    begin_first(rt, &mut desk, begun_at(call).unwrap_or(0));
-    play(rt, &mut desk, alloc, rows)
+// The same at the desk that the call opens; none where it opens none.
+fn played_at(alloc: Global, call: &Call, rows: &[Row]) -> Option<usize> {
+    let mut desk = open(alloc, call)?;
+    for n in 0..begun_at(call) {
+        begin(&mut desk, n + 1);
+    }
+    Some(played(&mut desk, alloc, rows))
+}
+
+// How many of the calls are answered as wanted, up to the first that isn't.
+fn answered(alloc: Global, rows: &[Row]) -> usize {
+    let mut next: usize = 0;
+    for i in 0..rows.len() {
+        if i == next {
+            let Some(many) = played_at(alloc, &rows[i].0, &rows[i + 1..]) else {
+                return i;
+            };
+            next = i.saturating_add(many).saturating_add(1);
+        }
+    }
+    next
 }
 
 /// Makes the calls, each of which has to be answered as wanted.
 pub fn expect_all(rt: &impl Abort, alloc: Global, rows: &[Row]) {
-    let mut next: usize = 0;
-    for i in 0..rows.len() {
-        if i == next {
-            assert!(rt; begun_at(&rows[i].0).is_some(), "call {i}");
-            let many = play_at(rt, alloc, &rows[i].0, &rows[i + 1..]);
-            next = i.saturating_add(many).saturating_add(1);
-        }
-    }
-    assert!(rt; next == rows.len());
+    let many = answered(alloc, rows);
+    assert!(rt; many == rows.len(), "call {many}");
 }

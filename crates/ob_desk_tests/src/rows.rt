@@ -2,7 +2,6 @@
 
 use crate::desks::{Answer, Call, Row, Wrote, expect_all};
 use ob_base::Fault;
-use ob_desk::{Beat, Eager, Hasty};
 use ob_serial::{Outcome, Why};
 
 const FALLS: Answer = Answer::Aborted(Why::Depends { on: 1 });
@@ -91,6 +90,36 @@ const ONE_EPOCH: &[Row] = &[
     (
         Call::Get(6, 7),
         Answer::Aborted(Why::ReadsFull { queued: 0, left: 0 }),
+    ),
+    // A look counts who waits, who is live, and what is queued and left.
+    (Call::Anew(4), Answer::Yes),
+    (Call::Get(1, 5), Answer::Queued),
+    (Call::Commit(2), Answer::Yes),
+    (Call::Abort(3), Answer::Aborted(Why::Asked)),
+    (Call::SignOff(3), Answer::Yes),
+    (Call::SignOff(4), Answer::Not),
+    (
+        Call::Look,
+        Answer::Seen {
+            waiting: 2,
+            live: 3,
+            queued: 1,
+            left: 2,
+            txns: 4,
+            clients: 5,
+        },
+    ),
+    (Call::Round, Answer::Yes),
+    (
+        Call::Look,
+        Answer::Seen {
+            waiting: 1,
+            live: 3,
+            queued: 0,
+            left: 1,
+            txns: 4,
+            clients: 5,
+        },
     ),
 ];
 
@@ -222,39 +251,6 @@ const STOPS: &[Row] = &[
     (Call::Unsure(DOUBT), Answer::Not),
 ];
 
-const LOOKS: &[Row] = &[
-    // A look counts who waits, who is live, and what is queued and left.
-    (Call::Anew(4), Answer::Yes),
-    (Call::Get(1, 5), Answer::Queued),
-    (Call::Commit(2), Answer::Yes),
-    (Call::Abort(3), Answer::Aborted(Why::Asked)),
-    (Call::SignOff(3), Answer::Yes),
-    (Call::SignOff(4), Answer::Not),
-    (
-        Call::Look,
-        Answer::Seen {
-            waiting: 2,
-            live: 3,
-            queued: 1,
-            left: 2,
-            txns: 4,
-            clients: 5,
-        },
-    ),
-    (Call::Round, Answer::Yes),
-    (
-        Call::Look,
-        Answer::Seen {
-            waiting: 1,
-            live: 3,
-            queued: 0,
-            left: 1,
-            txns: 4,
-            clients: 5,
-        },
-    ),
-];
-
 #[test]
 fn calls_in_one_epoch_are_answered_so(rt: HostRuntime) {
     expect_all(&rt, rt.alloc(), ONE_EPOCH);
@@ -268,22 +264,4 @@ fn calls_in_two_epochs_are_answered_so(rt: HostRuntime) {
 #[test]
 fn calls_at_a_stop_are_answered_so(rt: HostRuntime) {
     expect_all(&rt, rt.alloc(), STOPS);
-}
-
-#[test]
-fn a_look_counts(rt: HostRuntime) {
-    expect_all(&rt, rt.alloc(), LOOKS);
-}
-
-// Whether each beat is due as wanted.
-fn beats_are_due_so() -> bool {
-    Eager.due(2, 2, 0, 2)
-        && !Eager.due(1, 2, 9, 2)
-        && !Eager.due(0, 0, 9, 2)
-        && Hasty.due(0, 0, 0, 0)
-}
-
-#[test]
-fn an_eager_beat_waits_for_all(rt: HostRuntime) {
-    assert!(rt; beats_are_due_so());
 }

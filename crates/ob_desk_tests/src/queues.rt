@@ -5,7 +5,6 @@ ghost use Rattle.std.specs.Prelude.{◌≡◌, ◌≤◌, ◌<◌, length};
 use ob_base::{Key, Params, Value};
 use ob_queue::Queue;
 use std::alloc::Global;
-use std::process::Abort;
 
 // A call on a queue, and what it is answered.
 enum Row {
@@ -16,7 +15,7 @@ enum Row {
     Take(Option<Key>, Option<Key>),
     // A batch is taken, of these keys, each of which has the value, or none.
     Round(Option<Key>, bool, Option<Key>, bool),
-    // So many batches are left in the next epoch.
+    // So many batches are left in the next epoch, in which the queue is as new.
     Clear(u32),
     // How many keys are queued and in flight, how many batches are left, and whether it is full.
     Counts(u64, u64, u64, bool),
@@ -88,21 +87,26 @@ fn is_answered(queue: &mut Queue, row: &Row) -> bool {
     }
 }
 
-// Whether all these calls are answered so, on a queue with batches of 2 places, 2 of which are
-// left.
-fn are_answered(rt: &impl Abort, alloc: Global, rows: &[Row]) -> bool {
-    let params = Params::new(8, 2, 2, 3, 4, 2, 6, 2, 6).expect(rt, "parameters in range");
-    assert!(rt; params.batches >= 2);
-    let mut queue = Queue::new(alloc, &params, 2).expect(rt, "memory");
-    for row in rows {
-        if !is_answered(&mut queue, row) {
-            return false;
-        }
+// A queue with batches of 2 places, 2 of which are left.
+fn opened(alloc: Global) -> Option<Queue> {
+    match Params::new(8, 2, 2, 3, 4, 2, 6, 2, 6) {
+        Ok(params) if params.batches >= 2 => Queue::new(alloc, &params, 2).ok(),
+        _ => None,
     }
-    true
 }
 
-const QUEUED_ONCE: &[Row] = &[
+// How many of these calls are answered so, up to the first that isn't.
+fn answered(queue: &mut Queue, rows: &[Row]) -> usize {
+    for i in 0..rows.len() {
+        if !is_answered(queue, &rows[i]) {
+            return i;
+        }
+    }
+    rows.len()
+}
+
+const ROWS: &[Row] = &[
+    // Keys are queued once.
     Row::Ask(5),
     Row::Ask(3),
     Row::Ask(5),
@@ -115,14 +119,8 @@ const QUEUED_ONCE: &[Row] = &[
     Row::TakeBack,
     Row::Asked(7, true),
     Row::Asked(4, false),
-];
-
-#[test]
-fn keys_are_queued_once(rt: HostRuntime) {
-    assert!(rt; are_answered(&rt, rt.alloc(), QUEUED_ONCE));
-}
-
-const FLYING: &[Row] = &[
+    // Keys in flight aren't queued.
+    Row::Clear(2),
     Row::Ask(5),
     Row::Ask(3),
     Row::Ask(7),
@@ -131,14 +129,8 @@ const FLYING: &[Row] = &[
     Row::Counts(1, 2, 1, false),
     Row::Ask(1),
     Row::Counts(2, 2, 1, true),
-];
-
-#[test]
-fn keys_in_flight_are_not_queued(rt: HostRuntime) {
-    assert!(rt; are_answered(&rt, rt.alloc(), FLYING));
-}
-
-const DELIVERED: &[Row] = &[
+    // Values are delivered.
+    Row::Clear(2),
     Row::Ask(5),
     Row::Ask(3),
     Row::Ask(7),
@@ -149,14 +141,8 @@ const DELIVERED: &[Row] = &[
     Row::Counts(1, 0, 1, false),
     Row::Round(Some(7), true, None, true),
     Row::Counts(0, 0, 0, true),
-];
-
-#[test]
-fn values_are_delivered(rt: HostRuntime) {
-    assert!(rt; are_answered(&rt, rt.alloc(), DELIVERED));
-}
-
-const CLEARED: &[Row] = &[
+    // A queue that is cleared is as new, with a batch in flight too.
+    Row::Clear(2),
     Row::Ask(5),
     Row::Ask(3),
     Row::Ask(7),
@@ -169,6 +155,7 @@ const CLEARED: &[Row] = &[
 ];
 
 #[test]
-fn cleared_is_as_new(rt: HostRuntime) {
-    assert!(rt; are_answered(&rt, rt.alloc(), CLEARED));
+fn keys_are_queued_taken_and_delivered(rt: HostRuntime) {
+    let mut queue = opened(rt.alloc()).expect(&rt, "a queue");
+    assert!(rt; answered(&mut queue, ROWS) == ROWS.len());
 }
