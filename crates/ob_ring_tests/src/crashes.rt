@@ -4,7 +4,7 @@ ghost use Rattle.std.specs.Prelude.{◌≡◌, ◌≤◌};
 ghost use Rattle.ob_mem.specs.Memory.{disk_of_store};
 
 use crate::serving::{Put, Step, Told};
-use crate::small::{insist, insist_at, left_after, let_go, new_store, run, run_by, test_keys};
+use crate::small::{left_after, new_store, run, run_by, test_keys};
 use ob_base::{Check, Fault, Value};
 use ob_cells::read_cells;
 use ob_mem::{Fail, MemStore};
@@ -38,12 +38,8 @@ fn image_of<R: Abort + Threads + Sync>(rt: &R, alloc: Global, left: &mut MemStor
         Told::Done { epoch, .. } => (epoch, asked.found == hi),
         Told::Misuse => {
             let ended = run(rt, alloc, left, &[Step::End(&[]), FIVE]);
-            let epoch = if ended.told == (Told::Done { epoch: 1, left: 1 }) {
-                0
-            } else {
-                9
-            };
-            (epoch, ended.found == hi)
+            assert!(rt; ended.told == Told::Done { epoch: 1, left: 1 });
+            (0, ended.found == hi)
         }
         _ => (9, false),
     }
@@ -58,13 +54,8 @@ fn epoch_store<R: Abort + Threads + Sync>(rt: &R, alloc: Global, lanes: usize) -
 {
     let formatted = new_store(rt, alloc, &[]);
     let mut store = left_after(rt, &formatted, 72, None);
-    let_go(formatted);
     let outcome = run_by(rt, alloc, &mut store, lanes, EPOCH);
-    insist(
-        rt,
-        outcome.told == Told::Done { epoch: 1, left: 2 },
-        "an epoch",
-    );
+    assert!(rt; outcome.told == Told::Done { epoch: 1, left: 2 });
     store
 }
 
@@ -78,68 +69,52 @@ fn leaves_so<R: Abort + Threads + Sync>(
     ended: bool,
 ) -> bool {
     let mut left = left_after(rt, store, moment, filling);
-    let (epoch, present) = image_of(rt, alloc, &mut left);
-    let_go(left);
-    epoch == u64::from(ended) && present == ended
-}
-
-// Each crash of an epoch by so many lanes leaves one of the two.
-fn crash_at_each<R: Abort + Threads + Sync>(rt: &R, alloc: Global, lanes: usize)
-    requires { (1 ≤ lanes) × (lanes ≤ 16) }
-{
-    let store = epoch_store(rt, alloc, lanes);
-    for i in 0..CRASHES.len() {
-        let (filling, set) = CRASHES[i];
-        for moment in 0..57 {
-            let so = leaves_so(rt, alloc, &store, moment, filling, moment >= set);
-            insist_at(rt, so, moment as u64);
-        }
-    }
-    let_go(store);
+    image_of(rt, alloc, &mut left) == (u64::from(ended), ended)
 }
 
 #[test]
 fn a_crash_leaves_one_of_two_epochs_whole(rt: HostRuntime) {
-    crash_at_each(&rt, rt.alloc(), 1);
-    crash_at_each(&rt, rt.alloc(), 4);
+    for lanes in [1, 4] {
+        let store = epoch_store(&rt, rt.alloc(), lanes);
+        for &(filling, set) in CRASHES {
+            for moment in 0..57 {
+                let so = leaves_so(&rt, rt.alloc(), &store, moment, filling, moment >= set);
+                assert!(rt; so, "at {moment}, by {lanes} lanes");
+            }
+        }
+    }
 }
 
-// The epoch of what a crash leaves at the end, where the cells that aren't sure hold this.
-fn epoch_left<R: Abort + Threads + Sync>(
-    rt: &R,
-    alloc: Global,
-    store: &MemStore,
-    filling: Option<u8>,
-) -> u64 {
-    let mut left = left_after(rt, store, 1000, filling);
-    let told = run(rt, alloc, &mut left, &[]).told;
-    let_go(left);
-    match told {
+// The epoch of what a crash left.
+fn epoch_of<R: Abort + Threads + Sync>(rt: &R, alloc: Global, left: &mut MemStore) -> u64
+    requires { (disk_of_store left.old).out ≡ 0 }
+{
+    match run(rt, alloc, left, &[]).told {
         Told::Done { epoch, .. } => epoch,
         _ => 9,
     }
 }
 
-// Whether the epoch by so many lanes is told so where this call fails, and crashes leave no epoch
-// then, the greatest of them this one.
-fn fails_so<R: Abort + Threads + Sync>(
+// How the epoch goes by so many lanes where this call fails, and the least and the greatest epoch
+// that a crash may leave then.
+fn failed_at<R: Abort + Threads + Sync>(
     rt: &R,
     alloc: Global,
     lanes: usize,
     fail: Fail,
-    told: Told,
-    most: u64,
-) -> bool
+) -> (Told, u64, u64)
     requires { (1 ≤ lanes) × (lanes ≤ 16) }
 {
     let mut store = new_store(rt, alloc, &[fail]);
     let outcome = run_by(rt, alloc, &mut store, lanes, EPOCH);
-    let last = epoch_left(rt, alloc, &store, None);
-    let zeros = epoch_left(rt, alloc, &store, Some(0));
-    let others = epoch_left(rt, alloc, &store, Some(0xA5));
-    let_go(store);
-    let least = last.min(zeros).min(others);
-    outcome.told == told && least == 0 && last.max(zeros).max(others) == most
+    let (mut least, mut most) = (9, 0);
+    for filling in &[None, Some(0), Some(0xA5)] {
+        let mut left = left_after(rt, &store, 1000, *filling);
+        let epoch = epoch_of(rt, alloc, &mut left);
+        least = least.min(epoch);
+        most = most.max(epoch);
+    }
+    (outcome.told, least, most)
 }
 
 const FAILED: Fault = Fault::StoreFault { unsure: None };
@@ -160,8 +135,9 @@ fn told_at(number: u64, opening: u64, batches: u64, last: u64) -> Told {
     }
 }
 
-// Each of the epoch's 46 writes and 10 syncs fails. Of the format 62 and 10 come before.
-fn fail_each_call<R: Abort + Threads + Sync>(rt: &R, alloc: Global) {
+// Of the format 62 writes and 10 syncs come before.
+#[test]
+fn a_failed_call_refuses_what_made_it(rt: HostRuntime) {
     for i in 0..56 {
         let (fail, told) = if i < 46 {
             (Fail::Write(62 + i), told_at(i, 2, 6, 45))
@@ -169,13 +145,9 @@ fn fail_each_call<R: Abort + Threads + Sync>(rt: &R, alloc: Global) {
             (Fail::Sync(i - 36), told_at(i - 46, 3, 7, 9))
         };
         let most = u64::from(i == 45 || i == 55);
-        insist_at(rt, fails_so(rt, alloc, 1, fail, told, most), i);
+        let went = failed_at(&rt, rt.alloc(), 1, fail);
+        assert!(rt; went == (told, 0, most), "call {i}");
     }
-}
-
-#[test]
-fn a_failed_call_refuses_what_made_it(rt: HostRuntime) {
-    fail_each_call(&rt, rt.alloc());
 }
 
 // The cells that are read behind the head, in order: those of the opening, of two batches and of
@@ -212,23 +184,21 @@ const READS: &[Reads] = &[
     },
 ];
 
-// Each of these reads fails, by one lane and by four.
-fn fail_each_read<R: Abort + Threads + Sync>(rt: &R, alloc: Global, reads: &Reads) {
-    for i in 0..reads.cells.len() {
-        let cell = reads.cells[i];
-        let fail = Fail::Read {
-            cell,
-            writes: reads.writes,
-        };
-        insist_at(rt, fails_so(rt, alloc, 1, fail, reads.told, 0), cell);
-        insist_at(rt, fails_so(rt, alloc, 4, fail, reads.told, 0), cell);
-    }
-}
-
 #[test]
 fn a_failed_read_refuses_what_made_it(rt: HostRuntime) {
-    for i in 0..READS.len() {
-        fail_each_read(&rt, rt.alloc(), &READS[i]);
+    for reads in READS {
+        for cell in reads.cells {
+            let (cell, writes) = (*cell, reads.writes);
+            let read = Fail::Read { cell, writes };
+            assert!(rt;
+                failed_at(&rt, rt.alloc(), 1, read) == (reads.told, 0, 0),
+                "read {cell}"
+            );
+            assert!(rt;
+                failed_at(&rt, rt.alloc(), 4, read) == (reads.told, 0, 0),
+                "read {cell}"
+            );
+        }
     }
 }
 
@@ -239,13 +209,9 @@ fn flip<S: Store>(rt: &impl Abort, store: &mut S, cell: u64)
 {
     let mut cells = [[0; 128]];
     assert!(rt; cell < 200);
-    insist(
-        rt,
-        read_cells(store, cell, &mut cells, &mut Blind).is_ok(),
-        "a read",
-    );
+    assert!(rt; read_cells(store, cell, &mut cells, &mut Blind).is_ok());
     cells[0][40] ^= 4;
-    insist(rt, store.write(cell, &cells[0]).is_ok(), "a write");
+    assert!(rt; store.write(cell, &cells[0]).is_ok());
 }
 
 // Whether a call is refused, a fetch or an end, since this cell is torn.
@@ -266,18 +232,13 @@ fn tears_at<R: Abort + Threads + Sync>(rt: &R, alloc: Global, cell: u64, by_fetc
     let mut store = new_store(rt, alloc, &[]);
     flip(rt, &mut store, cell);
     let outcome = run(rt, alloc, &mut store, EPOCH);
-    let_go(store);
     is_torn_at(outcome.told, cell, by_fetch)
 }
 
-// A changed cell, and whether a fetch reads it first, or the end.
-const CHANGED: &[(u64, bool)] = &[(41, true), (55, true), (49, false), (65, false)];
-
 #[test]
 fn a_changed_slot_is_told_by_its_cell(rt: HostRuntime) {
-    for i in 0..CHANGED.len() {
-        let (cell, by_fetch) = CHANGED[i];
-        insist_at(&rt, tears_at(&rt, rt.alloc(), cell, by_fetch), cell);
+    for &(cell, by_fetch) in &[(41, true), (55, true), (49, false), (65, false)] {
+        assert!(rt; tears_at(&rt, rt.alloc(), cell, by_fetch));
     }
 }
 
@@ -294,10 +255,10 @@ fn forge(rt: &impl Abort, store: &mut MemStore, key: u8, len: u8)
     plain[6] = b'i';
     let mut sealer = Sealer::new(&test_keys(), 2);
     for _seal in 0..2 {
-        insist(rt, sealer.seal(0, &[0; 96]).is_ok(), "a seal");
+        assert!(rt; sealer.seal(0, &[0; 96]).is_ok());
     }
     let bytes = sealer.seal(89, &plain).ok().expect(rt, "a seal");
-    insist(rt, store.write(89, &bytes).is_ok(), "a write");
+    assert!(rt; store.write(89, &bytes).is_ok());
 }
 
 // Whether a fetch is refused by the form of cell 89, with these first bytes that were kept and
@@ -327,30 +288,20 @@ const FORGED: &[(u8, u8, Option<(u8, u8)>)] = &[
 fn told_of_forged<R: Abort + Threads + Sync>(rt: &R, alloc: Global, key: u8, len: u8) -> Told {
     let mut store = new_store(rt, alloc, &[]);
     let outcome = run(rt, alloc, &mut store, EPOCH);
-    insist(
-        rt,
-        outcome.told == Told::Done { epoch: 1, left: 2 },
-        "an epoch",
-    );
+    assert!(rt; outcome.told == Told::Done { epoch: 1, left: 2 });
     forge(rt, &mut store, key, len);
-    let told = run(rt, alloc, &mut store, &[FIVE]).told;
-    let_go(store);
-    told
-}
-
-// Whether it is taken, or refused with these bytes.
-fn is_told_so(told: Told, broken: Option<(u8, u8)>) -> bool {
-    match broken {
-        None => told == Told::Done { epoch: 1, left: 1 },
-        Some((kept, computed)) => is_misformed(told, kept, computed),
-    }
+    run(rt, alloc, &mut store, &[FIVE]).told
 }
 
 #[test]
 fn a_forged_row_is_told_by_its_form(rt: HostRuntime) {
-    for i in 0..FORGED.len() {
-        let (key, len, broken) = FORGED[i];
+    for &(key, len, broken) in FORGED {
         let told = told_of_forged(&rt, rt.alloc(), key, len);
-        insist_at(&rt, is_told_so(told, broken), i as u64);
+        assert!(rt;
+            match broken {
+                None => told == Told::Done { epoch: 1, left: 1 },
+                Some((kept, computed)) => is_misformed(told, kept, computed),
+            }
+        );
     }
 }

@@ -8,4 +8,8 @@ mod rows;
 #[cfg(test)]
 mod serving;
 #[cfg(test)]
+mod shown;
+#[cfg(test)]
 mod small;
+#[cfg(test)]
+mod wide;

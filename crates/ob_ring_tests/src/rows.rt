@@ -1,12 +1,11 @@
-//! Epochs one behind the other: what they leave, and what their ends show.
+//! Epochs one behind the other: what they show, answer and leave.
 
 ghost use Rattle.std.specs.Prelude.{◌≡◌, ◌≤◌};
 ghost use Rattle.ob_mem.specs.Memory.{disk_of_store};
 
 use crate::serving::{Plan, Put, Step, Told, run_steps};
-use crate::small::{
-    format_with, insist, left_after, let_go, new_store, run_on, small_store, store_of,
-};
+use crate::shown::{FIRST_EPOCH, LEAF_ONE, OPENED, SECOND_EPOCH};
+use crate::small::{format_with, left_after, new_store, run_on, small_store, store_of};
 use ob_base::{Fault, Params, Value};
 use ob_cells::read_cells;
 use ob_mem::{MemSink, MemStore};
@@ -27,6 +26,99 @@ const HI: &[Put] = &[Put {
 }];
 
 const TWO_EPOCHS: &[Step] = &[PADS, PADS, Step::End(HI), FIVE, PADS, Step::End(&[])];
+
+// Whether just these parts were shown, one behind the other.
+fn is_made_of(shown: &[u8], parts: &[&[u8]]) -> bool {
+    let mut rest = shown;
+    for part in parts {
+        match rest.strip_prefix(*part) {
+            Some(behind) => rest = behind,
+            None => return false,
+        }
+    }
+    rest.is_empty()
+}
+
+// The steps, how many epochs end, and the fifth word of the tape, whose other words are 0.
+struct Row {
+    steps: &'static [Step],
+    epochs: u64,
+    word: u64,
+}
+
+const ROWS: &[Row] = &[
+    Row {
+        steps: &[PADS, PADS, Step::End(&[])],
+        epochs: 1,
+        word: 0,
+    },
+    Row {
+        steps: &[PADS, PADS, Step::End(HI)],
+        epochs: 1,
+        word: 0,
+    },
+    Row {
+        steps: TWO_EPOCHS,
+        epochs: 2,
+        word: 0,
+    },
+    Row {
+        steps: TWO_EPOCHS,
+        epochs: 2,
+        word: 1,
+    },
+];
+
+// Whether an opening and so many epochs were shown, of which the second showed this.
+fn is_shown(shown: &[u8], epochs: u64, second: &'static [u8]) -> bool {
+    let parts = [OPENED, FIRST_EPOCH, second];
+    if epochs == 1 {
+        is_made_of(shown, &parts[..2])
+    } else {
+        is_made_of(shown, &parts)
+    }
+}
+
+// Whether the row's epochs are done and shown, by so many lanes; the second one asks for key 5.
+fn plays_so<R: Abort + Threads + Sync>(rt: &R, alloc: Global, lanes: usize, row: &Row) -> bool
+    requires { (1 ≤ lanes) × (lanes ≤ 16) }
+{
+    let wanted = if row.epochs == 1 {
+        None
+    } else {
+        Value::new(b"hi")
+    };
+    let second = if row.word == 0 {
+        SECOND_EPOCH
+    } else {
+        LEAF_ONE
+    };
+    let told = Told::Done {
+        epoch: row.epochs,
+        left: 2,
+    };
+    let plan = Plan {
+        params: &small_store(rt),
+        lanes,
+        steps: row.steps,
+    };
+    let mut store = new_store(rt, alloc, &[]);
+    let mut sink = MemSink::new(alloc, 2000, Vec::new(alloc)).expect(rt, "memory");
+    let mut watch = SinkWatch::new(&mut sink);
+    let words = [0, 0, 0, 0, row.word];
+    let outcome = run_on(rt, alloc, &mut store, &words, &plan, &mut watch);
+    outcome.told == told && outcome.found == wanted && is_shown(sink.written(), row.epochs, second)
+}
+
+// However many lanes read, the same is shown.
+#[test]
+fn epochs_show_what_another_implementation_shows(rt: HostRuntime) {
+    for row in ROWS {
+        for lanes in 1..17 {
+            assert!(rt; plays_so(&rt, rt.alloc(), lanes, row), "by {lanes} lanes");
+        }
+    }
+}
 
 // The SHA-256 digest of all 109 cells of the small store after two epochs under the keys of the
 // bytes 0 to 95, as another implementation made it.
@@ -49,11 +141,7 @@ fn last_tape() -> ChaChaTape
 // The digest of all cells of a store.
 fn digest_of(rt: &impl Abort, store: &mut MemStore) -> [u8; 32] {
     let mut all = [[0; 128]; 109];
-    insist(
-        rt,
-        read_cells(store, 0, &mut all, &mut Blind).is_ok(),
-        "all cells",
-    );
+    assert!(rt; read_cells(store, 0, &mut all, &mut Blind).is_ok());
     let mut hasher = Sha256::new();
     for cell in &all {
         hasher.update(cell);
@@ -73,60 +161,18 @@ fn leaves_these<R: Abort + Threads + Sync>(rt: &R, alloc: Global, lanes: usize) 
     };
     let mut store = MemStore::new(alloc, 109, Vec::new(alloc)).expect(rt, "memory");
     let mut tape = last_tape();
-    let formatted = format_with(rt, alloc, &mut store, &mut tape, &p).is_ok();
+    assert!(rt; format_with(rt, alloc, &mut store, &mut tape, &p).is_ok());
     let mut tape = last_tape();
     let outcome = run_steps(rt, alloc, &mut store, &mut tape, &plan, &mut Blind);
-    let ended = outcome.told == Told::Done { epoch: 2, left: 2 };
-    let found = outcome.found == Value::new(b"hi");
-    let digest = digest_of(rt, &mut store);
-    let_go(store);
-    formatted && ended && found && digest == AFTER
+    assert!(rt; outcome.told == Told::Done { epoch: 2, left: 2 });
+    assert!(rt; outcome.found == Value::new(b"hi"));
+    digest_of(rt, &mut store) == AFTER
 }
 
 #[test]
 fn the_cells_after_two_epochs_are_those_of_another_implementation(rt: HostRuntime) {
-    let alloc = rt.alloc();
-    insist(&rt, leaves_these(&rt, alloc, 1), "by one lane");
-    insist(&rt, leaves_these(&rt, alloc, 16), "by sixteen");
-}
-
-// What is told of a run, and whether it shows this text: at its end, or somewhere.
-#[derive(Clone, Copy)]
-struct Wanted {
-    told: Told,
-    text: &'static [u8],
-    last: bool,
-}
-
-fn is_shown(shown: &[u8], wanted: &Wanted) -> bool {
-    if wanted.last {
-        return shown.ends_with(wanted.text);
-    }
-    for i in 0..shown.len() {
-        if shown[i..].starts_with(wanted.text) {
-            return true;
-        }
-    }
-    false
-}
-
-// Whether a run on a tape of these words goes so.
-fn goes_so<R: Abort + Threads + Sync>(
-    rt: &R,
-    alloc: Global,
-    store: &mut MemStore,
-    words: &[u64],
-    plan: &Plan,
-    wanted: &Wanted,
-) -> bool
-    requires none_out { (disk_of_store store.old).out ≡ 0 }
-    requires lanes { (1 ≤ plan.now.lanes) × (plan.now.lanes ≤ 16) }
-    ensures { (disk_of_store store.new).out ≡ 0 }
-{
-    let mut sink = MemSink::new(alloc, 4000, Vec::new(alloc)).expect(rt, "memory");
-    let mut watch = SinkWatch::new(&mut sink);
-    let outcome = run_on(rt, alloc, store, words, plan, &mut watch);
-    outcome.told == wanted.told && is_shown(sink.written(), wanted)
+    assert!(rt; leaves_these(&rt, rt.alloc(), 1));
+    assert!(rt; leaves_these(&rt, rt.alloc(), 16));
 }
 
 const FOUR: &[Put] = &[
@@ -136,45 +182,45 @@ const FOUR: &[Put] = &[
     Put { key: 3, text: b"d" },
 ];
 
-// A run whose end finds the stash too full: no write behind the lifts.
-const TOO_FULL: Wanted = Wanted {
-    told: Told::Before(Fault::StashFull { rows: 2 }),
-    text: b"W 11\nS\nW 12\nS\nL 0\nR 21\nR 19\nR 20\nR 24\nR 22\nR 23\n",
-    last: true,
-};
+// What a run shows whose end finds the stash too full: no write behind the lifts.
+const TOO_FULL: &[u8] = b"W 11\nS\nW 12\nS\nL 0\nR 21\nR 19\nR 20\nR 24\nR 22\nR 23\n";
 
-const UNCHANGED: Wanted = Wanted {
-    told: Told::Done { epoch: 0, left: 0 },
-    text: b"",
-    last: true,
-};
-
-// Whether the end of an epoch of four puts is refused so, and a crash leaves the epoch before.
-fn is_too_full<R: Abort + Threads + Sync>(rt: &R, alloc: Global, p: &Params) -> bool {
+// Whether the end of an epoch of four puts is refused so.
+fn is_too_full<R: Abort + Threads + Sync>(
+    rt: &R,
+    alloc: Global,
+    p: &Params,
+    store: &mut MemStore,
+) -> bool
+    requires { (disk_of_store store.old).out ≡ 0 }
+{
+    let mut sink = MemSink::new(alloc, 2000, Vec::new(alloc)).expect(rt, "memory");
+    let mut watch = SinkWatch::new(&mut sink);
     let plan = Plan {
         params: p,
         lanes: 1,
         steps: &[PADS, Step::End(FOUR)],
     };
-    let opened = Plan {
-        params: p,
-        lanes: 1,
-        steps: &[],
-    };
-    let mut store = store_of(rt, alloc, p, 37, &[]);
-    let refused = goes_so(rt, alloc, &mut store, &[0, 1, 1, 1, 1], &plan, &TOO_FULL);
-    let mut left = left_after(rt, &store, 1000, None);
-    let again = goes_so(rt, alloc, &mut left, &[], &opened, &UNCHANGED);
-    let_go(store);
-    let_go(left);
-    refused && again
+    let words = [0, 1, 1, 1, 1];
+    let outcome = run_on(rt, alloc, store, &words, &plan, &mut watch);
+    outcome.told == Told::Before(Fault::StashFull { rows: 2 }) && sink.written().ends_with(TOO_FULL)
 }
 
 // A store of 4 keys and 37 cells, whose stash may keep one row.
 #[test]
 fn a_stash_that_is_too_full_refuses_the_end_before_anything_is_written(rt: HostRuntime) {
+    let alloc = rt.alloc();
     let p = Params::new(4, 1, 2, 1, 1, 1, 4, 1, 1).expect(&rt, "parameters");
-    insist(&rt, is_too_full(&rt, rt.alloc(), &p), "four puts");
+    let mut store = store_of(&rt, alloc, &p, 37, &[]);
+    assert!(rt; is_too_full(&rt, alloc, &p, &mut store));
+    let mut left = left_after(&rt, &store, 1000, None);
+    let opened = Plan {
+        params: &p,
+        lanes: 1,
+        steps: &[],
+    };
+    let again = run_on(&rt, alloc, &mut left, &[], &opened, &mut Blind);
+    assert!(rt; again.told == Told::Done { epoch: 0, left: 0 });
 }
 
 const FIVE_AND_SIX: &[Put] = &[
@@ -203,13 +249,9 @@ const TWICE: &[Step] = &[
 ];
 
 // The lifts of epoch 2: the rows of keys 5 and 6 lie at indexes 0 and 1 of bucket 2.
-const LIFTS: Wanted = Wanted {
-    told: Told::Done { epoch: 2, left: 2 },
-    text: b"R 59\nR 60\nR 84\nR 85\nR 69\nR 70\n",
-    last: false,
-};
+const LIFTS: &[u8] = b"R 59\nR 60\nR 84\nR 85\nR 69\nR 70\n";
 
-// Whether a run of a small store up to the end of its epoch 2 shows the lifts.
+// Runs a small store up to the end of its epoch 2; whether the lifts are shown somewhere.
 fn shows_lifts<R: Abort + Threads + Sync>(
     rt: &R,
     alloc: Global,
@@ -224,24 +266,27 @@ fn shows_lifts<R: Abort + Threads + Sync>(
         lanes: 1,
         steps,
     };
-    goes_so(rt, alloc, store, &[0, 0, 0, 0, 3, 3], &plan, &LIFTS)
-}
-
-// Whether an end shows them that goes on behind a crash, and puts another key.
-fn shows_again<R: Abort + Threads + Sync>(rt: &R, alloc: Global) -> bool {
-    let mut store = new_store(rt, alloc, &[]);
-    let first = shows_lifts(rt, alloc, &mut store, TWICE);
-    // 72 writes and syncs of the format, 5 of the opening, 51 of epoch 1, and 8 of two batches.
-    let mut left = left_after(rt, &store, 136, None);
-    let again = shows_lifts(rt, alloc, &mut left, &[Step::End(AGAIN)]);
-    let_go(store);
-    let_go(left);
-    first && again
+    let mut sink = MemSink::new(alloc, 4000, Vec::new(alloc)).expect(rt, "memory");
+    let mut watch = SinkWatch::new(&mut sink);
+    let words = [0, 0, 0, 0, 3, 3];
+    let outcome = run_on(rt, alloc, store, &words, &plan, &mut watch);
+    assert!(rt; outcome.told == Told::Done { epoch: 2, left: 2 });
+    let shown = sink.written();
+    for i in 0..shown.len() {
+        if shown[i..].starts_with(LIFTS) {
+            return true;
+        }
+    }
+    false
 }
 
 // The lifts don't depend on what the end writes: an end that is begun again behind a crash reads
 // them in the same order, whichever key it puts.
 #[test]
 fn lifts_are_planned_before_the_writes(rt: HostRuntime) {
-    insist(&rt, shows_again(&rt, rt.alloc()), "two ends");
+    let mut store = new_store(&rt, rt.alloc(), &[]);
+    assert!(rt; shows_lifts(&rt, rt.alloc(), &mut store, TWICE));
+    // 72 writes and syncs of the format, 5 of the opening, 51 of epoch 1, and 8 of two batches.
+    let mut left = left_after(&rt, &store, 136, None);
+    assert!(rt; shows_lifts(&rt, rt.alloc(), &mut left, &[Step::End(AGAIN)]));
 }

@@ -13,19 +13,6 @@ use std::alloc::Global;
 use std::process::Abort;
 use std::thread::Threads;
 
-/// Ends the test where this isn't so, and names the case.
-pub fn insist<R: Abort>(rt: &R, so: bool, case: &str) {
-    assert!(rt; so, "{case}");
-}
-
-/// The same of a case by its number.
-pub fn insist_at<R: Abort>(rt: &R, so: bool, case: u64) {
-    assert!(rt; so, "{case}");
-}
-
-/// Lets a store go. What a drop takes is proved in each function that has one, so tests call this.
-pub fn let_go(_store: MemStore) {}
-
 /// The keys of the bytes 0 to 95.
 pub fn test_keys() -> Keys {
     let mut bytes = [0; 96];
@@ -68,11 +55,7 @@ pub fn store_of<R: Abort + Threads + Sync>(
     let fails = fails.to_vec(alloc).expect(rt, "memory");
     let mut store = MemStore::new(alloc, cells, fails).expect(rt, "memory");
     let mut tape = ListTape::new(alloc, &[]).expect(rt, "memory");
-    insist(
-        rt,
-        format_with(rt, alloc, &mut store, &mut tape, p).is_ok(),
-        "a format",
-    );
+    assert!(rt; format_with(rt, alloc, &mut store, &mut tape, p).is_ok());
     store
 }
 

@@ -3,10 +3,7 @@
 ghost use Rattle.std.specs.Prelude.{◌≡◌};
 ghost use Rattle.ob_mem.specs.Memory.{disk_of_store};
 
-use crate::opening::{
-    Setting, bytes_in, insist, insist_at, let_go, new_store, open_ring, serve, setting_of,
-    test_keys,
-};
+use crate::opening::{Setting, new_store, open_ring, serve, serve_store, setting_of, test_keys};
 use crate::random::{Random, calls_of};
 use ob_base::{Params, Value, ring_cells};
 use ob_flat::FlatVault;
@@ -14,54 +11,58 @@ use ob_mem::MemStore;
 use ob_plain_serial::{Reply, Request};
 use ob_seal::ChaChaTape;
 use ob_serial::Vault;
-use ob_store::Blind;
+use ob_store::{Blind, Note, Store, Watch};
 use std::alloc::Global;
 use std::process::Abort;
 use std::thread::Threads;
 
-// Calls of epochs one behind the other, and their answers.
+// Counts writes and syncs.
 #[derive(Drop)]
-struct Play {
-    calls: Vec<Request>,
-    wanted: Vec<Reply>,
+struct Count {
+    made: usize,
 }
 
-// What a plain vault answers over a store that is formatted for it.
-fn replies_over<R: Abort + Threads + Sync>(
-    rt: &R,
-    alloc: Global,
-    store: &mut MemStore,
-    p: &Params,
-    calls: &[Request],
-) -> Vec<Reply>
-    requires { (disk_of_store store.old).out ≡ 0 }
+impl Watch for Count {
+    ghost use Rattle.std.specs.Prelude.{None, false, []};
+
+    ghost trace = { λ _. record { written = None; broken = false; faults = 0; anchors = [] } };
+
+    fn note(&mut self, note: Note) {
+        match note {
+            Note::Write(_) | Note::Sync => self.made = self.made.saturating_add(1),
+            Note::Label(_) | Note::Read(_) => {}
+        }
+    }
+
+    fn broken(&self) -> bool {
+        false
+    }
+}
+
+// A tape of random words.
+fn new_tape() -> ChaChaTape
+    ensures { result.generation ≡ 0 }
 {
-    let keys = test_keys();
-    insist(
-        rt,
-        ob_flat::format(store, &keys, p, &mut Blind).is_ok(),
-        "a format",
-    );
-    let opened = ob_flat::prepare(alloc, store, &keys, p, &mut Blind);
-    let mut vault = FlatVault::over(store, opened.ok().expect(rt, "an opening"));
-    let held = vault.params();
-    let replies = serve(rt, alloc, &mut vault, &held, calls, &mut Blind);
-    let _store = vault.into_store();
-    replies.expect(rt, "memory")
+    ChaChaTape::new(&[7; 32])
 }
 
-// What a new one answers.
+// What a new plain vault answers.
 fn plain_replies<R: Abort + Threads + Sync>(
     rt: &R,
     alloc: Global,
     p: &Params,
     calls: &[Request],
 ) -> Vec<Reply> {
+    let keys = test_keys();
     let cells = ob_flat::cells(p) as usize;
     let mut store = MemStore::new(alloc, cells, Vec::new(alloc)).expect(rt, "memory");
-    let replies = replies_over(rt, alloc, &mut store, p, calls);
-    let_go(store);
-    replies
+    assert!(rt; ob_flat::format(&mut store, &keys, p, &mut Blind).is_ok());
+    let opened = ob_flat::prepare(alloc, &mut store, &keys, p, &mut Blind);
+    let mut vault = FlatVault::over(&mut store, opened.ok().expect(rt, "an opening"));
+    let held = vault.params();
+    let replies = serve(rt, alloc, &mut vault, &held, calls, &mut Blind);
+    let _store = vault.into_store();
+    replies.expect(rt, "memory")
 }
 
 fn are_same_values(one: &[Option<Value>], other: &[Option<Value>]) -> bool {
@@ -122,51 +123,44 @@ fn left_after(
 }
 
 // Where among these calls a vault stands that was opened at an epoch, with batches that are left,
-// and the calls of at most so many epochs from there on.
+// and the calls of two epochs from there on.
 fn part_behind<'a>(
     rt: &impl Abort,
     calls: &'a [Request],
     p: &Params,
     epoch: u64,
     left: u32,
-    epochs: usize,
 ) -> (usize, &'a [Request]) {
     let batches = u64::from(p.batches);
     let begun = batches.saturating_sub(u64::from(left));
     let place = epoch.saturating_mul(batches + 1).saturating_add(begun);
     assert!(rt; place <= calls.len() as u64);
     let place = place as usize;
-    let many = epochs
-        .saturating_mul(p.batches as usize + 1)
-        .min(calls.len() - place);
+    let many = (calls.len() - place).min(2 * (p.batches as usize + 1));
     (place, &calls[place..place + many])
 }
 
-// Opens a store, and makes the calls of at most so many epochs from where it stands on: how many
-// these are, where all were answered as wanted.
-fn served_on<R: Abort + Threads + Sync>(
+// Opens what a crash left, and makes the calls of two epochs from where it stands on; whether they
+// are answered as without a crash.
+fn serves_on<R: Abort + Threads + Sync>(
     rt: &R,
     alloc: Global,
-    store: &mut MemStore,
+    left: &mut MemStore,
     setting: &Setting,
-    play: &Play,
-    epochs: usize,
-) -> Option<usize>
-    requires { (disk_of_store store.old).out ≡ 0 }
+    calls: &[Request],
+    wanted: &[Reply],
+) -> bool
+    requires { (disk_of_store left.old).out ≡ 0 }
 {
-    let (calls, p) = (play.calls.as_slice(), &setting.p);
-    // Of random words.
-    let mut tape = ChaChaTape::new(&[7; 32]);
-    match open_ring(rt, alloc, store, &mut tape, setting, &mut Blind) {
+    let mut tape = new_tape();
+    match open_ring(rt, alloc, left, &mut tape, setting, &mut Blind) {
         Ok(mut vault) => {
-            let (place, part) = part_behind(rt, calls, p, vault.epoch(), vault.left(), epochs);
-            let replies = serve(rt, alloc, &mut vault, p, part, &mut Blind);
+            let (place, part) = part_behind(rt, calls, &setting.p, vault.epoch(), vault.left());
+            let replies = serve(rt, alloc, &mut vault, &setting.p, part, &mut Blind);
             let _lent = vault.into_lent();
-            let replies = replies.expect(rt, "memory");
-            let so = are_from(&replies, play.wanted.as_slice(), place, part.len());
-            if so { Some(part.len()) } else { None }
+            are_from(&replies.expect(rt, "memory"), wanted, place, part.len())
         }
-        Err(_) => None,
+        Err(_) => false,
     }
 }
 
@@ -185,76 +179,70 @@ const EPOCHS: u32 = 50;
 
 const CRASHES: usize = 20;
 
-// A new ring store behind all of these calls, which are answered so, and how many writes and syncs
-// its format made.
-fn filled<R: Abort + Threads + Sync>(
+// Makes all of these calls on a new ring store; whether they are answered so.
+fn serves_all<R: Abort + Threads + Sync, W: Watch>(
     rt: &R,
     alloc: Global,
+    store: &mut MemStore,
     setting: &Setting,
-    play: &Play,
-) -> (MemStore, usize) {
-    let mut store = new_store(rt, alloc, &setting.p, &[]);
-    let formatted = store.moments();
-    let served = served_on(rt, alloc, &mut store, setting, play, play.calls.len());
-    insist(rt, served == Some(play.calls.len()), "all calls");
-    (store, formatted)
+    calls: &[Request],
+    wanted: &[Reply],
+    watch: &mut W,
+) -> bool
+    requires { (disk_of_store store.old).out ≡ 0 }
+{
+    let mut tape = new_tape();
+    match serve_store(rt, alloc, store, &mut tape, setting, calls, watch) {
+        Ok(served) => are_from(&served.replies, wanted, 0, calls.len()),
+        Err(_) => false,
+    }
 }
 
-// Random calls of so many epochs on a vault with these parameters, and what a plain one answers.
-fn new_play<R: Abort + Threads + Sync>(
-    rt: &R,
-    alloc: Global,
-    p: &Params,
-    epochs: u32,
-    random: &mut Random,
-) -> Play {
-    let calls = calls_of(rt, alloc, random, p, epochs);
-    let wanted = plain_replies(rt, alloc, p, &calls);
-    insist(rt, wanted.len() == calls.len(), "all replies");
-    Play { calls, wanted }
-}
-
-// A ring store that crashes at so many moments of random calls; each time another opening of what
-// is left serves on.
+// A ring store that crashes at so many moments of these calls; each time another opening of what is
+// left serves on.
 fn crash_often<R: Abort + Threads + Sync>(
     rt: &R,
     alloc: Global,
-    numbers: [u32; 9],
+    setting: &Setting,
+    calls: &[Request],
+    wanted: &[Reply],
     random: &mut Random,
 ) {
-    let setting = setting_of(rt, numbers, random.below(16) as usize + 1);
-    let play = new_play(rt, alloc, &setting.p, EPOCHS, random);
-    let (store, formatted) = filled(rt, alloc, &setting, &play);
-    let part = store.moments().saturating_sub(formatted) / CRASHES;
+    let mut count = Count { made: 0 };
+    let mut store = new_store(rt, alloc, &setting.p, &[], &mut count);
+    let formatted = count.made;
+    assert!(rt; serves_all(rt, alloc, &mut store, setting, calls, wanted, &mut count));
+    let part = count.made.saturating_sub(formatted) / CRASHES;
     for i in 0..CRASHES {
         let within = random.below(part.min(1_000_000) as u32 + 1) as usize;
         let moment = formatted
             .saturating_add(part.saturating_mul(i))
             .saturating_add(within);
         let mut left = left_after(rt, alloc, &store, moment, ring_cells(&setting.p), random);
-        let served = served_on(rt, alloc, &mut left, &setting, &play, 2);
-        let_go(left);
-        insist_at(rt, served.is_some(), moment);
+        assert!(rt; serves_on(rt, alloc, &mut left, setting, calls, wanted));
     }
-    let_go(store);
 }
 
 #[test]
 fn a_ring_vault_answers_as_a_plain_one_and_after_each_crash(rt: HostRuntime) {
+    let alloc = rt.alloc();
     let mut random = Random { state: 1 };
-    for i in 0..SETS.len() {
-        crash_often(&rt, rt.alloc(), SETS[i], &mut random);
+    for numbers in SETS {
+        let setting = setting_of(&rt, *numbers, random.below(16) as usize + 1);
+        let calls = calls_of(&rt, alloc, &mut random, &setting.p, EPOCHS);
+        let wanted = plain_replies(&rt, alloc, &setting.p, &calls);
+        assert_eq!(rt; wanted.len(), calls.len());
+        crash_often(&rt, alloc, &setting, &calls, &wanted, &mut random);
     }
 }
 
-// Whether two stores hold the same cells.
-fn are_same(rt: &impl Abort, one: &mut MemStore, other: &mut MemStore, cells: u64) -> bool {
-    for cell in 0..cells {
-        if bytes_in(rt, one, cell) != bytes_in(rt, other, cell) {
-            return false;
-        }
-    }
-    true
+// What a cell holds.
+fn bytes_in(rt: &impl Abort, store: &mut MemStore, cell: u64) -> [u8; 128] {
+    let mut bytes = [9; 128];
+    let mut lane = store.lane().expect(rt, "a lane");
+    assert!(rt; store.read(&mut lane, cell, &mut bytes).is_ok());
+    store.absorb(lane);
+    bytes
 }
 
 // Whether crashes at this moment leave the same cells of two stores.
@@ -267,10 +255,27 @@ fn leave_the_same(
 ) -> bool {
     let mut one = one.crash(moment, &[]).expect(rt, "memory");
     let mut other = other.crash(moment, &[]).expect(rt, "memory");
-    let so = are_same(rt, &mut one, &mut other, cells);
-    let_go(one);
-    let_go(other);
-    so
+    for cell in 0..cells {
+        if bytes_in(rt, &mut one, cell) != bytes_in(rt, &mut other, cell) {
+            return false;
+        }
+    }
+    true
+}
+
+// A new ring store behind these calls, which are answered so, and how many writes and syncs its
+// format and they made.
+fn filled<R: Abort + Threads + Sync>(
+    rt: &R,
+    alloc: Global,
+    setting: &Setting,
+    calls: &[Request],
+    wanted: &[Reply],
+) -> (MemStore, usize) {
+    let mut count = Count { made: 0 };
+    let mut store = new_store(rt, alloc, &setting.p, &[], &mut count);
+    assert!(rt; serves_all(rt, alloc, &mut store, setting, calls, wanted, &mut count));
+    (store, count.made)
 }
 
 // A first batch reads 6 slots, 20, and 36.
@@ -282,50 +287,22 @@ const FEW: &[[u32; 9]] = &[
 
 const LONG: u32 = 100;
 
-// Whether so many lanes make the same writes and syncs as one lane did.
-fn write_the_same<R: Abort + Threads + Sync>(
-    rt: &R,
-    alloc: Global,
-    setting: &Setting,
-    play: &Play,
-    one: &MemStore,
-    random: &mut Random,
-) -> bool {
-    let (store, _) = filled(rt, alloc, setting, play);
-    let (made, cells) = (one.moments(), ring_cells(&setting.p));
-    let mut so = store.moments() == made && leave_the_same(rt, one, &store, made, cells);
-    for _crash in 0..CRASHES {
-        let moment = random.below(made.min(1_000_000) as u32 + 1) as usize;
-        so = so && leave_the_same(rt, one, &store, moment, cells);
-    }
-    let_go(store);
-    so
-}
-
-// Several lanes are like one.
-fn play_by_lanes<R: Abort + Threads + Sync>(
-    rt: &R,
-    alloc: Global,
-    numbers: [u32; 9],
-    random: &mut Random,
-) {
-    let one = setting_of(rt, numbers, 1);
-    let play = new_play(rt, alloc, &one.p, LONG, random);
-    let (store, _) = filled(rt, alloc, &one, &play);
-    for i in 0..LANES.len() {
-        let several = setting_of(rt, numbers, LANES[i]);
-        let so = write_the_same(rt, alloc, &several, &play, &store, random);
-        insist_at(rt, so, LANES[i]);
-    }
-    let_go(store);
-}
-
-const LANES: [usize; 3] = [2, 4, 16];
-
 #[test]
-fn a_store_is_the_same_by_one_lane_and_by_several(rt: HostRuntime) {
+fn a_store_is_the_same_by_one_lane_and_by_sixteen(rt: HostRuntime) {
+    let alloc = rt.alloc();
     let mut random = Random { state: 2 };
-    for i in 0..FEW.len() {
-        play_by_lanes(&rt, rt.alloc(), FEW[i], &mut random);
+    for numbers in FEW {
+        let one = setting_of(&rt, *numbers, 1);
+        let all = setting_of(&rt, *numbers, 16);
+        let calls = calls_of(&rt, alloc, &mut random, &one.p, LONG);
+        let wanted = plain_replies(&rt, alloc, &one.p, &calls);
+        let (first, made) = filled(&rt, alloc, &one, &calls, &wanted);
+        let (second, again) = filled(&rt, alloc, &all, &calls, &wanted);
+        assert_eq!(rt; made, again);
+        for _crash in 0..CRASHES {
+            let moment = random.below(made.min(1_000_000) as u32 + 1) as usize;
+            assert!(rt; leave_the_same(&rt, &first, &second, moment, ring_cells(&one.p)));
+        }
+        assert!(rt; leave_the_same(&rt, &first, &second, made, ring_cells(&one.p)));
     }
 }

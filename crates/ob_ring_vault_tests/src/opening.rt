@@ -19,24 +19,11 @@ use ob_opening::{format, prepare};
 use ob_plain_serial::{Reply, Request, serve_all};
 use ob_seal::{Keys, ListTape, Tape};
 use ob_serial::Vault;
-use ob_store::{Blind, Store, Watch};
+use ob_store::Watch;
 use ob_vault::RingVault;
 use std::alloc::Global;
 use std::process::Abort;
 use std::thread::Threads;
-
-/// Ends the test where this isn't so, and names the case.
-pub fn insist<R: Abort>(rt: &R, so: bool, case: &str) {
-    assert!(rt; so, "{case}");
-}
-
-/// The same of a case by its number.
-pub fn insist_at<R: Abort>(rt: &R, so: bool, case: usize) {
-    assert!(rt; so, "{case}");
-}
-
-/// Lets a store go. What a drop takes is proved in each function that has one, so tests call this.
-pub fn let_go(_store: MemStore) {}
 
 /// The bytes 0 to 95.
 pub fn test_keys() -> Keys {
@@ -75,43 +62,20 @@ pub fn setting_of(rt: &impl Abort, numbers: [u32; 9], lanes: usize) -> Setting {
 }
 
 /// A new ring store in memory, where these calls fail.
-pub fn new_store<R: Abort + Threads + Sync>(
+pub fn new_store<R: Abort + Threads + Sync, W: Watch>(
     rt: &R,
     alloc: Global,
     p: &Params,
     fails: &[Fail],
+    watch: &mut W,
 ) -> MemStore
     ensures { (disk_of_store result).out ≡ 0 }
 {
     let fails = fails.to_vec(alloc).expect(rt, "memory");
     let mut store = MemStore::new(alloc, ring_cells(p) as usize, fails).expect(rt, "memory");
     let mut tape = ListTape::new(alloc, &[]).expect(rt, "memory");
-    let formatted = format(
-        rt,
-        alloc,
-        &mut store,
-        &mut tape,
-        &test_keys(),
-        p,
-        &mut Blind,
-    );
-    insist(rt, formatted.is_ok(), "a format");
+    assert!(rt; format(rt, alloc, &mut store, &mut tape, &test_keys(), p, watch).is_ok());
     store
-}
-
-/// What a cell holds.
-pub fn bytes_in(rt: &impl Abort, store: &mut MemStore, cell: u64) -> [u8; 128]
-    ensures { (disk_of_store store.new).out ≤ (disk_of_store store.old).out }
-{
-    let mut bytes = [9; 128];
-    let mut lane = store.lane().expect(rt, "a lane");
-    insist(
-        rt,
-        store.read(&mut lane, cell, &mut bytes).is_ok(),
-        "a read",
-    );
-    store.absorb(lane);
-    bytes
 }
 
 /// A vault over a store that is opened. Where that stood it is sound, with what stood.

@@ -1,50 +1,31 @@
-//! Epochs of a ring vault: what they show, as another implementation showed it, and answer.
+//! Epochs of a ring vault: what they show and answer.
 
-use crate::opening::{insist, insist_at, let_go, new_store, setting_of};
-use crate::steps::{HI, Outcome, PADS, Run, SMALL, Step, play};
+ghost use Rattle.std.specs.Prelude.{◌≡◌};
+ghost use Rattle.ob_mem.specs.Memory.{disk_of_store};
+
+use crate::opening::{Setting, new_store, serve_store, setting_of};
+use crate::shown::{FIRST_EPOCH, LEAF_ONE, OPENED, SECOND_EPOCH};
+use crate::steps::{Put, Step, requests_of, told_by};
 use ob_base::Value;
-use ob_mem::MemSink;
-use ob_store::SinkWatch;
+use ob_mem::{MemSink, MemStore};
+use ob_seal::ListTape;
+use ob_store::{Blind, SinkWatch};
 use std::alloc::Global;
 use std::process::Abort;
 use std::thread::Threads;
 
+const PADS: Step = Step::Ask(None);
+
 const FIVE: Step = Step::Ask(Some(5));
+
+const HI: &[Put] = &[Put {
+    key: 5,
+    text: b"hi",
+}];
 
 const ONE_EPOCH: &[Step] = &[PADS, PADS, Step::End(&[])];
 
 const TWO_EPOCHS: &[Step] = &[PADS, PADS, Step::End(HI), FIVE, PADS, Step::End(&[])];
-
-// A first opening, behind the read of the head.
-const OPENED: &[u8] = b"\
-    R 1\nR 2\nR 3\nR 4\nR 5\nR 6\nR 7\nR 8\nR 17\nR 18\nR 19\nR 20\nR 21\nR 22\nR 23\nR 24\n\
-    R 25\nR 26\nR 27\nR 13\nR 14\nR 15\nR 16\nS\nW 1\nS\nW 2\nS\n";
-
-// An epoch of two batches of pads, on a tape of zeros.
-const FIRST_EPOCH: &[u8] = b"\
-    W 13\nS\nW 14\nS\nL 0\nR 41\nR 46\nR 56\nL 0\nR 42\nR 47\nR 57\nW 15\nS\nW 16\nS\nL 0\n\
-    R 43\nR 39\nR 40\nR 48\nR 44\nR 45\nR 58\nR 54\nR 55\nL 0\nR 49\nR 50\nR 64\nR 65\nW 89\n\
-    W 90\nW 91\nW 92\nW 93\nW 99\nW 100\nW 101\nW 102\nW 103\nW 79\nW 80\nW 81\nW 82\nW 83\n\
-    W 84\nW 85\nW 86\nW 87\nW 88\nW 74\nW 75\nW 76\nW 77\nW 78\nW 28\nW 29\nW 30\nW 31\nW 32\n\
-    W 33\nW 34\nW 35\nW 36\nW 37\nW 38\nW 10\nW 12\nS\nW 7\nS\nW 8\nS\n";
-
-// The epoch behind it: its first batch asks for key 5, which was put at the first epoch's end.
-const SECOND_EPOCH: &[u8] = b"\
-    W 9\nS\nW 10\nS\nL 0\nR 76\nR 81\nR 89\nL 0\nR 77\nR 82\nR 91\nW 11\nS\nW 12\nS\nL 0\nR 78\n\
-    R 74\nR 75\nR 83\nR 79\nR 80\nR 92\nR 90\nR 93\nL 0\nR 59\nR 60\nR 84\nR 85\nR 69\nR 70\n\
-    W 54\nW 55\nW 56\nW 57\nW 58\nW 94\nW 95\nW 96\nW 97\nW 98\nW 104\nW 105\nW 106\nW 107\n\
-    W 108\nW 44\nW 45\nW 46\nW 47\nW 48\nW 49\nW 50\nW 51\nW 52\nW 53\nW 39\nW 40\nW 41\nW 42\n\
-    W 43\nW 17\nW 18\nW 19\nW 20\nW 21\nW 22\nW 23\nW 24\nW 25\nW 26\nW 27\nW 14\nW 16\nS\nW 6\n\
-    S\nW 5\nS\nW 6\nS\n";
-
-// The same where the put's word was 1.
-const LEAF_ONE: &[u8] = b"\
-    W 9\nS\nW 10\nS\nL 1\nR 76\nR 79\nR 61\nL 0\nR 77\nR 81\nR 91\nW 11\nS\nW 12\nS\nL 0\nR 78\n\
-    R 74\nR 75\nR 82\nR 80\nR 83\nR 92\nL 0\nR 93\nR 89\nR 90\nR 59\nR 60\nR 84\nR 85\nR 69\n\
-    R 70\nW 54\nW 55\nW 56\nW 57\nW 58\nW 94\nW 95\nW 96\nW 97\nW 98\nW 104\nW 105\nW 106\n\
-    W 107\nW 108\nW 44\nW 45\nW 46\nW 47\nW 48\nW 49\nW 50\nW 51\nW 52\nW 53\nW 39\nW 40\nW 41\n\
-    W 42\nW 43\nW 17\nW 18\nW 19\nW 20\nW 21\nW 22\nW 23\nW 24\nW 25\nW 26\nW 27\nW 14\nW 16\n\
-    S\nW 6\nS\nW 5\nS\nW 6\nS\n";
 
 // Whether just these parts were shown, one behind the other.
 fn is_made_of(shown: &[u8], parts: &[&[u8]]) -> bool {
@@ -92,86 +73,99 @@ const ROWS: &[Row] = &[
     },
 ];
 
-// How a run by so many lanes over a new store went, and what it showed.
-fn shown_by<R: Abort + Threads + Sync>(
+// Opens a store again and asks for key 5: this epoch ended last, and the key has this.
+fn finds_again<R: Abort + Threads + Sync>(
     rt: &R,
     alloc: Global,
-    lanes: usize,
-    run: &Run,
-) -> (Option<(Outcome, Option<Outcome>)>, MemSink) {
-    let setting = setting_of(rt, SMALL, lanes);
+    store: &mut MemStore,
+    setting: &Setting,
+    epoch: u64,
+    wanted: Option<Value>,
+) -> bool
+    requires { (disk_of_store store.old).out ≡ 0 }
+{
+    let calls = requests_of(rt, alloc, &setting.p, &[FIVE]);
+    let mut tape = ListTape::new(alloc, &[]).expect(rt, "memory");
+    match serve_store(rt, alloc, store, &mut tape, setting, &calls, &mut Blind) {
+        Ok(next) => {
+            let before = next.generation == 3 && next.began == (epoch, 2);
+            let found = told_by(&next.replies).found;
+            before && next.stands == (epoch, 1, false) && found == wanted
+        }
+        Err(_) => false,
+    }
+}
+
+// Makes a row's calls over a new store, and asks for key 5 behind another opening; whether all is
+// as the row says.
+fn plays_so<R: Abort + Threads + Sync>(
+    rt: &R,
+    alloc: Global,
+    setting: &Setting,
+    row: &Row,
+) -> bool {
+    let wanted = Value::new(row.text);
+    let wanted = if row.text.is_empty() { None } else { wanted };
+    let calls = requests_of(rt, alloc, &setting.p, row.steps);
     let mut sink = MemSink::new(alloc, 4000, Vec::new(alloc)).expect(rt, "memory");
     let mut watch = SinkWatch::new(&mut sink);
-    let mut store = new_store(rt, alloc, &setting.p, &[]);
-    let went = play(rt, alloc, &mut store, &setting, run, &mut watch);
-    let_go(store);
-    (went, sink)
-}
-
-// Whether that is as the row says, and another opening behind it.
-fn plays_so<R: Abort + Threads + Sync>(rt: &R, alloc: Global, lanes: usize, row: &Row) -> bool {
-    let run = Run {
-        words: row.words,
-        steps: row.steps,
-        again: &[FIVE],
-    };
-    let (went, sink) = shown_by(rt, alloc, lanes, &run);
-    went_so(went, row) && is_made_of(sink.written(), row.parts)
-}
-
-// Whether its epochs are done, and key 5 has the row's value behind each opening.
-fn went_so(went: Option<(Outcome, Option<Outcome>)>, row: &Row) -> bool {
-    let wanted = if row.text.is_empty() {
-        None
-    } else {
-        Value::new(row.text)
-    };
-    let Some((first, next)) = went else {
-        return false;
-    };
-    let Some(next) = next else {
-        return false;
-    };
-    let before = first.generation == 2 && first.began == (0, 2);
-    let after = first.answered == row.steps.len() && first.stands == (row.epoch, 2, false);
-    let again = next.generation == 3 && next.began == (row.epoch, 2);
-    let serves = next.stands == (row.epoch, 1, false);
-    let found = first.told.found == wanted && next.told.found == wanted;
-    before && after && again && serves && found
-}
-
-// Each row by each number of lanes.
-fn play_rows<R: Abort + Threads + Sync>(rt: &R, alloc: Global) {
-    for lanes in 1..17 {
-        for i in 0..ROWS.len() {
-            insist_at(rt, plays_so(rt, alloc, lanes, &ROWS[i]), i);
+    let mut tape = ListTape::new(alloc, row.words).expect(rt, "memory");
+    let mut store = new_store(rt, alloc, &setting.p, &[], &mut Blind);
+    match serve_store(
+        rt, alloc, &mut store, &mut tape, setting, &calls, &mut watch,
+    ) {
+        Ok(first) => {
+            let before = first.generation == 2 && first.began == (0, 2);
+            let whole = first.replies.len() == calls.len();
+            let after = first.stands == (row.epoch, 2, false);
+            let found = told_by(&first.replies).found == wanted;
+            let shown = is_made_of(sink.written(), row.parts);
+            let again = finds_again(rt, alloc, first.store, setting, row.epoch, wanted);
+            before && whole && after && found && shown && again
         }
+        Err(_) => false,
     }
 }
 
 #[test]
 fn a_ring_vault_shows_what_another_implementation_shows(rt: HostRuntime) {
-    play_rows(&rt, rt.alloc());
+    for lanes in 1..17 {
+        let setting = setting_of(&rt, [8, 2, 2, 3, 2, 2, 2, 2, 8], lanes);
+        for row in ROWS {
+            assert!(rt; plays_so(&rt, rt.alloc(), &setting, row));
+        }
+    }
 }
 
 // On both tapes the put's word is 1. They differ in words of buckets alone: of the 25 slots that
 // the first end fills anew.
-const PUT_ONE: Run<'static> = Run {
-    words: &[0, 0, 0, 0, 1],
-    steps: TWO_EPOCHS,
-    again: &[],
-};
+const PUT_ONE: &[u64] = &[0, 0, 0, 0, 1];
 
-const BUCKETS_APART: Run<'static> = Run {
-    words: &[
-        0, 0, 0, 0, 1, 0, 9, 8, 1, 7, 6, 5, 4, 3, 2, 1, 7, 7, 1, 0, 3, 2, 9, 4, 4, 8, 6, 1, 5, 0, 2,
-    ],
-    steps: TWO_EPOCHS,
-    again: &[],
-};
+const BUCKETS_APART: &[u64] = &[
+    0, 0, 0, 0, 1, 0, 9, 8, 1, 7, 6, 5, 4, 3, 2, 1, 7, 7, 1, 0, 3, 2, 9, 4, 4, 8, 6, 1, 5, 0, 2,
+];
 
 // The leaves that another implementation showed on the first of them.
 const LEAVES: &[u8] = b"00001000";
+
+// What two epochs over a new store show, on a tape of these words.
+fn shown_on<R: Abort + Threads + Sync>(
+    rt: &R,
+    alloc: Global,
+    setting: &Setting,
+    words: &[u64],
+) -> MemSink {
+    let calls = requests_of(rt, alloc, &setting.p, TWO_EPOCHS);
+    let mut sink = MemSink::new(alloc, 4000, Vec::new(alloc)).expect(rt, "memory");
+    let mut watch = SinkWatch::new(&mut sink);
+    let mut tape = ListTape::new(alloc, words).expect(rt, "memory");
+    let mut store = new_store(rt, alloc, &setting.p, &[], &mut Blind);
+    let served = serve_store(
+        rt, alloc, &mut store, &mut tape, setting, &calls, &mut watch,
+    );
+    assert!(rt; served.is_ok());
+    sink
+}
 
 // Whether these leaves, each of one digit, are those that the lines show, in order.
 fn are_leaves(shown: &[u8], leaves: &[u8]) -> bool {
@@ -187,15 +181,12 @@ fn are_leaves(shown: &[u8], leaves: &[u8]) -> bool {
     found == leaves.len()
 }
 
-// Whether both tapes show these leaves, and not the same otherwise.
-fn labels_are_equal<R: Abort + Threads + Sync>(rt: &R, alloc: Global) -> bool {
-    let (_, one) = shown_by(rt, alloc, 1, &PUT_ONE);
-    let (_, other) = shown_by(rt, alloc, 1, &BUCKETS_APART);
-    let leaves = are_leaves(one.written(), LEAVES) && are_leaves(other.written(), LEAVES);
-    leaves && one.written() != other.written()
-}
-
 #[test]
 fn words_of_buckets_decide_no_label(rt: HostRuntime) {
-    insist(&rt, labels_are_equal(&rt, rt.alloc()), "two tapes");
+    let setting = setting_of(&rt, [8, 2, 2, 3, 2, 2, 2, 2, 8], 1);
+    let one = shown_on(&rt, rt.alloc(), &setting, PUT_ONE);
+    let other = shown_on(&rt, rt.alloc(), &setting, BUCKETS_APART);
+    assert!(rt; are_leaves(one.written(), LEAVES));
+    assert!(rt; are_leaves(other.written(), LEAVES));
+    assert!(rt; one.written() != other.written());
 }

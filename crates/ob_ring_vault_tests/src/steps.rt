@@ -1,17 +1,9 @@
 //! Calls on a ring vault as data, and how they were answered.
 
-ghost use Rattle.std.specs.Prelude.{◌≡◌};
-ghost use Rattle.ob_mem.specs.Memory.{disk_of_store};
-
-use crate::opening::{Served, Setting, serve_store};
 use ob_base::{Fault, Key, Params, Value, Write};
-use ob_mem::MemStore;
 use ob_plain_serial::{Reply, Request};
-use ob_seal::ListTape;
-use ob_store::{Blind, Watch};
 use std::alloc::Global;
 use std::process::Abort;
-use std::thread::Threads;
 
 /// A key and the value that it gets.
 pub struct Put {
@@ -25,16 +17,6 @@ pub enum Step {
     Ask(Option<Key>),
     End(&'static [Put]),
 }
-
-/// The numbers of the small store.
-pub const SMALL: [u32; 9] = [8, 2, 2, 3, 2, 2, 2, 2, 8];
-
-pub const PADS: Step = Step::Ask(None);
-
-pub const HI: &[Put] = &[Put {
-    key: 5,
-    text: b"hi",
-}];
 
 fn request_of(rt: &impl Abort, alloc: Global, p: &Params, step: &Step) -> Request {
     match step {
@@ -59,8 +41,8 @@ fn request_of(rt: &impl Abort, alloc: Global, p: &Params, step: &Step) -> Reques
     }
 }
 
-// These calls.
-fn requests_of(rt: &impl Abort, alloc: Global, p: &Params, steps: &[Step]) -> Vec<Request> {
+/// These calls.
+pub fn requests_of(rt: &impl Abort, alloc: Global, p: &Params, steps: &[Step]) -> Vec<Request> {
     let mut requests = Vec::new(alloc);
     for step in steps {
         requests
@@ -68,18 +50,6 @@ fn requests_of(rt: &impl Abort, alloc: Global, p: &Params, steps: &[Step]) -> Ve
             .expect(rt, "memory");
     }
     requests
-}
-
-/// How calls behind an opening went.
-#[derive(Clone, Copy)]
-pub struct Outcome {
-    pub generation: u64,
-    /// The epoch that ended last before the calls, and the batches that were left.
-    pub began: (u64, u32),
-    pub answered: usize,
-    pub told: Told,
-    /// The same behind the calls, and whether one was refused.
-    pub stands: (u64, u32, bool),
 }
 
 /// Which fault the last of some answers refused its call with, before anything was changed or
@@ -91,15 +61,15 @@ pub struct Told {
     pub found: Option<Value>,
 }
 
-// What these answers tell.
-fn told_by(replies: &[Reply]) -> Told {
+/// What these answers tell.
+pub fn told_by(replies: &[Reply]) -> Told {
     let mut told = Told {
         refused: None,
         doubt: None,
         found: None,
     };
-    for i in 0..replies.len() {
-        match &replies[i] {
+    for reply in replies {
+        match reply {
             Reply::Values(values) => {
                 if let Some(Some(value)) = values.first() {
                     told.found = Some(*value);
@@ -111,67 +81,4 @@ fn told_by(replies: &[Reply]) -> Told {
         }
     }
     told
-}
-
-// The same without the store and the answers.
-fn outcome_of<S>(served: &Served<S>) -> Outcome {
-    Outcome {
-        generation: served.generation,
-        began: served.began,
-        answered: served.replies.len(),
-        told: told_by(&served.replies),
-        stands: served.stands,
-    }
-}
-
-// Opens a store on a tape of zeros, and makes these calls; none where it isn't opened.
-fn play_again<R: Abort + Threads + Sync>(
-    rt: &R,
-    alloc: Global,
-    store: &mut MemStore,
-    setting: &Setting,
-    steps: &[Step],
-) -> Option<Outcome>
-    requires { (disk_of_store store.old).out ≡ 0 }
-{
-    let calls = requests_of(rt, alloc, &setting.p, steps);
-    let mut tape = ListTape::new(alloc, &[]).expect(rt, "memory");
-    match serve_store(rt, alloc, store, &mut tape, setting, &calls, &mut Blind) {
-        Ok(served) => Some(outcome_of(&served)),
-        Err(_) => None,
-    }
-}
-
-/// A run over a ring store: the words of its tape, zeros behind them, its calls, and those behind
-/// another opening.
-#[derive(Clone, Copy)]
-pub struct Run<'a> {
-    pub words: &'a [u64],
-    pub steps: &'a [Step],
-    pub again: &'a [Step],
-}
-
-/// How both went; none where it isn't opened.
-pub fn play<R: Abort + Threads + Sync, W: Watch>(
-    rt: &R,
-    alloc: Global,
-    store: &mut MemStore,
-    setting: &Setting,
-    run: &Run,
-    watch: &mut W,
-) -> Option<(Outcome, Option<Outcome>)>
-    requires { (disk_of_store store.old).out ≡ 0 }
-{
-    let calls = requests_of(rt, alloc, &setting.p, run.steps);
-    let mut tape = ListTape::new(alloc, run.words).expect(rt, "memory");
-    match serve_store(rt, alloc, store, &mut tape, setting, &calls, watch) {
-        Ok(served) => {
-            let first = outcome_of(&served);
-            Some((
-                first,
-                play_again(rt, alloc, served.store, setting, run.again),
-            ))
-        }
-        Err(_) => None,
-    }
 }

@@ -5,7 +5,6 @@ use ob_base::{
     Field, Params, bucket_of, buckets, check_cell, checkpoint_cells, checkpoint_len, log_cell,
     record_cells, reverse, ring_cells, set_u32, set_u64, slot_cell, u32_at, u64_at,
 };
-use std::process::Abort;
 
 fn params_of(numbers: &[u32; 9]) -> Result<Params, Field> {
     let [n, l, z, s, r, br, bw, e, t] = *numbers;
@@ -40,6 +39,11 @@ fn are_low_first() -> bool {
         && u64_at(&bytes, 6) == 0x0807_0605_0403_0201
 }
 
+#[test]
+fn numbers_stand_low_byte_first(rt: HostRuntime) {
+    insist(&rt, are_low_first(), "both numbers");
+}
+
 // A number of a store.
 enum Ask {
     RingCells,
@@ -55,6 +59,8 @@ enum Ask {
     Slot(u8, u32, u8),
     // The bucket of a level on a leaf's path.
     Bucket(u32, u32),
+    // The leaf that a count leads to.
+    Leaf(u64),
 }
 
 // The number, where the store has one.
@@ -76,57 +82,65 @@ fn number_of(p: &Params, ask: &Ask) -> Option<u64> {
         Ask::Bucket(level, leaf) if level <= p.levels && leaf < 1 << p.levels => {
             Some(u64::from(bucket_of(p, level, leaf)))
         }
+        Ask::Leaf(count) => Some(u64::from(reverse(p, count))),
         _ => None,
     }
 }
 
-// What is asked of a store with two levels, and the number, worked by hand.
-const NUMBERS: &[(Ask, u64)] = &[
-    (Ask::RingCells, 109),
-    (Ask::RecordCells, 1),
-    (Ask::CheckpointLen, 985),
-    (Ask::CheckpointCells, 11),
-    (Ask::Log(0, 0, 0), 9),
-    (Ask::Log(0, 1, 1), 12),
-    (Ask::Log(1, 0, 0), 13),
-    (Ask::Log(1, 1, 1), 16),
-    (Ask::Check(0, 0), 17),
-    (Ask::Check(0, 10), 27),
-    (Ask::Check(1, 0), 28),
-    (Ask::Check(1, 10), 38),
-    (Ask::Slot(0, 0, 0), 39),
-    (Ask::Slot(0, 6, 4), 73),
-    (Ask::Slot(1, 0, 0), 74),
-    (Ask::Slot(1, 6, 4), 108),
-    (Ask::Buckets, 7),
-    (Ask::Bucket(0, 3), 0),
-    (Ask::Bucket(1, 1), 1),
-    (Ask::Bucket(1, 2), 2),
-    (Ask::Bucket(2, 0), 3),
-    (Ask::Bucket(2, 3), 6),
-];
-
-// The leaves of a tree with three levels that the counts from 0 on lead to, worked by hand.
-const LEAVES: [u32; 16] = [0, 4, 2, 6, 1, 5, 3, 7, 0, 4, 2, 6, 1, 5, 3, 7];
-
-fn look_up(rt: &impl Abort) {
-    insist(rt, are_low_first(), "both numbers");
-    let small = params_of(&[8, 2, 2, 3, 2, 2, 2, 2, 8])
-        .ok()
-        .expect(rt, "parameters");
-    for i in 0..NUMBERS.len() {
-        let (ask, number) = &NUMBERS[i];
-        insist_at(rt, number_of(&small, ask) == Some(*number), i);
-    }
-    let wide = params_of(&[8, 3, 2, 3, 2, 2, 2, 2, 8])
-        .ok()
-        .expect(rt, "parameters");
-    for i in 0..LEAVES.len() {
-        insist_at(rt, reverse(&wide, i as u64) == LEAVES[i], i);
+// The number of a store with so many levels.
+fn number_in(levels: u32, ask: &Ask) -> Option<u64> {
+    match params_of(&[8, levels, 2, 3, 2, 2, 2, 2, 8]) {
+        Ok(p) => number_of(&p, ask),
+        Err(_) => None,
     }
 }
 
+// How many levels, what is asked, and the number, worked by hand.
+const NUMBERS: &[(u32, Ask, u64)] = &[
+    (2, Ask::RingCells, 109),
+    (2, Ask::RecordCells, 1),
+    (2, Ask::CheckpointLen, 985),
+    (2, Ask::CheckpointCells, 11),
+    (2, Ask::Log(0, 0, 0), 9),
+    (2, Ask::Log(0, 1, 1), 12),
+    (2, Ask::Log(1, 0, 0), 13),
+    (2, Ask::Log(1, 1, 1), 16),
+    (2, Ask::Check(0, 0), 17),
+    (2, Ask::Check(0, 10), 27),
+    (2, Ask::Check(1, 0), 28),
+    (2, Ask::Check(1, 10), 38),
+    (2, Ask::Slot(0, 0, 0), 39),
+    (2, Ask::Slot(0, 6, 4), 73),
+    (2, Ask::Slot(1, 0, 0), 74),
+    (2, Ask::Slot(1, 6, 4), 108),
+    (2, Ask::Buckets, 7),
+    (2, Ask::Bucket(0, 3), 0),
+    (2, Ask::Bucket(1, 1), 1),
+    (2, Ask::Bucket(1, 2), 2),
+    (2, Ask::Bucket(2, 0), 3),
+    (2, Ask::Bucket(2, 3), 6),
+    (3, Ask::Leaf(0), 0),
+    (3, Ask::Leaf(1), 4),
+    (3, Ask::Leaf(2), 2),
+    (3, Ask::Leaf(3), 6),
+    (3, Ask::Leaf(4), 1),
+    (3, Ask::Leaf(5), 5),
+    (3, Ask::Leaf(6), 3),
+    (3, Ask::Leaf(7), 7),
+    (3, Ask::Leaf(8), 0),
+    (3, Ask::Leaf(9), 4),
+    (3, Ask::Leaf(10), 2),
+    (3, Ask::Leaf(11), 6),
+    (3, Ask::Leaf(12), 1),
+    (3, Ask::Leaf(13), 5),
+    (3, Ask::Leaf(14), 3),
+    (3, Ask::Leaf(15), 7),
+];
+
 #[test]
-fn small_stores_have_these_bytes_cells_and_paths(rt: HostRuntime) {
-    look_up(&rt);
+fn small_stores_have_these_cells_and_paths(rt: HostRuntime) {
+    for i in 0..NUMBERS.len() {
+        let (levels, ask, number) = &NUMBERS[i];
+        insist_at(&rt, number_in(*levels, ask) == Some(*number), i);
+    }
 }

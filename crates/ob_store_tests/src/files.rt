@@ -3,8 +3,8 @@
 ghost use Rattle.std.specs.Prelude.{◌≡◌, IfSome};
 
 use crate::files::Call::{
-    Borrow, Close, Lane, Make, NoLane, NoReader, NotMade, NotMadeAt, NotOpened, Open, OpenRefusing,
-    Play, Readers, Remove, Rename, Replace,
+    Borrow, Close, Lane, Make, NoLane, NoReader, NotMade, NotMadeAt, NotOpened, Open, Play,
+    Readers, Remove, Rename, Replace,
 };
 use crate::steps::Step::{Front, NotRead, NotSynced, NotWritten, Read, Synced, Turns, Write};
 use crate::steps::{Step, insist_at, play};
@@ -29,8 +29,6 @@ enum Call {
     Open,
     // Opens the store, and makes its file where there is none.
     Make,
-    // Opens a file of the system.
-    OpenRefusing,
     // No memory was wanting.
     NotOpened,
     NotMade,
@@ -53,13 +51,17 @@ enum Call {
     Remove,
 }
 
-/// The path of a file of a test and of this process that isn't there yet, in the folder for such
-/// files.
-pub fn fresh_path(rt: &impl Abort, host: &HostRuntime, kind: &str, test: &str) -> String {
+// The path of a file of this name and of this process, in the folder for such files.
+fn path_of(rt: &impl Abort, host: &HostRuntime, name: &str) -> String {
     let folder = env::temp_dir(host).ok().expect(rt, "a folder");
     let id = process::id(host.process());
-    let path = format!(in host.alloc(); "{}/obladi_{kind}_{test}_{id}", folder.to_string_lossy());
-    let path = path.ok().expect(rt, "memory");
+    let path = format!(in host.alloc(); "{}/obladi_{name}_{id}", folder.to_string_lossy());
+    path.ok().expect(rt, "memory")
+}
+
+/// The path of a file that isn't there yet.
+pub fn fresh_path(rt: &impl Abort, host: &HostRuntime, name: &str) -> String {
+    let path = path_of(rt, host, name);
     let _ = fs::remove_file(host, path.as_str());
     path
 }
@@ -73,13 +75,8 @@ pub fn opened<'a>(
     FileStore::open(host, host.alloc(), path, create)
 }
 
-// Whether the store opens, in its file or in another one.
-fn opens(room: &mut Room, other: Option<&str>, create: bool) -> bool {
-    let path = match other {
-        Some(path) => path,
-        None => room.path.as_str(),
-    };
-    room.store = opened(room.host, path, create).ok();
+fn opens(room: &mut Room, create: bool) -> bool {
+    room.store = opened(room.host, room.path.as_str(), create).ok();
     room.store.is_some()
 }
 
@@ -169,21 +166,20 @@ fn goes_beside(host: &HostRuntime, path: &str, other: &str, call: &Call) -> bool
 // Whether a call goes so.
 fn goes(rt: &impl Abort, room: &mut Room, call: &Call) -> bool {
     match *call {
-        Open => opens(room, None, false),
-        Make => opens(room, None, true),
-        OpenRefusing => opens(room, Some(REFUSES), false),
+        Open => opens(room, false),
+        Make => opens(room, true),
         Close => closes(room),
         Play(_) | Lane | NoLane | Borrow => is_served(rt, room, call),
         _ => goes_beside(room.host, room.path.as_str(), room.other.as_str(), call),
     }
 }
 
-// Makes calls one behind the other, on files of a test of this name.
-fn run(rt: &impl Abort, host: &HostRuntime, test: &str, calls: &[Call]) {
+// Makes calls one behind the other, on files of these names.
+fn run(rt: &impl Abort, host: &HostRuntime, name: &str, other: &str, calls: &[Call]) {
     let mut room = Room {
         host,
-        path: fresh_path(rt, host, "store", test),
-        other: fresh_path(rt, host, "other", test),
+        path: fresh_path(rt, host, name),
+        other: fresh_path(rt, host, other),
         store: None,
     };
     for i in 0..calls.len() {
@@ -197,9 +193,19 @@ const KEPT: &[Step] = &[Write(3, 7), Synced, Read(3, 7), Read(2, 0), Read(4, 0)]
 // Opened again, also as if it weren't there, it is as it was.
 const KEEPS: &[Call] = &[Make, Play(KEPT), Close, Make, Play(&[Read(3, 7)]), Remove];
 
+#[test]
+fn a_file_keeps_its_cells(rt: HostRuntime) {
+    run(&rt, &rt, "keeps", "other_keeps", KEEPS);
+}
+
 const FOUR: &[Step] = &[Write(0, 0), Write(1, 1), Write(2, 2), Write(3, 3), Turns];
 
 const TWO_LANES: &[Call] = &[Make, Play(FOUR), Remove];
+
+#[test]
+fn two_lanes_read_by_turns(rt: HostRuntime) {
+    run(&rt, &rt, "lanes", "other_lanes", TWO_LANES);
+}
 
 const FIRST: &[Step] = &[Write(0, 4), Read(0, 4)];
 
@@ -208,8 +214,17 @@ const THEN: &[Step] = &[Write(0, 5), Read(0, 5), Write(0, 6), Read(0, 6)];
 // A lane of another store isn't kept, and one of its own is, though another file has its name then.
 const KEEPS_OWN: &[Call] = &[Make, Borrow, Play(FIRST), Rename, Play(THEN), Remove];
 
-// A file that is short reads as zeros behind.
+#[test]
+fn a_lane_is_kept_for_its_own_store(rt: HostRuntime) {
+    run(&rt, &rt, "kept", "other_kept", KEEPS_OWN);
+}
+
 const SHORT: &[Call] = &[Replace, Open, Play(&[Front(0, *b"abc")]), Remove];
+
+#[test]
+fn a_file_that_is_short_reads_as_zeros_behind(rt: HostRuntime) {
+    run(&rt, &rt, "short", "other_short", SHORT);
+}
 
 // No place of a file is so far.
 const TOO_FAR: &[Step] = &[
@@ -231,6 +246,11 @@ const FAILS: &[Call] = &[
     Lane,
 ];
 
+#[test]
+fn what_cannot_be_done_fails(rt: HostRuntime) {
+    run(&rt, &rt, "none", "other_none", FAILS);
+}
+
 // A cell that is written again before a sync, next to others.
 const TWICE: &[Step] = &[
     Write(4, 1),
@@ -244,18 +264,13 @@ const TWICE: &[Step] = &[
     Read(5, 7),
 ];
 
-const AGAIN: &[Call] = &[Make, Play(TWICE), Remove];
-
 #[test]
-fn a_file_keeps_its_cells(rt: HostRuntime) {
-    run(&rt, &rt, "keeps", KEEPS);
-    run(&rt, &rt, "lanes", TWO_LANES);
-    run(&rt, &rt, "short", SHORT);
-    run(&rt, &rt, "twice", AGAIN);
+fn the_last_bytes_of_a_cell_count(rt: HostRuntime) {
+    let calls = &[Make, Play(TWICE), Remove];
+    run(&rt, &rt, "twice", "other_twice", calls);
 }
 
-// A file of the system that takes no such bytes, and that no sync is of: a store that failed once
-// fails for good.
+// A file of the system that takes no such bytes, and that no sync is of.
 const REFUSES: &str = "/proc/self/oom_score_adj";
 
 // The first write is gathered, and fails where the second one hands it over.
@@ -269,18 +284,15 @@ const LOST: &[Step] = &[
 
 const NOT_SURE: &[Step] = &[NotSynced, NotWritten(0, 1), Step::NoLane];
 
-const FAILS_FOR_GOOD: &[Call] = &[
-    OpenRefusing,
-    Play(LOST),
-    Close,
-    OpenRefusing,
-    Play(NOT_SURE),
-];
+fn goes_so(rt: &impl Abort, host: &HostRuntime, steps: &[Step]) {
+    let mut store = opened(host, REFUSES, false).ok().expect(rt, "a store");
+    play(rt, &mut store, steps);
+}
 
 #[test]
-fn what_cannot_be_done_fails(rt: HostRuntime) {
-    run(&rt, &rt, "none", FAILS);
-    run(&rt, &rt, "refuses", FAILS_FOR_GOOD);
+fn a_store_that_failed_once_fails_for_good(rt: HostRuntime) {
+    goes_so(&rt, &rt, LOST);
+    goes_so(&rt, &rt, NOT_SURE);
 }
 
 const WRITE: Call = Play(&[Write(0, 5)]);
@@ -290,7 +302,7 @@ const ALONE: &[Call] = &[Make, WRITE, NotMade, NoReader, Close, Readers, Open, R
 
 #[test]
 fn a_file_is_one_stores_alone(rt: HostRuntime) {
-    run(&rt, &rt, "locked", ALONE);
+    run(&rt, &rt, "locked", "other_locked", ALONE);
 }
 
 // Where another file has its name, or none, the first lane isn't made.
@@ -302,8 +314,7 @@ const MOVED: &[Call] = &[Make, Play(ONE), Replace, Play(&[Turns, Read(0, 0)]), R
 const ONE: &[Step] = &[Write(1, 1), Write(2, 2), Write(3, 3), Read(3, 3)];
 
 #[test]
-fn a_lane_is_of_its_store_and_of_the_file_that_was_opened(rt: HostRuntime) {
-    run(&rt, &rt, "kept", KEEPS_OWN);
-    run(&rt, &rt, "named", REPLACED);
-    run(&rt, &rt, "moved", MOVED);
+fn a_lane_is_of_the_file_that_was_opened(rt: HostRuntime) {
+    run(&rt, &rt, "named", "other_named", REPLACED);
+    run(&rt, &rt, "moved", "other_moved", MOVED);
 }

@@ -78,6 +78,14 @@ fn reads_all<S: Lanes, R: Abort + Threads + Sync>(
         && are_read(readers.slots.as_slice(), cells)
 }
 
+#[test]
+fn two_lanes_read_at_once(rt: HostRuntime) {
+    let alloc = rt.alloc();
+    let mut store = GateStore::new(new_store(&rt, alloc, 8, &[]), 10_000_000);
+    let read = reads_all(&rt, alloc, &mut store, &[5, 0, 6, 1]);
+    insist(&rt, read && store.phases() == 1, "one phase");
+}
+
 // Whether a lane reads a cell while another one is out that reads nothing.
 fn reads_beside_another<S: Store>(rt: &impl Abort, store: &mut S, cell: u64) -> bool
     ensures { (S.disk store.new).out ≤ (S.disk store.old).out }
@@ -91,66 +99,56 @@ fn reads_beside_another<S: Store>(rt: &impl Abort, store: &mut S, cell: u64) -> 
     is_read
 }
 
-// How many phases a gate has seen at its end.
-fn phases_of(store: GateStore) -> u64 {
-    store.phases()
-}
-
-// Whether a gate that waits long serves two lanes that read at once.
-fn serves_both<R: Abort + Threads + Sync>(rt: &R, alloc: Global) -> bool {
-    let mut store = GateStore::new(new_store(rt, alloc, 8, &[]), 10_000_000);
-    let read = reads_all(rt, alloc, &mut store, &[5, 0, 6, 1]);
-    let phases = phases_of(store);
-    read && phases == 1
-}
-
-// Whether one that waits ten turns fails a lane that reads alone beside another, and serves the
-// next.
-fn fails_one(rt: &impl Abort, alloc: Global) -> bool {
-    let mut store = GateStore::new(new_store(rt, alloc, 8, &[]), 10);
-    let read = reads_beside_another(rt, &mut store, 5);
-    let before = store.phases();
-    play(rt, &mut store, &[Read(5, 0)]);
-    let phases = phases_of(store);
-    !read && before == 1 && phases == 1
+// A gate waits so often in vain.
+#[test]
+fn a_lane_that_reads_alone_beside_another_fails(rt: HostRuntime) {
+    let alloc = rt.alloc();
+    let mut store = GateStore::new(new_store(&rt, alloc, 8, &[]), 10);
+    let read = reads_beside_another(&rt, &mut store, 5);
+    let phases = store.phases();
+    play(&rt, &mut store, &[Read(5, 0)]);
+    insist(
+        &rt,
+        !read && phases == 1 && store.phases() == 1,
+        "one phase",
+    );
 }
 
 #[test]
-fn a_gate_serves_two_lanes_at_once_and_no_lane_alone(rt: HostRuntime) {
-    let both = serves_both(&rt, rt.alloc()) && fails_one(&rt, rt.alloc());
-    insist(&rt, both, "one phase each");
+fn threads_read_a_bare_store(rt: HostRuntime) {
+    let alloc = rt.alloc();
+    let mut store = BareStore::new(alloc, 8).expect(&rt, "memory");
+    let read = reads_all(&rt, alloc, &mut store, &[5, 0, 7, 6, 1]);
+    insist(&rt, read, "five cells");
 }
 
 // As many cells as it takes for a bare store to start a thread for each of two lanes.
 const MANY: usize = 80;
 
-// Whether lanes read these cells of a bare store.
-fn reads_bare<R: Abort + Threads + Sync>(rt: &R, alloc: Global, cells: &[u64]) -> bool {
-    let mut store = BareStore::new(alloc, MANY).expect(rt, "memory");
-    reads_all(rt, alloc, &mut store, cells)
-}
-
-// Whether they read all, and five.
-fn reads_many_and_few<R: Abort + Threads + Sync>(rt: &R, alloc: Global) -> bool {
+#[test]
+fn threads_read_many_cells_of_a_bare_store(rt: HostRuntime) {
+    let alloc = rt.alloc();
+    let mut store = BareStore::new(alloc, MANY).expect(&rt, "memory");
     let mut cells = [0; MANY];
     for i in 0..MANY {
         cells[i] = (i * 7 % MANY) as u64;
     }
-    reads_bare(rt, alloc, &cells) && reads_bare(rt, alloc, &cells[..5])
+    let read = reads_all(&rt, alloc, &mut store, &cells);
+    insist(&rt, read, "all cells");
 }
 
-// Whether threads read a new file, which is removed then.
-fn reads_file<R: Abort + Threads + Sync>(rt: &R, host: &HostRuntime) -> bool {
-    let path = fresh_path(rt, host, "store", "threads");
-    let read = match opened(host, path.as_str(), true) {
+// Whether threads read a new file.
+fn is_read<R: Abort + Threads + Sync>(rt: &R, host: &HostRuntime, path: &str) -> bool {
+    match opened(host, path, true) {
         Ok(mut store) => reads_all(rt, host.alloc(), &mut store, &[5, 0, 7, 6, 1]),
         Err(_) => false,
-    };
-    fs::remove_file(host, path.as_str()).is_ok() && read
+    }
 }
 
 #[test]
-fn threads_read_a_bare_store_and_a_file(rt: HostRuntime) {
-    let both = reads_many_and_few(&rt, rt.alloc()) && reads_file(&rt, &rt);
-    insist(&rt, both, "all cells");
+fn threads_read_a_file(rt: HostRuntime) {
+    let path = fresh_path(&rt, &rt, "threads");
+    let read = is_read(&rt, &rt, path.as_str());
+    let removed = fs::remove_file(&rt, path.as_str()).is_ok();
+    insist(&rt, read && removed, "a new file");
 }

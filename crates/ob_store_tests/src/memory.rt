@@ -1,9 +1,11 @@
 //! Planned failures, and what a crash may leave.
 
+ghost use Rattle.std.specs.Prelude.{◌≡◌};
+
 use crate::steps::Step::{NoLane, NotRead, NotSynced, NotWritten, Read, Synced, Write};
-use crate::steps::{Step, insist, let_go, new_sink, new_store, play};
-use ob_io::{Sink, Source, put_all};
-use ob_mem::{BareStore, Fail, MemSource, MemStore, Void};
+use crate::steps::{Step, insist, new_sink, new_store, play};
+use ob_io::{Sink, Source, put_all, read_all};
+use ob_mem::{BareStore, Fail, MemSink, MemSource, MemStore, Void};
 use ob_store::{SinkWatch, Store, write_run};
 use std::alloc::Global;
 use std::process::Abort;
@@ -12,43 +14,61 @@ use std::process::Abort;
 // many are left then.
 const READS: &[(Option<usize>, usize)] = &[(Some(2), 1), (None, 1), (Some(1), 0), (Some(0), 0)];
 
+// A source of these bytes whose reads of these numbers fail.
+fn new_source(rt: &impl Abort, alloc: Global, bytes: &[u8], fails: &[u64]) -> MemSource {
+    let bytes = bytes.to_vec(alloc).expect(rt, "memory");
+    let fails = fails.to_vec(alloc).expect(rt, "memory");
+    MemSource::new(bytes, fails)
+}
+
 // Whether it gives all that.
-fn gives_so(rt: &impl Abort, alloc: Global) -> bool {
-    let bytes = [1, 2, 3].as_slice().to_vec(alloc).expect(rt, "memory");
-    let fails = [1].as_slice().to_vec(alloc).expect(rt, "memory");
-    let mut source = MemSource::new(bytes, fails);
+fn gives_so(source: &mut MemSource) -> bool {
     let mut piece = [0; 2];
-    let mut so = true;
     for &(count, left) in READS {
-        so = so && source.read(&mut piece).ok() == count && source.left().len() == left;
+        if source.read(&mut piece).ok() != count || source.left().len() != left {
+            return false;
+        }
     }
-    so && piece == [3, 2] && source.faults() == 1
+    piece == [3, 2] && source.faults() == 1
 }
 
 #[test]
 fn a_source_fails_at_the_named_calls(rt: HostRuntime) {
-    insist(&rt, gives_so(&rt, rt.alloc()), "three bytes");
+    let mut source = new_source(&rt, rt.alloc(), &[1, 2, 3], &[1]);
+    insist(&rt, gives_so(&mut source), "three bytes");
+}
+
+#[test]
+fn a_source_is_read_to_its_end(rt: HostRuntime) {
+    let mut source = new_source(&rt, rt.alloc(), &[7; 5000], &[]);
+    let read = read_all(rt.alloc(), &mut source, 10_000).ok();
+    let bytes = read.expect(&rt, "bytes");
+    insist(&rt, bytes.len() == 5000, "its end");
 }
 
 // Of a sink with room for five bytes whose second write fails: what is written, and how much of it
 // is taken.
 const WRITES: &[(&[u8], Option<usize>)] = &[(b"ab", Some(2)), (b"cd", None), (b"cdef", Some(3))];
 
-// Whether it takes all that, and nothing behind it, where a void takes all.
-fn takes_so(rt: &impl Abort, alloc: Global) -> bool {
-    let mut sink = new_sink(rt, alloc, 5, &[1]);
-    let mut so = put_all(&mut Void, b"abc").is_ok();
+// Whether it takes all that, and nothing behind it.
+fn takes_so(sink: &mut MemSink) -> bool {
     for &(bytes, count) in WRITES {
-        so = so && sink.write(bytes).ok() == count;
+        if sink.write(bytes).ok() != count {
+            return false;
+        }
     }
-    so && put_all(&mut sink, b"g").is_err()
-        && sink.written() == b"abcde".as_slice()
-        && sink.faults() == 2
+    put_all(sink, b"g").is_err() && sink.written() == b"abcde".as_slice() && sink.faults() == 2
 }
 
 #[test]
 fn a_sink_fails_at_the_named_calls_and_without_room(rt: HostRuntime) {
-    insist(&rt, takes_so(&rt, rt.alloc()), "five bytes");
+    let mut sink = new_sink(&rt, rt.alloc(), 5, &[1]);
+    insist(&rt, takes_so(&mut sink), "five bytes");
+}
+
+#[test]
+fn a_void_takes_all(rt: HostRuntime) {
+    insist(&rt, put_all(&mut Void, b"abc").is_ok(), "three bytes");
 }
 
 const PLANNED: [Fail; 4] = [
@@ -69,13 +89,12 @@ const FAILING: &[Step] = &[
     Read(7, 0),
 ];
 
-// Whether they do, and are counted.
-fn fails_as_planned(rt: &impl Abort, alloc: Global) -> bool {
-    let mut store = new_store(rt, alloc, 3, &PLANNED);
-    play(rt, &mut store, FAILING);
-    let counted = store.faults() == 5 && store.starved() == 0;
-    let_go(store);
-    counted
+#[test]
+fn planned_calls_of_a_store_fail(rt: HostRuntime) {
+    let mut store = new_store(&rt, rt.alloc(), 3, &PLANNED);
+    play(&rt, &mut store, FAILING);
+    let counts = store.faults() == 5 && store.starved() == 0;
+    insist(&rt, counts, "five faults");
 }
 
 // Two cells, of which the first is sure.
@@ -94,58 +113,52 @@ const CRASHES: &[(usize, &[Step])] = &[
 // Makes calls on what a crash leaves that fills cells with these bytes, the second one twice.
 fn play_filled(rt: &impl Abort, store: &MemStore, moment: usize, steps: &[Step]) {
     let fillings = [(0, [7; 128]), (1, [8; 128]), (1, [9; 128]), (5, [9; 128])];
-    let mut left = store.crash(moment, &fillings).expect(rt, "memory");
-    play(rt, &mut left, steps);
-    let_go(left);
+    let left = store.crash(moment, &fillings);
+    play(rt, &mut left.expect(rt, "memory"), steps);
 }
 
 const LAST: &[Step] = &[Read(1, 2)];
 
-fn crash_at_each(rt: &impl Abort, alloc: Global) {
-    let mut store = new_store(rt, alloc, 4, &[Fail::Sync(1)]);
-    play(rt, &mut store, HALF_SURE);
-    for i in 0..CRASHES.len() {
-        let (moment, steps) = CRASHES[i];
-        play_filled(rt, &store, moment, steps);
+#[test]
+fn a_crash_fills_what_is_not_sure(rt: HostRuntime) {
+    let mut store = new_store(&rt, rt.alloc(), 4, &[Fail::Sync(1)]);
+    play(&rt, &mut store, HALF_SURE);
+    for (moment, steps) in CRASHES {
+        play_filled(&rt, &store, *moment, steps);
     }
-    let mut left = store.crash(4, &[]).expect(rt, "memory");
-    play(rt, &mut left, LAST);
-    let_go(left);
-    let_go(store);
+    let left = store.crash(4, &[]);
+    play(&rt, &mut left.expect(&rt, "memory"), LAST);
 }
 
 // On a store of two cells.
 const BARE: &[Step] = &[Write(1, 5), NotWritten(2, 5), Synced, Read(1, 5)];
 
-fn play_bare(rt: &impl Abort, alloc: Global) {
-    let mut store = BareStore::new(alloc, 2).expect(rt, "memory");
-    play(rt, &mut store, BARE);
+#[test]
+fn a_bare_store_reads_what_was_written(rt: HostRuntime) {
+    let mut store = BareStore::new(rt.alloc(), 2).expect(&rt, "memory");
+    play(&rt, &mut store, BARE);
 }
 
 // What two runs leave, of which the second one's last write failed.
 const RUNS: &[Step] = &[Read(0, 0), Read(1, 5), Read(2, 7), Read(3, 8)];
 
-// Whether two runs are written so, which is shown.
-fn writes_runs(rt: &impl Abort, alloc: Global) -> bool {
-    let mut store = new_store(rt, alloc, 4, &[Fail::Write(3)]);
-    let mut sink = new_sink(rt, alloc, 40, &[]);
-    let mut watch = SinkWatch::new(&mut sink);
-    let first = write_run(&mut store, 1, &[[5; 128], [6; 128]], &mut watch).is_ok();
-    let last = [[7; 128], [8; 128], [9; 128]];
-    let second = write_run(&mut store, 2, &last, &mut watch).is_err();
-    play(rt, &mut store, RUNS);
-    let_go(store);
-    first && second && sink.written() == b"W 1\nW 2\nW 2\nW 3\n".as_slice()
-}
-
-fn play_each(rt: &impl Abort, alloc: Global) {
-    insist(rt, fails_as_planned(rt, alloc), "five faults");
-    crash_at_each(rt, alloc);
-    play_bare(rt, alloc);
-    insist(rt, writes_runs(rt, alloc), "four writes");
+// Writes two runs, which is shown.
+fn write_runs(rt: &impl Abort, sink: &mut MemSink, store: &mut MemStore)
+    requires { store.old.log.out ≡ 0 }
+    ensures { store.new.log.out ≡ 0 }
+{
+    let mut watch = SinkWatch::new(sink);
+    let first = write_run(store, 1, &[[5; 128], [6; 128]], &mut watch);
+    let second = write_run(store, 2, &[[7; 128], [8; 128], [9; 128]], &mut watch);
+    insist(rt, first.is_ok() && second.is_err(), "two runs");
 }
 
 #[test]
-fn stores_in_memory_fail_and_crash_as_planned(rt: HostRuntime) {
-    play_each(&rt, rt.alloc());
+fn a_run_is_written_cell_by_cell(rt: HostRuntime) {
+    let mut store = new_store(&rt, rt.alloc(), 4, &[Fail::Write(3)]);
+    let mut sink = new_sink(&rt, rt.alloc(), 40, &[]);
+    write_runs(&rt, &mut sink, &mut store);
+    let shown = sink.written() == b"W 1\nW 2\nW 2\nW 3\n".as_slice();
+    insist(&rt, shown, "four writes");
+    play(&rt, &mut store, RUNS);
 }

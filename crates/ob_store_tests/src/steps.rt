@@ -136,9 +136,6 @@ pub fn new_store(rt: &impl Abort, alloc: Global, cells: usize, fails: &[Fail]) -
     MemStore::new(alloc, cells, fails).expect(rt, "memory")
 }
 
-/// Lets a store go. What a drop takes is proved in each function that has one, so tests call this.
-pub fn let_go(_store: MemStore) {}
-
 /// A sink that takes so many bytes, and whose writes of these numbers fail.
 pub fn new_sink(rt: &impl Abort, alloc: Global, room: usize, fails: &[u64]) -> MemSink {
     let fails = fails.to_vec(alloc).expect(rt, "memory");

@@ -5,7 +5,6 @@ use ob_io::{ReadErr, put_all, read_all};
 use ob_outside::{StdSink, StdSource};
 use std::alloc::Global;
 use std::io::{self, ErrorKind, Read, Write};
-use std::process::Abort;
 
 // A reader of "abc": two bytes, an interruption, a byte, and then its end, or a failure.
 #[derive(Drop)]
@@ -40,6 +39,17 @@ fn reads_so(alloc: Global, fails: bool, limit: u32, wanted: Option<usize>) -> bo
     }
 }
 
+#[test]
+fn a_reader_of_std_is_read_to_its_end_or_its_failure(rt: HostRuntime) {
+    for (fails, limit, wanted) in [
+        (false, 100, Some(3)),
+        (false, 1, Some(2)),
+        (true, 100, None),
+    ] {
+        insist(&rt, reads_so(rt.alloc(), fails, limit, wanted), "a reader");
+    }
+}
+
 // A writer that takes three bytes a call, and fails from the named call on.
 #[derive(Drop)]
 struct Narrow {
@@ -61,21 +71,11 @@ impl Write for Narrow {
     }
 }
 
-// Whether all of six bytes are written.
-fn writes_so(fails: u32, wanted: bool) -> bool {
-    let mut sink = StdSink::new(Narrow { calls: 0, fails });
-    put_all(&mut sink, b"abcdef").is_ok() == wanted
-}
-
-fn run_each(rt: &impl Abort, alloc: Global) {
-    let whole = reads_so(alloc, false, 100, Some(3)) && reads_so(alloc, false, 1, Some(2));
-    insist(rt, whole, "readers to their end");
-    insist(rt, reads_so(alloc, true, 100, None), "a reader that fails");
-    let written = writes_so(3, true) && writes_so(2, false) && writes_so(1, false);
-    insist(rt, written, "writers");
-}
-
 #[test]
-fn streams_of_std_are_taken_to_their_end_or_their_failure(rt: HostRuntime) {
-    run_each(&rt, rt.alloc());
+fn a_writer_of_std_gets_every_piece_until_it_fails(rt: HostRuntime) {
+    for (fails, whole) in [(3, true), (2, false), (1, false)] {
+        let mut sink = StdSink::new(Narrow { calls: 0, fails });
+        let put = put_all(&mut sink, b"abcdef").is_ok();
+        insist(&rt, put == whole, "a writer");
+    }
 }
