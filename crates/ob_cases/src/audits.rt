@@ -1,6 +1,7 @@
-//! Audits of a format's trace and a run's in a row, with a line changed, more or less.
+//! Audits of a format's trace and a run's in a row, with a line changed, more or less, and of such
+//! as end before they are told.
 
-use crate::calling::{expect_alone, parted};
+use crate::calling::{expect_alone, number_of, parted, replaced};
 use crate::lines::{FORMATTED, ONE_EPOCH};
 use ob_top_calls::ask_for;
 use std::process::Abort;
@@ -31,9 +32,9 @@ const CHANGED: &str = "\
 fn expect_changed<R: AllocGlobal + Threads + Wait + Sync + Abort>(rt: &R, line: &str) {
     let (from, rest) = parted(rt, line, " -> ");
     let (to, wanted) = parted(rt, rest, " -> ");
-    let mut text = String::from_str(rt.alloc(), FORMATTED).expect(rt, "memory");
-    text.push_str(ONE_EPOCH).expect(rt, "memory");
-    let text = text.replace(rt.alloc(), from, to).expect(rt, "memory");
+    let mut text = replaced(rt, FORMATTED, from, to);
+    let run = replaced(rt, ONE_EPOCH, from, to);
+    text.push_str(run.as_str()).expect(rt, "memory");
     expect_audit(rt, text.as_str(), wanted);
 }
 
@@ -42,4 +43,27 @@ fn a_line_that_is_changed_breaks_a_trace(rt: HostRuntime) {
     for line in CHANGED.lines() {
         expect_changed(&rt, line);
     }
+}
+
+// The write that fails, of an audit of a trace that begins with an opening, and what is told.
+const CUT: &str = "\
+    0: 7 \n\
+    1: 7 breaks line \n\
+    3: 7 breaks line 1 wanted ";
+
+#[test]
+fn an_audit_is_told_up_to_a_write_that_fails(rt: HostRuntime) {
+    for line in CUT.lines() {
+        let (write, wanted) = parted(&rt, line, ": ");
+        let mut ask = ask_for("audit", "O/");
+        ask.bad_write = number_of(&rt, write);
+        expect_alone(&rt, &ask, wanted);
+    }
+}
+
+#[test]
+fn an_audit_ends_where_its_input_fails(rt: HostRuntime) {
+    let mut ask = ask_for("audit", FORMATTED);
+    ask.bad_read = 1;
+    expect_alone(&rt, &ask, "7 fault: source/");
 }

@@ -1,15 +1,12 @@
-//! Calls of the top over a store in memory, or over none, and what each answers, traces and asks of its
-//! store.
+//! Calls of the top over a store in memory, or over none, and what each answers.
 
 ghost use Rattle.std.specs.Prelude.{◌≡◌};
 ghost use Rattle.ob_mem.specs.Memory.{disk_of_store};
 
-use crate::lines::list_of;
-use ob_mem::{Fail, MemSink};
+use crate::lines::FORMATTED;
+use ob_mem::{Fail, MemSink, MemStore};
 use ob_top_calls as calls;
-use ob_top_calls::{
-    Ask, CELLS, END, KEYS, NEVER, Noting, WIDE, has_front, let_noting_go, noted_after, noted_blank,
-};
+use ob_top_calls::{Answer, Ask, CELLS, END, KEYS, NEVER, WIDE, has_front, let_go};
 use std::process::Abort;
 use std::sync::Wait;
 use std::thread::Threads;
@@ -33,12 +30,12 @@ pub static RUNS: [&str; 4] = [
 /// A script of an empty transaction.
 pub const EMPTY: &str = "client 1/begin/commit";
 
-// Tapes: of zeros, and one that gives a 1 behind four of them.
-static ZEROS: [u64; 5] = [0; 5];
+/// These words under the keys, with a script, a tape of zeros and wide room for a trace.
+pub fn ask_for<'a>(words: &'a str, script: &'a str) -> Ask<'a> {
+    ask_with(words, script, &[])
+}
 
-static LEAF_ONE: [u64; 5] = [0, 0, 0, 0, 1];
-
-/// These words under the keys, with a script, a tape and wide room for a trace.
+/// The same with a tape.
 pub fn ask_with<'a>(words: &'a str, script: &'a str, tape: &'a [u64]) -> Ask<'a> {
     Ask {
         words,
@@ -50,6 +47,11 @@ pub fn ask_with<'a>(words: &'a str, script: &'a str, tape: &'a [u64]) -> Ask<'a>
         room: WIDE,
         trace: Some(WIDE),
     }
+}
+
+/// A text with another in each place of a part.
+pub fn replaced<R: AllocGlobal + Abort>(rt: &R, text: &str, part: &str, by: &str) -> String {
+    text.replace(rt.alloc(), part, by).expect(rt, "memory")
 }
 
 /// The text of bytes.
@@ -67,6 +69,12 @@ pub fn number_of<R: Abort>(rt: &R, text: &str) -> u64 {
     text.parse::<u64>().ok().expect(rt, "a number")
 }
 
+/// Compares what was told with `STATUS OUTPUT`.
+pub fn expect_told<R: Abort>(rt: &R, answer: Answer, wanted: &str) {
+    let (status, output) = parted(rt, wanted, " ");
+    insist(rt, answer.was(number_of(rt, status), output), wanted);
+}
+
 /// Makes a call without a store, and compares what it answers with `STATUS OUTPUT`.
 pub fn expect_alone<R: AllocGlobal + Threads + Wait + Sync + Abort>(
     rt: &R,
@@ -74,104 +82,69 @@ pub fn expect_alone<R: AllocGlobal + Threads + Wait + Sync + Abort>(
     wanted: &str,
 ) {
     let answer = calls::call_alone(rt, ask).expect(rt, "memory");
-    let (status, output) = parted(rt, wanted, " ");
-    insist(rt, answer.was(number_of(rt, status), output), wanted);
+    expect_told(rt, answer, wanted);
 }
 
-// Whether a line tells of a call on the store.
-fn is_event(line: &str) -> bool {
-    line.starts_with('R') || line.starts_with('W') || line.starts_with('S')
-}
-
-// Whether a trace has just the first so many lines of a list.
-fn is_front(trace: &MemSink, list: &str, lines: u64) -> bool {
-    let mut ends: u64 = 0;
+// Whether a trace has the first so many lines of a list.
+fn is_front(trace: &MemSink, list: &str, lines: usize) -> bool {
+    let mut ends: usize = 0;
     let mut last = 0;
     for byte in trace.written() {
         last = *byte;
-        ends = ends.saturating_add((*byte == b'\n') as u64);
+        ends = ends.saturating_add((*byte == b'\n') as usize);
     }
     last == b'\n' && ends == lines && has_front(trace, list, trace.written().len())
 }
 
-// Those of the first so many lines of a list that tell of calls on the store.
-fn events_of<R: AllocGlobal + Abort>(rt: &R, list: &str, lines: u64) -> String {
-    let mut events = String::new(rt.alloc());
-    let mut left = lines;
-    for line in list.split_terminator('/') {
-        if left == 0 {
-            break;
-        }
-        left = left.saturating_sub(1);
-        if is_event(line) {
-            events.push_str(line).expect(rt, "memory");
-            events.push_str("\n").expect(rt, "memory");
-        }
+fn is_traced(trace: &Option<MemSink>, list: (&str, usize)) -> bool {
+    match trace {
+        Some(trace) => is_front(trace, list.0, list.1),
+        None => false,
     }
-    events
 }
 
-// Whether a store that was told so many bytes before was asked for just these calls behind them.
-fn is_asked<R: AllocGlobal + Abort>(
-    rt: &R,
-    told: &MemSink,
-    before: usize,
-    list: &str,
-    lines: u64,
-) -> bool {
-    let events = events_of(rt, list, lines);
-    told.written().len() == before.saturating_add(events.len())
-        && told.written().ends_with(events.as_bytes())
-}
-
-/// Makes a call under a trace over a store, by these words: `LIST TRACED ASKED < SCRIPT -> STATUS
-/// OUTPUT`. Just the first so many lines of the list are traced, and just the calls of the first so
-/// many are made on the store: of several lanes any may make a phase's next read.
+/// Makes a call with room for all of its trace, and compares what it answers with `STATUS OUTPUT`,
+/// and what is in the trace with the first so many lines of a list.
 pub fn expect<R: AllocGlobal + Threads + Wait + Sync + Abort>(
     rt: &R,
-    store: &mut Noting,
-    words: &str,
-    row: &str,
+    store: &mut MemStore,
+    ask: Ask<'_>,
+    wanted: &str,
+    list: (&str, usize),
 )
-    requires { (disk_of_store store.old.store).out ≡ 0 }
-    ensures { (disk_of_store store.new.store).out ≡ 0 }
+    requires { (disk_of_store store.old).out ≡ 0 }
+    ensures { (disk_of_store store.new).out ≡ 0 }
 {
-    let (name, rest) = parted(rt, row, " ");
-    let (traced, rest) = parted(rt, rest, " ");
-    let (asked, rest) = parted(rt, rest, " < ");
-    let (script, wanted) = parted(rt, rest, " -> ");
-    let (status, output) = parted(rt, wanted, " ");
-    let list = list_of(name);
-    let tape = if name == "leaf" { &LEAF_ONE } else { &ZEROS };
-    let several = words.starts_with("run") && !words.contains("--lanes 1");
-    let before = store.told.written().len();
-    let ask = ask_with(words, script, tape);
-    let answer = calls::call_over(rt, store, &ask).expect(rt, "memory");
-    let trace = answer.trace.as_ref().expect(rt, "a trace");
-    let listed = is_front(trace, list, number_of(rt, traced))
-        && (several || is_asked(rt, &store.told, before, list, number_of(rt, asked)));
-    let answered = answer.was(number_of(rt, status), output);
-    insist(rt, listed && answered, row);
+    let answer = calls::call(rt, store, &ask).expect(rt, "memory");
+    insist(rt, is_traced(&answer.trace, list), ask.words);
+    expect_told(rt, answer, wanted);
+}
+
+/// A store of so many cells, of which these calls fail.
+pub fn blank<R: AllocGlobal + Abort>(rt: &R, cells: usize, fails: &[Fail]) -> MemStore
+    ensures { (disk_of_store result).out ≡ 0 }
+{
+    calls::blank(rt.alloc(), cells, fails).expect(rt, "memory")
 }
 
 /// A store of 8 keys, of which these calls fail, just formatted under a trace.
-pub fn formatted<R: AllocGlobal + Threads + Wait + Sync + Abort>(rt: &R, fails: &[Fail]) -> Noting
-    ensures { (disk_of_store result.store).out ≡ 0 }
+pub fn formatted<R: AllocGlobal + Threads + Wait + Sync + Abort>(rt: &R, fails: &[Fail]) -> MemStore
+    ensures { (disk_of_store result).out ≡ 0 }
 {
-    let mut store = noted_blank(rt.alloc(), CELLS, fails).expect(rt, "memory");
-    let row = "format 73 73 <  -> 0 store of 109 cells/";
-    expect(rt, &mut store, FORMAT, row);
-    insist(rt, store.store.moments() == 72, row);
+    let mut store = blank(rt, CELLS, fails);
+    let told = "0 store of 109 cells/";
+    expect(rt, &mut store, ask_for(FORMAT, ""), told, (FORMATTED, 73));
+    insist(rt, store.moments() == 72, told);
     store
 }
 
 /// The same behind a crash that comes behind all calls.
-pub fn new_store<R: AllocGlobal + Threads + Wait + Sync + Abort>(rt: &R) -> Noting
-    ensures { (disk_of_store result.store).out ≡ 0 }
+pub fn new_store<R: AllocGlobal + Threads + Wait + Sync + Abort>(rt: &R) -> MemStore
+    ensures { (disk_of_store result).out ≡ 0 }
 {
     let formatted = formatted(rt, &[]);
     let store = left_after(rt, &formatted, END, None);
-    let_noting_go(formatted);
+    let_go(formatted);
     store
 }
 
@@ -179,11 +152,11 @@ pub fn new_store<R: AllocGlobal + Threads + Wait + Sync + Abort>(rt: &R) -> Noti
 /// what they got last, or this byte throughout.
 pub fn left_after<R: AllocGlobal + Abort>(
     rt: &R,
-    store: &Noting,
+    store: &MemStore,
     moment: usize,
     filling: Option<u8>,
-) -> Noting
-    ensures { (disk_of_store result.store).out ≡ 0 }
+) -> MemStore
+    ensures { (disk_of_store result).out ≡ 0 }
 {
-    noted_after(rt.alloc(), store, moment, filling).expect(rt, "memory")
+    calls::left_after(store, moment, filling).expect(rt, "memory")
 }

@@ -1,5 +1,5 @@
-//! Cases through the top call: its trace and what its store is asked for, line by line, also behind a
-//! crash; refusals in their order; audits of traces in a row; self-tests.
+//! Worked cases through the top call: each with its words, script, output and status, its trace,
+//! and its store behind a crash; refusals in their order; audits of traces in a row; self-tests.
 #![tactic(auto)]
 
 #[cfg(test)]
@@ -9,12 +9,18 @@ mod audits;
 #[cfg(test)]
 mod calling;
 #[cfg(test)]
-mod hasty;
+mod forms;
 #[cfg(test)]
 mod lines;
+#[cfg(test)]
+mod lives;
 #[cfg(test)]
 mod refused;
 #[cfg(test)]
 mod rows;
 #[cfg(test)]
+mod summaries;
+#[cfg(test)]
 mod traced;
+#[cfg(test)]
+mod worked;

@@ -3,9 +3,9 @@
 /// The trace of a format.
 pub const FORMATTED: &str = "\
     P 8 2 2 3 2 2 2 2 8/W 0/S/W 2/W 4/W 6/W 8/W 10/W 12/W 14/W 16/S/W 4/S/W 3/S/W 4/S/W 39/\
-    W 40/W 41/W 42/W 43/W 44/W 45/W 46/W 47/W 48/W 49/W 50/W 51/W 52/W 53/W 54/W 55/W 56/\
-    W 57/W 58/W 59/W 60/W 61/W 62/W 63/W 64/W 65/W 66/W 67/W 68/W 69/W 70/W 71/W 72/W 73/\
-    W 17/W 18/W 19/W 20/W 21/W 22/W 23/W 24/W 25/W 26/W 27/S/W 6/S/W 5/S/W 6/S/W 0/S/";
+    W 40/W 41/W 42/W 43/W 44/W 45/W 46/W 47/W 48/W 49/W 50/W 51/W 52/W 53/W 54/W 55/W 56/W 57/\
+    W 58/W 59/W 60/W 61/W 62/W 63/W 64/W 65/W 66/W 67/W 68/W 69/W 70/W 71/W 72/W 73/W 17/W 18/\
+    W 19/W 20/W 21/W 22/W 23/W 24/W 25/W 26/W 27/S/W 6/S/W 5/S/W 6/S/W 0/S/";
 
 /// That of a run over what it made, of one epoch.
 pub const ONE_EPOCH: &str = "\
@@ -13,71 +13,27 @@ pub const ONE_EPOCH: &str = "\
     R 27/R 13/R 14/R 15/R 16/S/W 1/S/W 2/S/W 13/S/W 14/S/L 0/R 41/R 46/R 56/L 0/R 42/R 47/\
     R 57/W 15/S/W 16/S/L 0/R 43/R 39/R 40/R 48/R 44/R 45/R 58/R 54/R 55/L 0/R 49/R 50/R 64/\
     R 65/W 89/W 90/W 91/W 92/W 93/W 99/W 100/W 101/W 102/W 103/W 79/W 80/W 81/W 82/W 83/W 84/\
-    W 85/W 86/W 87/W 88/W 74/W 75/W 76/W 77/W 78/W 28/W 29/W 30/W 31/W 32/W 33/W 34/W 35/\
-    W 36/W 37/W 38/W 10/W 12/S/W 7/S/W 8/S/";
+    W 85/W 86/W 87/W 88/W 74/W 75/W 76/W 77/W 78/W 28/W 29/W 30/W 31/W 32/W 33/W 34/W 35/W 36/\
+    W 37/W 38/W 10/W 12/S/W 7/S/W 8/S/";
 
-// And of one of two epochs.
-const TWO_EPOCHS: &str = "\
+/// And of one of two epochs, where the tape gives a 1 behind four zeros.
+pub const TWO_EPOCHS: &str = "\
     O/R 0/R 1/R 2/R 3/R 4/R 5/R 6/R 7/R 8/R 17/R 18/R 19/R 20/R 21/R 22/R 23/R 24/R 25/R 26/\
     R 27/R 13/R 14/R 15/R 16/S/W 1/S/W 2/S/W 13/S/W 14/S/L 0/R 41/R 46/R 56/L 0/R 42/R 47/\
     R 57/W 15/S/W 16/S/L 0/R 43/R 39/R 40/R 48/R 44/R 45/R 58/R 54/R 55/L 0/R 49/R 50/R 64/\
     R 65/W 89/W 90/W 91/W 92/W 93/W 99/W 100/W 101/W 102/W 103/W 79/W 80/W 81/W 82/W 83/W 84/\
-    W 85/W 86/W 87/W 88/W 74/W 75/W 76/W 77/W 78/W 28/W 29/W 30/W 31/W 32/W 33/W 34/W 35/\
-    W 36/W 37/W 38/W 10/W 12/S/W 7/S/W 8/S/W 9/S/W 10/S/L 0/R 76/R 81/R 89/L 0/R 77/R 82/\
-    R 91/W 11/S/W 12/S/L 0/R 78/R 74/R 75/R 83/R 79/R 80/R 92/R 90/R 93/L 0/R 59/R 60/R 84/\
-    R 85/R 69/R 70/W 54/W 55/W 56/W 57/W 58/W 94/W 95/W 96/W 97/W 98/W 104/W 105/W 106/W 107/\
-    W 108/W 44/W 45/W 46/W 47/W 48/W 49/W 50/W 51/W 52/W 53/W 39/W 40/W 41/W 42/W 43/W 17/\
-    W 18/W 19/W 20/W 21/W 22/W 23/W 24/W 25/W 26/W 27/W 14/W 16/S/W 6/S/W 5/S/W 6/S/";
+    W 85/W 86/W 87/W 88/W 74/W 75/W 76/W 77/W 78/W 28/W 29/W 30/W 31/W 32/W 33/W 34/W 35/W 36/\
+    W 37/W 38/W 10/W 12/S/W 7/S/W 8/S/W 9/S/W 10/S/L 1/R 76/R 79/R 61/L 0/R 77/R 81/R 91/W 11/\
+    S/W 12/S/L 0/R 78/R 74/R 75/R 82/R 80/R 83/R 92/L 0/R 93/R 89/R 90/R 59/R 60/R 84/R 85/\
+    R 69/R 70/W 54/W 55/W 56/W 57/W 58/W 94/W 95/W 96/W 97/W 98/W 104/W 105/W 106/W 107/W 108/\
+    W 44/W 45/W 46/W 47/W 48/W 49/W 50/W 51/W 52/W 53/W 39/W 40/W 41/W 42/W 43/W 17/W 18/W 19/\
+    W 20/W 21/W 22/W 23/W 24/W 25/W 26/W 27/W 14/W 16/S/W 6/S/W 5/S/W 6/S/";
 
-// The same where the tape gives a 1 behind four zeros.
-const LEAF_ONE: &str = "\
+/// That of a run of one epoch behind a crash of such a run, once its first batch's record was sure.
+pub const AGAIN: &str = "\
     O/R 0/R 1/R 2/R 3/R 4/R 5/R 6/R 7/R 8/R 17/R 18/R 19/R 20/R 21/R 22/R 23/R 24/R 25/R 26/\
-    R 27/R 13/R 14/R 15/R 16/S/W 1/S/W 2/S/W 13/S/W 14/S/L 0/R 41/R 46/R 56/L 0/R 42/R 47/\
-    R 57/W 15/S/W 16/S/L 0/R 43/R 39/R 40/R 48/R 44/R 45/R 58/R 54/R 55/L 0/R 49/R 50/R 64/\
-    R 65/W 89/W 90/W 91/W 92/W 93/W 99/W 100/W 101/W 102/W 103/W 79/W 80/W 81/W 82/W 83/W 84/\
-    W 85/W 86/W 87/W 88/W 74/W 75/W 76/W 77/W 78/W 28/W 29/W 30/W 31/W 32/W 33/W 34/W 35/\
-    W 36/W 37/W 38/W 10/W 12/S/W 7/S/W 8/S/W 9/S/W 10/S/L 1/R 76/R 79/R 61/L 0/R 77/R 81/\
-    R 91/W 11/S/W 12/S/L 0/R 78/R 74/R 75/R 82/R 80/R 83/R 92/L 0/R 93/R 89/R 90/R 59/R 60/\
-    R 84/R 85/R 69/R 70/W 54/W 55/W 56/W 57/W 58/W 94/W 95/W 96/W 97/W 98/W 104/W 105/W 106/\
-    W 107/W 108/W 44/W 45/W 46/W 47/W 48/W 49/W 50/W 51/W 52/W 53/W 39/W 40/W 41/W 42/W 43/\
-    W 17/W 18/W 19/W 20/W 21/W 22/W 23/W 24/W 25/W 26/W 27/W 14/W 16/S/W 6/S/W 5/S/W 6/S/";
-
-// That of a run of one epoch behind a crash of such a run: before a batch's record was sure, once the
-// first one's was, and once both were.
-const FOUND_NONE: &str = "\
-    O/R 0/R 1/R 2/R 3/R 4/R 5/R 6/R 7/R 8/R 17/R 18/R 19/R 20/R 21/R 22/R 23/R 24/R 25/R 26/\
-    R 27/R 13/R 14/R 15/R 16/S/W 4/S/W 3/S/W 4/S/W 13/S/W 14/S/L 0/R 41/R 46/R 56/L 0/R 42/\
-    R 47/R 57/W 15/S/W 16/S/L 0/R 43/R 39/R 40/R 48/R 44/R 45/R 58/R 54/R 55/L 0/R 49/R 50/\
-    R 64/R 65/W 89/W 90/W 91/W 92/W 93/W 99/W 100/W 101/W 102/W 103/W 79/W 80/W 81/W 82/W 83/\
-    W 84/W 85/W 86/W 87/W 88/W 74/W 75/W 76/W 77/W 78/W 28/W 29/W 30/W 31/W 32/W 33/W 34/\
-    W 35/W 36/W 37/W 38/W 10/W 12/S/W 7/S/W 8/S/";
-
-const FOUND_FIRST: &str = "\
-    O/R 0/R 1/R 2/R 3/R 4/R 5/R 6/R 7/R 8/R 17/R 18/R 19/R 20/R 21/R 22/R 23/R 24/R 25/R 26/\
-    R 27/R 13/R 14/R 15/R 16/S/W 4/S/W 3/S/W 4/S/L 0/R 41/R 46/R 56/L 0/R 42/R 47/R 57/W 15/\
-    S/W 16/S/L 0/R 43/R 39/R 40/R 48/R 44/R 45/R 58/R 54/R 55/L 0/R 49/R 50/R 64/R 65/W 89/\
-    W 90/W 91/W 92/W 93/W 99/W 100/W 101/W 102/W 103/W 79/W 80/W 81/W 82/W 83/W 84/W 85/W 86/\
-    W 87/W 88/W 74/W 75/W 76/W 77/W 78/W 28/W 29/W 30/W 31/W 32/W 33/W 34/W 35/W 36/W 37/\
-    W 38/W 10/W 12/S/W 7/S/W 8/S/";
-
-const FOUND_BOTH: &str = "\
-    O/R 0/R 1/R 2/R 3/R 4/R 5/R 6/R 7/R 8/R 17/R 18/R 19/R 20/R 21/R 22/R 23/R 24/R 25/R 26/\
-    R 27/R 13/R 14/R 15/R 16/S/W 4/S/W 3/S/W 4/S/L 0/R 41/R 46/R 56/L 0/R 42/R 47/R 57/L 0/\
-    R 43/R 39/R 40/R 48/R 44/R 45/R 58/R 54/R 55/L 0/R 49/R 50/R 64/R 65/W 89/W 90/W 91/W 92/\
-    W 93/W 99/W 100/W 101/W 102/W 103/W 79/W 80/W 81/W 82/W 83/W 84/W 85/W 86/W 87/W 88/W 74/\
-    W 75/W 76/W 77/W 78/W 28/W 29/W 30/W 31/W 32/W 33/W 34/W 35/W 36/W 37/W 38/W 10/W 12/S/\
-    W 7/S/W 8/S/";
-
-/// A list by its name.
-pub fn list_of(name: &str) -> &'static str {
-    match name {
-        "format" => FORMATTED,
-        "one" => ONE_EPOCH,
-        "two" => TWO_EPOCHS,
-        "leaf" => LEAF_ONE,
-        "none" => FOUND_NONE,
-        "first" => FOUND_FIRST,
-        "both" => FOUND_BOTH,
-        _ => "",
-    }
-}
+    R 27/R 13/R 14/R 15/R 16/S/W 4/S/W 3/S/W 4/S/L 0/R 41/R 46/R 56/L 0/R 42/R 47/R 57/W 15/S/\
+    W 16/S/L 0/R 43/R 39/R 40/R 48/R 44/R 45/R 58/R 54/R 55/L 0/R 49/R 50/R 64/R 65/W 89/W 90/\
+    W 91/W 92/W 93/W 99/W 100/W 101/W 102/W 103/W 79/W 80/W 81/W 82/W 83/W 84/W 85/W 86/W 87/\
+    W 88/W 74/W 75/W 76/W 77/W 78/W 28/W 29/W 30/W 31/W 32/W 33/W 34/W 35/W 36/W 37/W 38/W 10/\
+    W 12/S/W 7/S/W 8/S/";

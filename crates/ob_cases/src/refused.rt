@@ -1,14 +1,11 @@
-//! Calls without a store: what is refused, in its order, self-tests, and outputs and inputs that fail;
-//! and the files that words call for.
+//! Calls without a store: what is refused, in its order, and the files that words call for.
 
-use crate::calling::{expect_alone, insist, number_of, parted};
-use ob_top_calls::{Ask, KEYS, ask_for, call_alone, has_front};
+use crate::calling::{expect_alone, insist, parted};
+use ob_top_calls::{KEYS, ask_for, words_of};
 use ob_words::store_wanted;
 use std::process::Abort;
-use std::sync::Wait;
-use std::thread::Threads;
 
-// What a call finds, its words, and what is told: no keys, those of the tests, the first 190 of their
+// The keys of a call, its words, and what is told: none, those of the tests, the first 190 of their
 // digits, or too short ones.
 const REFUSED: &str = "\
     keys  -> 2 fault: usage/\n\
@@ -48,129 +45,79 @@ const REFUSED: &str = "\
     keys format S K 8 2 2 3 2 2 2 2 8 -> 5 fault: store/\n\
     keys run S K -> 5 fault: store/";
 
-// Counts of self-tests that are refused.
-const COUNTS: &str = "\
-    none drill 10001 -> 2 fault: parameter COUNT/\n\
-    none drill 01 -> 2 fault: parameter COUNT/\n\
-    none drill x -> 2 fault: parameter COUNT/\n\
-    none drill 4294967296 -> 2 fault: parameter COUNT/\n\
-    none drill  -> 2 fault: parameter COUNT/\n\
-    none drill -> 2 fault: usage/\n\
-    none drill 1 2 -> 2 fault: usage/\n\
-    none drill -1 -> 2 fault: usage/";
-
-// Counts, and the summaries of another implementation.
-const SUMMARIES: &str = "\
-    none drill 0 -> 0 drill 0/epochs 0/committed 0/keys 0/\
-    map e3b0c44298fc1c149afbf4c8996fb92427ae41e4649b934ca495991b7852b855/\n\
-    none drill 1 -> 0 drill 1/epochs 1/committed 1/keys 1/\
-    map 169ab623b76323d2b63d24e360d3c5c2bf1e9d9122ee79efb4e11426cb17733b/\n\
-    none drill 2 -> 0 drill 2/epochs 2/committed 2/keys 2/\
-    map 4d3be508a3f51471f0d52230201ae0eb4e4cc158cd17778dc1cbceb941e1b129/\n\
-    none drill 3 -> 0 drill 3/epochs 3/committed 3/keys 3/\
-    map 4f95c4c921b0d450298d55be7ae6b09c6d636f9727f398bdf9a827e5dde30c3f/\n\
-    none drill 10 -> 0 drill 10/epochs 10/committed 10/keys 10/\
-    map a65c47a08cd6ce4eb18f1005c45110eb125fe1c637eee224a2be2a30a8491892/\n\
-    none drill 50 -> 0 drill 50/epochs 50/committed 50/keys 43/\
-    map 6478a80756bf9a0d9a7c76878be0c9cc7fe65c9cdcb60016c62b6b2b65847d98/";
-
-// The longest one, which is played twice.
-const LONGEST: &str = "\
-    none drill 200 -> 0 drill 200/epochs 200/committed 200/keys 137/\
-    map 92c898a831f67272c56aa98e659e66ec28a4acf64178fa7bb589193e77db8a21/";
-
-// Audits of which a read of the input or a write of the output fails, counted from 0.
-const CUT: &str = "\
-    read 1 audit < P 8 2 2 3 2 2 2 2 8/W 0/S/ -> 7 fault: source/\n\
-    write 0 audit < O/ -> 7 \n\
-    write 1 audit < O/ -> 7 breaks line \n\
-    write 3 audit < O/ -> 7 breaks line 1 wanted ";
-
-// A call that finds this; a call that fails stands before its words.
-fn ask_of<'a, R: Abort>(rt: &R, found: &str, words: &'a str, script: &'a str) -> Ask<'a> {
-    let mut ask = ask_for(words, script);
-    match found {
-        "none" => ask.keys = None,
-        "short" => ask.keys = Some("00010203"),
-        "190" => ask.keys = Some(&KEYS[..190]),
-        "read" | "write" => {
-            let (number, words) = parted(rt, words, " ");
-            let number = number_of(rt, number);
-            ask.words = words;
-            if found == "read" {
-                ask.bad_read = number;
-            } else {
-                ask.bad_write = number;
-            }
-        }
-        _ => {}
-    }
-    ask
-}
-
-// Makes calls, each a line `FOUND WORDS -> STATUS OUTPUT` or `FOUND WORDS < SCRIPT -> STATUS OUTPUT`,
-// and compares what each answers.
-fn expect_rows<R: AllocGlobal + Threads + Wait + Sync + Abort>(rt: &R, rows: &str) {
-    for row in rows.lines() {
-        let (call, wanted) = parted(rt, row, " -> ");
-        let (found, call) = parted(rt, call, " ");
-        let (words, script) = call.split_once(" < ").unwrap_or((call, "begin"));
-        expect_alone(rt, &ask_of(rt, found, words, script), wanted);
+fn keys_of(keys: &str) -> Option<&'static str> {
+    match keys {
+        "none" => None,
+        "keys" => Some(KEYS),
+        "190" => Some(&KEYS[..190]),
+        _ => Some("00010203"),
     }
 }
 
 #[test]
 fn refusals_come_in_their_order(rt: HostRuntime) {
-    expect_rows(&rt, REFUSED);
-    expect_rows(&rt, COUNTS);
-}
-
-#[test]
-fn summaries_are_those_of_another_implementation(rt: HostRuntime) {
-    expect_rows(&rt, SUMMARIES);
-    expect_rows(&rt, LONGEST);
-    expect_rows(&rt, LONGEST);
-}
-
-#[test]
-fn an_audit_is_told_up_to_a_call_that_fails(rt: HostRuntime) {
-    expect_rows(&rt, CUT);
-}
-
-// The summary of a self-test of one transaction.
-const OF_ONE: &str = "\
-    drill 1/epochs 1/committed 1/keys 1/\
-    map 169ab623b76323d2b63d24e360d3c5c2bf1e9d9122ee79efb4e11426cb17733b/";
-
-// A self-test of one transaction, with room for so many bytes of its summary.
-fn expect_room<R: AllocGlobal + Threads + Wait + Sync + Abort>(rt: &R, room: usize) {
-    let mut ask = ask_for("drill 1", "");
-    ask.room = room;
-    let answer = call_alone(rt, &ask).expect(rt, "memory");
-    let fits = room >= OF_ONE.len();
-    let so = has_front(&answer.output, OF_ONE, room) && (fits || answer.status == 7);
-    let whole = answer.was(0, OF_ONE);
-    insist(rt, so && whole == fits, OF_ONE);
-}
-
-#[test]
-fn an_output_without_room_has_a_front_of_the_summary(rt: HostRuntime) {
-    for room in 0..106 {
-        expect_room(&rt, room);
+    for line in REFUSED.lines() {
+        let (call, wanted) = parted(&rt, line, " -> ");
+        let (keys, words) = parted(&rt, call, " ");
+        let mut ask = ask_for(words, "begin");
+        ask.keys = keys_of(keys);
+        expect_alone(&rt, &ask, wanted);
     }
 }
 
-// The store `S`, which a run may not make, the keys `K`, the trace `T` and the mirror `M`.
-fn are_wanted<R: AllocGlobal + Abort>(rt: &R) -> bool {
-    let words = ["run", "S", "K", "--mirror", "M", "--trace", "T"];
-    let paths = store_wanted(rt.alloc(), &words).expect(rt, "memory");
-    match (paths.store, paths.keys, paths.trace, paths.mirror) {
-        (Some(("S", false)), Some("K"), Some("T"), Some("M")) => true,
+// Words, whether they call for the keys `K` and for the store `S`, which may be made or not, and which
+// of the trace `T` and the mirror `M` they call for.
+static WANTED: [(&str, Option<bool>, &str); 18] = [
+    ("audit", None, ""),
+    ("run S K", Some(false), ""),
+    ("run --lanes 2 S K --turns", Some(false), ""),
+    ("run S --lanes 17 K", None, ""),
+    ("run S", None, ""),
+    ("run S K --trace T", Some(false), "T"),
+    ("run --trace T S K --turns", Some(false), "T"),
+    ("run S K --trace T --lanes 17", None, ""),
+    ("run S K --mirror M", Some(false), "M"),
+    ("run --mirror M S K --turns", Some(false), "M"),
+    ("run S K --mirror M --lanes 17", None, ""),
+    ("run S K --mirror M --trace T", Some(false), "TM"),
+    ("run S K --trace T --mirror M", Some(false), "TM"),
+    ("format S K 8 2 2 3 2 2 2 2 8", Some(true), ""),
+    ("format S K 8 2 2 3 2 2 2 2 8 --trace T", Some(true), "T"),
+    ("format S K 8 2 2 3 2 2 2 2 8 --mirror M", None, ""),
+    ("format S K 9 2 2 3 2 2 2 2 8 --trace T", None, ""),
+    ("format S K 8 2 2 3 2 2 2 2", None, ""),
+];
+
+// Whether this path is found where it is wanted, and none where it isn't.
+fn is_path(found: Option<&str>, path: &str, wanted: bool) -> bool {
+    match found {
+        Some(found) => wanted && found == path,
+        None => !wanted,
+    }
+}
+
+// The same of the store's, and whether it may be made.
+fn is_store(found: Option<(&str, bool)>, may_make: Option<bool>) -> bool {
+    match (found, may_make) {
+        (Some((path, may)), Some(wanted)) => path == "S" && may == wanted,
+        (None, None) => true,
         _ => false,
     }
 }
 
+fn expect_wanted<R: AllocGlobal + Abort>(rt: &R, line: &str, may_make: Option<bool>, beside: &str) {
+    let words = words_of(rt.alloc(), line).expect(rt, "memory");
+    let paths = store_wanted(rt.alloc(), &words).expect(rt, "memory");
+    let store = is_store(paths.store, may_make);
+    let keys = is_path(paths.keys, "K", may_make.is_some());
+    let trace = is_path(paths.trace, "T", beside.starts_with('T'));
+    let mirror = is_path(paths.mirror, "M", beside.ends_with('M'));
+    insist(rt, store && keys && trace && mirror, line);
+}
+
 #[test]
-fn what_words_call_for_is_wanted(rt: HostRuntime) {
-    insist(&rt, are_wanted(&rt), "a store, keys, a trace and a mirror");
+fn what_words_do_not_call_for_is_not_wanted(rt: HostRuntime) {
+    for &(line, may_make, beside) in &WANTED {
+        expect_wanted(&rt, line, may_make, beside);
+    }
 }

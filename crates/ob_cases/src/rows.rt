@@ -6,7 +6,8 @@ ghost use Rattle.ob_mem.specs.Memory.{disk_of_store};
 use crate::audits::expect_audit;
 use crate::calling::{EMPTY, RUNS, ask_with, insist, left_after, new_store, text_of};
 use crate::lines::FORMATTED;
-use ob_top_calls::{Ask, Noting, call_over, let_noting_go};
+use ob_mem::MemStore;
+use ob_top_calls::{Answer, Ask, ask_for, call, let_go};
 use std::mem::replace;
 use std::process::Abort;
 use std::sync::Wait;
@@ -15,30 +16,29 @@ use std::thread::Threads;
 // Room for a trace of two epochs, and for what is told of them.
 const ROOM: usize = 4000;
 
-// What the format of a store traced, to which runs add theirs.
-fn begun<R: AllocGlobal + Abort>(rt: &R) -> String {
-    String::from_str(rt.alloc(), FORMATTED).expect(rt, "memory")
+fn owned<R: AllocGlobal + Abort>(rt: &R, text: &str) -> String {
+    String::from_str(rt.alloc(), text).expect(rt, "memory")
 }
 
-// A run, whose trace is put behind a text.
-fn run_traced<R: AllocGlobal + Threads + Wait + Sync + Abort>(
+// A run's trace.
+fn trace_of<R: AllocGlobal + Threads + Wait + Sync + Abort>(
     rt: &R,
-    store: &mut Noting,
+    store: &mut MemStore,
     mut ask: Ask<'_>,
-    text: &mut String,
-)
-    requires { (disk_of_store store.old.store).out ≡ 0 }
-    ensures { (disk_of_store store.new.store).out ≡ 0 }
+) -> String
+    requires { (disk_of_store store.old).out ≡ 0 }
+    ensures { (disk_of_store store.new).out ≡ 0 }
 {
     ask.room = ROOM;
     ask.trace = Some(ROOM);
-    let answer = call_over(rt, store, &ask).expect(rt, "memory");
-    let trace = answer.trace.as_ref().expect(rt, "a trace");
-    let traced = text_of(rt, trace.written());
-    text.push_str(traced).expect(rt, "memory");
-    let so = answer.status == 0 && answer.output.written().starts_with(b"epoch ");
-    let silent = answer.was(0, "");
-    insist(rt, so && !silent, ask.words);
+    let Answer {
+        status,
+        output,
+        trace,
+    } = call(rt, store, &ask).expect(rt, "memory");
+    let so = status == 0 && output.written().starts_with(b"epoch ");
+    insist(rt, so, ask.words);
+    owned(rt, text_of(rt, trace.expect(rt, "a trace").written()))
 }
 
 // Puts the first so many lines of a trace behind a text: how many of them tell of a write or a
@@ -57,8 +57,9 @@ fn push_front<R: AllocGlobal + Abort>(
         }
         text.push_str(line).expect(rt, "memory");
         text.push_str("\n").expect(rt, "memory");
-        let is_moment = line.starts_with('W') || line.starts_with('S');
-        moments = moments.saturating_add(is_moment as usize);
+        if line.starts_with('W') || line.starts_with('S') {
+            moments = moments.saturating_add(1);
+        }
         left = left.saturating_sub(1);
     }
     moments
@@ -68,13 +69,13 @@ fn push_front<R: AllocGlobal + Abort>(
 // where the cells that aren't sure have what they got last, or this byte throughout.
 fn cut_off<R: AllocGlobal + Abort>(
     rt: &R,
-    store: &Noting,
+    store: &MemStore,
     trace: &str,
     many: usize,
     filling: Option<u8>,
     text: &mut String,
-) -> Noting
-    ensures { (disk_of_store result.store).out ≡ 0 }
+) -> MemStore
+    ensures { (disk_of_store result).out ≡ 0 }
 {
     let moment = push_front(rt, text, trace, many);
     left_after(rt, store, moment, filling)
@@ -84,28 +85,37 @@ fn cut_off<R: AllocGlobal + Abort>(
 // was written and not synced, and stayed, the next run begins as no trace may.
 fn expect_behind<R: AllocGlobal + Threads + Wait + Sync + Abort>(
     rt: &R,
-    ran: &Noting,
+    ran: &MemStore,
     trace: &str,
     many: usize,
     filling: Option<u8>,
 ) {
-    let mut text = begun(rt);
+    let mut text = owned(rt, FORMATTED);
     let mut left = cut_off(rt, ran, trace, many, filling, &mut text);
-    let ask = ask_with(RUNS[many % 4], EMPTY, &[]);
-    run_traced(rt, &mut left, ask, &mut text);
-    let_noting_go(left);
-    let wanted = if many == 29 && filling != Some(0) {
-        "1 breaks line 129 wanted W 1/"
+    let next = trace_of(rt, &mut left, ask_for(RUNS[many % 4], EMPTY));
+    let_go(left);
+    text.push_str(next.as_str()).expect(rt, "memory");
+    if many == 29 && filling != Some(0) {
+        expect_audit(rt, text.as_str(), "1 breaks line 129 wanted W 1/");
     } else {
-        "0 fits/"
-    };
-    expect_audit(rt, text.as_str(), wanted);
+        expect_audit(rt, text.as_str(), "0 fits/");
+    }
 }
 
-// Behind each of the 104 lines of a run of one epoch, which makes 56 writes and syncs, with each
-// filling.
-fn expect_each<R: AllocGlobal + Threads + Wait + Sync + Abort>(rt: &R, ran: &Noting, trace: &str) {
-    insist(rt, ran.store.moments() == 56, trace);
+// A store behind a run of one epoch, and its trace.
+fn ran<R: AllocGlobal + Threads + Wait + Sync + Abort>(rt: &R) -> (MemStore, String) {
+    let mut ran = new_store(rt);
+    let trace = trace_of(rt, &mut ran, ask_for(RUNS[1], EMPTY));
+    insist(rt, ran.moments() == 56, RUNS[1]);
+    (ran, trace)
+}
+
+// Behind each of the 104 lines of such a run, with each filling.
+fn expect_each<R: AllocGlobal + Threads + Wait + Sync + Abort>(
+    rt: &R,
+    ran: &MemStore,
+    trace: &str,
+) {
     for many in 1..105 {
         for filling in [None, Some(0), Some(0xA5)] {
             expect_behind(rt, ran, trace, many, filling);
@@ -115,12 +125,9 @@ fn expect_each<R: AllocGlobal + Threads + Wait + Sync + Abort>(rt: &R, ran: &Not
 
 #[test]
 fn traces_in_a_row_fit_behind_a_crash(rt: HostRuntime) {
-    let mut ran = new_store(&rt);
-    let mut trace = String::new(rt.alloc());
-    let ask = ask_with(RUNS[1], EMPTY, &[]);
-    run_traced(&rt, &mut ran, ask, &mut trace);
+    let (ran, trace) = ran(&rt);
     expect_each(&rt, &ran, trace.as_str());
-    let_noting_go(ran);
+    let_go(ran);
 }
 
 // The next number of a row, below this one.
@@ -147,17 +154,15 @@ fn tape_of(row: &mut u64) -> [u64; 16] {
 // generation's gate, behind the sync that follows.
 fn run_on<R: AllocGlobal + Threads + Wait + Sync + Abort>(
     rt: &R,
-    store: &mut Noting,
+    store: &mut MemStore,
     ask: Ask<'_>,
     row: &mut u64,
     text: &mut String,
 )
-    requires { (disk_of_store store.old.store).out ≡ 0 }
-    ensures { (disk_of_store store.new.store).out ≡ 0 }
+    requires { (disk_of_store store.old).out ≡ 0 }
+    ensures { (disk_of_store store.new).out ≡ 0 }
 {
-    let mut trace = String::new(rt.alloc());
-    run_traced(rt, store, ask, &mut trace);
-    let trace = trace.as_str();
+    let trace = trace_of(rt, store, ask);
     let mut many = drawn(row, trace.lines().count()).saturating_add(1);
     let last = trace.lines().nth(many - 1).unwrap_or("");
     if last == "W 2" || last == "W 4" {
@@ -168,21 +173,21 @@ fn run_on<R: AllocGlobal + Threads + Wait + Sync + Abort>(
         1 => Some(0),
         _ => Some(0xA5),
     };
-    let left = cut_off(rt, store, trace, many, filling, text);
-    let_noting_go(replace(store, left));
+    let left = cut_off(rt, store, trace.as_str(), many, filling, text);
+    let_go(replace(store, left));
 }
 
 // Ten such runs, drawn from this number on.
 fn expect_ten<R: AllocGlobal + Threads + Wait + Sync + Abort>(rt: &R, first: u64) {
     let mut row = first;
     let mut store = new_store(rt);
-    let mut text = begun(rt);
+    let mut text = owned(rt, FORMATTED);
     for run in 0..10 {
         let tape = tape_of(&mut row);
         let ask = ask_with(RUNS[run % 4], PUT_AND_GET, &tape);
         run_on(rt, &mut store, ask, &mut row, &mut text);
     }
-    let_noting_go(store);
+    let_go(store);
     expect_audit(rt, text.as_str(), "0 fits/");
 }
 

@@ -1,11 +1,8 @@
 //! What calls over a store answer, one behind the other.
 
-use crate::playing::{expect, parted, play_all};
+use crate::playing::{expect, play_all};
 use ob_mem::BareStore;
 use ob_top_calls::CELLS;
-use std::process::Abort;
-use std::sync::Wait;
-use std::thread::Threads;
 
 // The next run finds what the one before left.
 const ONE_BY_ONE: &str = "\
@@ -91,61 +88,23 @@ fn lines_that_break_the_grammar_are_refused(rt: HostRuntime) {
     play_all(&rt, &[REFUSED_LINES]);
 }
 
-// Forms of a run by hand, and by lanes of another spelling: what each finds tells that the ones
-// before it were runs.
-const FORMS: &str = "\
-    format S K 8 2 2 3 2 2 2 2 8 <  -> 0 store of 109 cells/\n\
-    run S K --turns < client 1/begin/put 5 a/commit/begin/get 5/commit -> \
-    0 epoch 1/txn 1 client 1 committed/put 5 a/epoch 2/txn 1 client 1 committed/get 5 = a/\n\
-    run S K --turns --lanes 16 < client 1/begin/put 5 b/commit/begin/get 5/commit -> \
-    0 epoch 3/txn 1 client 1 committed/put 5 b/epoch 4/txn 1 client 1 committed/get 5 = b/\n\
-    run S K --lanes 16 --turns < client 1/begin/put 5 c/commit/begin/get 5/commit -> \
-    0 epoch 5/txn 1 client 1 committed/put 5 c/epoch 6/txn 1 client 1 committed/get 5 = c/\n\
-    run S K --lanes=2 < client 1/begin/put 5 d/commit/begin/get 5/commit -> \
-    0 epoch 7/txn 1 client 1 committed/put 5 d/epoch 8/txn 1 client 1 committed/get 5 = d/\n\
-    run --lanes 2 S K < client 1/begin/put 5 e/commit/begin/get 5/commit -> \
-    0 epoch 9/txn 1 client 1 committed/put 5 e/epoch 10/txn 1 client 1 committed/get 5 = e/\n\
-    run S --turns K < client 1/begin/put 5 f/commit/begin/get 5/commit -> \
-    0 epoch 11/txn 1 client 1 committed/put 5 f/epoch 12/txn 1 client 1 committed/get 5 = f/";
-
-// A store of 16 keys: no client, one, and 64 that ask for nothing.
-const AT_REST: &str = "\
-    new 161\n\
-    format S K 16 2 4 3 4 4 16 2 16 <  -> 0 store of 161 cells/\n\
-    run S K < # nobody/# calls/ -> 0 \n\
-    run S K <  -> 0 \n\
-    run S K < client 1/client 2/client 3/client 4/client 5/client 6/client 7/client 8/client 9/\
-    client 10/client 11/client 12/client 13/client 14/client 15/client 16/client 17/client 18/\
-    client 19/client 20/client 21/client 22/client 23/client 24/client 25/client 26/client 27/\
-    client 28/client 29/client 30/client 31/client 32/client 33/client 34/client 35/client 36/\
-    client 37/client 38/client 39/client 40/client 41/client 42/client 43/client 44/client 45/\
-    client 46/client 47/client 48/client 49/client 50/client 51/client 52/client 53/client 54/\
-    client 55/client 56/client 57/client 58/client 59/client 60/client 61/client 62/client 63/\
-    client 64/ -> 0 \n\
-    run S K < client 9/begin/put 5 hi/commit/begin/get 5/commit/ -> \
-    0 epoch 1/txn 1 client 9 committed/put 5 hi/epoch 2/txn 1 client 9 committed/get 5 = hi/";
-
-#[test]
-fn each_form_of_a_run_is_one_and_clients_may_rest(rt: HostRuntime) {
-    play_all(&rt, &[FORMS, AT_REST]);
-}
-
 // Calls over a store that tells its cells alone, and nothing of what a crash may leave.
-const BARE: &str = "\
-    format S K 8 2 2 3 2 2 2 2 8 <  -> 0 store of 109 cells/\n\
-    run S K < client 1/begin/put 5 hi/commit -> 0 epoch 1/txn 1 client 1 committed/put 5 hi/\n\
-    run S K < client 1/begin/get 5/commit -> 0 epoch 2/txn 1 client 1 committed/get 5 = hi/";
-
-fn play_bare<R: AllocGlobal + Threads + Wait + Sync + Abort>(rt: &R) {
-    let made = BareStore::new(rt.alloc(), CELLS);
-    let mut store = made.ok().expect(rt, "memory");
-    for row in BARE.lines() {
-        let (call, wanted) = parted(rt, row, " -> ");
-        expect(rt, &mut store, call, wanted);
-    }
-}
+static BARE: [(&str, &str); 3] = [
+    ("format S K 8 2 2 3 2 2 2 2 8 < ", "0 store of 109 cells/"),
+    (
+        "run S K < client 1/begin/put 5 hi/commit",
+        "0 epoch 1/txn 1 client 1 committed/put 5 hi/",
+    ),
+    (
+        "run S K < client 1/begin/get 5/commit",
+        "0 epoch 2/txn 1 client 1 committed/get 5 = hi/",
+    ),
+];
 
 #[test]
 fn a_store_that_tells_its_cells_alone_keeps_what_was_put(rt: HostRuntime) {
-    play_bare(&rt);
+    let mut store = BareStore::new(rt.alloc(), CELLS).ok().expect(&rt, "memory");
+    for i in 0..BARE.len() {
+        expect(&rt, &mut store, &[], BARE[i].0, BARE[i].1);
+    }
 }

@@ -1,17 +1,17 @@
-//! Self-tests: over a store in memory that is handed in, and by the top call, which leaves its tape
-//! as it was.
+//! Self-tests: over stores in memory that are handed in, and by the top call, which touches none.
 
 ghost use Rattle.std.specs.Prelude.{◌≡◌};
-ghost use Rattle.ob_seal.specs.Draws.{stream_drawn};
+ghost use Rattle.ob_seal.specs.Draws.{list_drawn};
 
 use crate::playing::insist;
 use ob_base::Fault;
 use ob_desk::Eager;
 use ob_lanes::Lanes;
-use ob_mem::{Fail, MemStore, Void};
-use ob_seal::{ChaChaTape, Tape};
+use ob_mem::{Fail, MemSink};
+use ob_seal::{ChaChaTape, ListTape, Tape};
 use ob_top::{Drilled, drill_on, obladi};
-use ob_top_calls::{NEVER, let_noting_go, noted_blank, source_of};
+use ob_top_calls as calls;
+use ob_top_calls::{NEVER, WIDE, let_noting_go, noted_blank, sink_of, source_of};
 use std::process::Abort;
 use std::sync::Wait;
 use std::thread::Threads;
@@ -41,56 +41,74 @@ fn drill_over<R: AllocGlobal + Threads + Wait + Sync, S: Lanes>(
     drill_on(rt, 2, store, &mut made, &mut tape, &mut Eager)
 }
 
-// Whether a self-test served two transactions, which left two keys.
-fn left_two(drilled: &Result<Drilled, Fault>) -> bool {
-    match drilled {
-        Ok(drilled) => {
-            drilled.epochs == 2 && drilled.digest.keys == 2 && drilled.digest.map == OF_TWO
-        }
-        Err(_) => false,
-    }
+// What a self-test answers, how often its store failed, and whether it began with a format.
+#[derive(Drop)]
+struct Told {
+    drilled: Result<Drilled, Fault>,
+    faults: u64,
+    begins: bool,
 }
 
-// Whether a store that failed is told.
-fn is_failure(drilled: &Result<Drilled, Fault>) -> bool {
-    match drilled {
-        Ok(_) => false,
-        Err(fault) => *fault == Fault::StoreFault { unsure: None },
-    }
-}
-
-// A self-test of two transactions over a new store of which these calls fail, so many: it begins
-// with a format, and leaves two keys, or it tells of the store's failure.
-fn is_drilled<R: AllocGlobal + Threads + Wait + Sync + Abort>(rt: &R, fails: &[Fail]) -> bool {
+// A self-test of two transactions over a new store of which these calls fail.
+fn drill_two<R: AllocGlobal + Threads + Wait + Sync + Abort>(rt: &R, fails: &[Fail]) -> Told {
     let mut store = noted_blank(rt.alloc(), CELLS, fails).expect(rt, "memory");
     let drilled = drill_over(rt, &mut store);
     let faults = store.store.faults();
     let begins = store.told.written().starts_with(FIRST);
     let_noting_go(store);
-    if fails.is_empty() {
-        faults == 0 && begins && left_two(&drilled)
-    } else {
-        faults == fails.len() as u64 && is_failure(&drilled)
+    Told {
+        drilled,
+        faults,
+        begins,
     }
 }
 
 #[test]
-fn a_self_test_leaves_two_keys_or_tells_of_its_store(rt: HostRuntime) {
-    insist(&rt, is_drilled(&rt, &[]), "two keys");
-    insist(&rt, is_drilled(&rt, &[Fail::Write(0)]), "the first write");
+fn two_transactions_leave_two_keys(rt: HostRuntime) {
+    let Told {
+        drilled,
+        faults,
+        ..
+    } = drill_two(&rt, &[]);
+    let drilled = drilled.ok().expect(&rt, "a self-test");
+    let went = drilled.epochs == 2 && faults == 0;
+    let left = drilled.digest.keys == 2 && drilled.digest.map == OF_TWO;
+    insist(&rt, went && left, "two keys");
 }
 
-// A tape that counts its calls.
+#[test]
+fn a_store_that_fails_is_told(rt: HostRuntime) {
+    let Told {
+        drilled,
+        faults,
+        ..
+    } = drill_two(&rt, &[Fail::Write(0)]);
+    let fault = drilled.err().expect(&rt, "a refusal");
+    let told = fault == Fault::StoreFault { unsure: None };
+    insist(&rt, told && faults == 1, "the first write");
+}
+
+#[test]
+fn a_self_test_begins_with_its_format(rt: HostRuntime) {
+    let Told {
+        drilled,
+        begins,
+        ..
+    } = drill_two(&rt, &[]);
+    insist(&rt, drilled.is_ok() && begins, "a format");
+}
+
+// A tape of zeros that counts its calls.
 #[derive(Drop)]
 struct Counted {
-    tape: ChaChaTape,
+    tape: ListTape,
     calls: u64,
 }
 
 impl Tape for Counted {
     ghost present = { λ t. t.tape.generation };
 
-    ghost drawn = { λ t. stream_drawn t.tape };
+    ghost drawn = { λ t. list_drawn t.tape };
 
     fn start(&mut self, generation: u64) {
         self.calls = self.calls.saturating_add(1);
@@ -103,32 +121,47 @@ impl Tape for Counted {
     }
 }
 
-// A self-test of so many transactions beside a tape, which it doesn't call, has this status.
-fn expect_beside<R: AllocGlobal + Threads + Wait + Sync + Abort>(rt: &R, count: &str, wanted: u8) {
-    let mut tape = Counted {
-        tape: ChaChaTape::new(&[0; 32]),
-        calls: 0,
-    };
-    let mut input = source_of(rt.alloc(), "", NEVER).expect(rt, "memory");
-    let mut trace: Option<Void> = None;
-    let none: Option<&mut MemStore> = None;
+fn wide<R: AllocGlobal + Abort>(rt: &R) -> MemSink {
+    sink_of(rt.alloc(), WIDE, NEVER).expect(rt, "memory")
+}
+
+fn counting<R: AllocGlobal + Abort>(rt: &R) -> Counted
+    ensures { result.tape.generation ≡ 0 }
+{
+    let tape = ListTape::new(rt.alloc(), &[]).expect(rt, "memory");
+    Counted { tape, calls: 0 }
+}
+
+// A self-test of so many transactions beside a store, a tape, an input and a trace, none of which
+// it touches: its status.
+fn drill_beside<R: AllocGlobal + Threads + Wait + Sync + Abort>(rt: &R, count: &str) -> u8 {
+    let mut store = noted_blank(rt.alloc(), calls::CELLS, &[]).expect(rt, "memory");
+    let mut tape = counting(rt);
+    let mut input = source_of(rt.alloc(), "client 1/", NEVER).expect(rt, "memory");
+    let mut output = wide(rt);
+    let mut trace = Some(wide(rt));
     let status = obladi(
         rt,
         &["drill", count],
         None,
-        none,
+        Some(&mut store),
         &mut tape,
         &mut input,
-        &mut Void,
+        &mut output,
         &mut trace,
         &mut Eager,
     );
-    insist(rt, status == wanted && tape.calls == 0, count);
+    let trace = trace.expect(rt, "a trace");
+    let unasked = store.told.written().is_empty() && tape.calls == 0;
+    let unread = input.left() == b"client 1\n".as_slice() && trace.written().is_empty();
+    insist(rt, unasked && unread, count);
+    let_noting_go(store);
+    status
 }
 
 #[test]
-fn a_tape_is_left_as_it_was(rt: HostRuntime) {
-    expect_beside(&rt, "1", 0);
-    expect_beside(&rt, "10001", 2);
-    expect_beside(&rt, "-1", 2);
+fn what_is_handed_in_is_left_as_it_was(rt: HostRuntime) {
+    for (count, status) in [("1", 0), ("10001", 2), ("-1", 2)] {
+        insist(&rt, drill_beside(&rt, count) == status, count);
+    }
 }

@@ -1,13 +1,16 @@
-//! Lives of stores in memory, a step a line: calls of the top, crashes and cells, one behind the
-//! other, and what each has to come to.
+//! Calls of the top over stores in memory, one behind the other, compared with what each has to
+//! answer and to ask of its store.
 
-ghost use Rattle.std.specs.Prelude.{◌≡◌, IfSome};
+ghost use Rattle.std.specs.Prelude.{◌≡◌};
 ghost use Rattle.ob_mem.specs.Memory.{disk_of_store};
 
+use crate::events::EVENTS;
 use ob_lanes::Lanes;
-use ob_mem::MemStore;
-use ob_top_calls::{Ask, CELLS, END, ask_for, blank, call_over, cell_of, flip, left_after, let_go};
-use std::mem::replace;
+use ob_mem::Fail;
+use ob_top_calls as calls;
+use ob_top_calls::{
+    Answer, Ask, CELLS, END, Noting, ask_for, flip, has, let_noting_go, noted_after, noted_blank,
+};
 use std::process::Abort;
 use std::sync::Wait;
 use std::thread::Threads;
@@ -27,123 +30,137 @@ pub fn parted<'a, R: Abort>(rt: &R, line: &'a str, mark: &str) -> (&'a str, &'a 
     line.split_once(mark).expect(rt, mark)
 }
 
-/// A text by other words for its runs.
-pub fn by_words<R: AllocGlobal + Abort>(rt: &R, text: &str, words: &str) -> String {
-    text.replace(rt.alloc(), "run S K", words)
-        .expect(rt, "memory")
+/// The text of bytes.
+pub fn text_of<'a, R: Abort>(rt: &R, bytes: &'a [u8]) -> &'a str {
+    str::from_utf8(bytes).ok().expect(rt, "a text")
 }
 
-// Tapes: of zeros, and one that gives four ones behind a zero.
-static ZEROS: [u64; 5] = [0; 5];
-
-static ONES: [u64; 5] = [0, 1, 1, 1, 1];
-
-// These words and this script under the keys, with a tape.
-fn ask_with<'a>(words: &'a str, script: &'a str, tape: &'a [u64]) -> Ask<'a> {
-    let mut ask = ask_for(words, script);
-    ask.tape = tape;
-    ask
-}
-
-/// Makes a call, `WORDS < SCRIPT` with a tape of zeros or `WORDS < SCRIPT < ONES`, and compares what
-/// it answers with `STATUS OUTPUT`.
-pub fn expect<R: AllocGlobal + Threads + Wait + Sync + Abort, S: Lanes>(
+/// Makes a call.
+pub fn call_on<R: AllocGlobal + Threads + Wait + Sync + Abort, S: Lanes>(
     rt: &R,
     store: &mut S,
-    call: &str,
+    ask: &Ask<'_>,
+) -> Answer
+    requires { (S.disk store.old).out ≡ 0 }
+    ensures { (S.disk store.new).out ≡ 0 }
+{
+    calls::call_over(rt, store, ask).expect(rt, "memory")
+}
+
+/// Makes a call, `WORDS < SCRIPT`, with a tape of these words and of zeros behind them, and
+/// compares what it answers with `STATUS OUTPUT`.
+pub fn expect<'a, R: AllocGlobal + Threads + Wait + Sync + Abort, S: Lanes>(
+    rt: &R,
+    store: &mut S,
+    tape: &'a [u64],
+    call: &'a str,
     wanted: &str,
 )
     requires { (S.disk store.old).out ≡ 0 }
     ensures { (S.disk store.new).out ≡ 0 }
 {
     let (words, script) = parted(rt, call, " < ");
-    let (script, tape) = match script.strip_suffix(" < ONES") {
-        Some(script) => (script, &ONES),
-        None => (script, &ZEROS),
-    };
     let (status, output) = parted(rt, wanted, " ");
-    let ask = ask_with(words, script, tape);
-    let answer = call_over(rt, store, &ask).expect(rt, "memory");
+    let mut ask = ask_for(words, script);
+    ask.tape = tape;
+    let answer = call_on(rt, store, &ask);
     insist(rt, answer.was(number_of(rt, status), output), call);
 }
 
-// Asserts that a cell begins with these numbers, of eight bytes each.
-fn expect_numbers<R: Abort>(rt: &R, bytes: &[u8; 128], numbers: &str) {
-    let mut rest = bytes.as_slice();
-    for number in numbers.split_whitespace() {
-        let eight = number_of(rt, number).to_le_bytes();
-        rest = rest.strip_prefix(&eight).expect(rt, "this number");
+/// Asserts that since it was made, or since its last crash, the store was asked for the events of
+/// these names, and for no other.
+pub fn expect_asked<R: AllocGlobal + Abort>(rt: &R, store: &Noting, names: &str) {
+    let mut wanted = String::new(rt.alloc());
+    for line in EVENTS.lines() {
+        let (name, events) = parted(rt, line, ": ");
+        if names.contains(name) {
+            wanted.push_str(events).expect(rt, "memory");
+        }
     }
+    let asked = has(&store.told, wanted.as_str());
+    insist(rt, asked && store.told.faults() == 0, names);
 }
 
-// The store that stands in a store's place behind a step that makes another.
-fn made_by<R: AllocGlobal + Abort>(rt: &R, store: &MemStore, step: &str) -> Option<MemStore>
-    ensures { IfSome result (λ made. (disk_of_store made).out ≡ 0) }
+// What a crash at this moment leaves of a store of at most 109 cells: in those that aren't sure
+// what they got last, or this byte throughout.
+fn left_after<R: AllocGlobal + Abort>(
+    rt: &R,
+    store: &Noting,
+    moment: usize,
+    filling: Option<u8>,
+) -> Noting
+    ensures { (disk_of_store result.store).out ≡ 0 }
 {
-    if let Some(cells) = step.strip_prefix("new ") {
-        let made = blank(rt.alloc(), number_of(rt, cells) as usize, &[]);
-        return Some(made.expect(rt, "memory"));
-    }
-    let moment = match step.split_once(' ') {
-        Some(("crash", moment)) => number_of(rt, moment) as usize,
-        None => END,
-        _ => return None,
-    };
-    Some(left_after(store, moment, None).expect(rt, "memory"))
+    noted_after(rt.alloc(), store, moment, filling).expect(rt, "memory")
 }
 
-// Takes another step.
-fn take<R: AllocGlobal + Threads + Wait + Sync + Abort>(rt: &R, store: &mut MemStore, step: &str)
-    requires { (disk_of_store store.old).out ≡ 0 }
-    ensures { (disk_of_store store.new).out ≡ 0 }
+// Takes a step.
+fn take<R: AllocGlobal + Threads + Wait + Sync + Abort>(rt: &R, store: &mut Noting, step: &str)
+    requires { (disk_of_store store.old.store).out ≡ 0 }
+    ensures { (disk_of_store store.new.store).out ≡ 0 }
 {
     if let Some((call, wanted)) = step.split_once(" -> ") {
-        expect(rt, store, call, wanted);
+        expect(rt, store, &[], call, wanted);
+    } else if step == "crash" {
+        *store = left_after(rt, store, END, None);
     } else if let Some(cell) = step.strip_prefix("flip ") {
-        insist(rt, flip(store, number_of(rt, cell)).is_ok(), step);
+        let flipped = flip(&mut store.store, number_of(rt, cell));
+        insist(rt, flipped.is_ok(), step);
     } else {
-        let (cell, numbers) = parted(rt, step.strip_prefix("cell ").expect(rt, "a step"), " ");
-        let bytes = cell_of(store, number_of(rt, cell)).expect(rt, "a cell");
-        expect_numbers(rt, &bytes, numbers);
+        expect_asked(rt, store, step.strip_prefix("asked ").expect(rt, "a step"));
     }
 }
 
 /// Takes steps, one behind the other, each a line.
 ///
 /// `WORDS < SCRIPT -> STATUS OUTPUT` is a call with a tape of zeros, and what it answers; a `/`
-/// stands for the end of a line. Behind the script ` < ONES` is a tape of a zero and four ones.
-/// `new CELLS` is a store of so many cells. `crash` is one behind all calls, which leaves what was
-/// written; `crash MOMENT` one behind so many writes and syncs. `flip CELL` changes a bit of a cell.
-/// `cell CELL A ..` says that a cell begins with these numbers, of eight bytes each.
+/// stands for the end of a line. `crash` is one behind all calls, which leaves what was written.
+/// `flip CELL` changes a bit of a cell. `asked NAMES` says what the store was asked, since it was
+/// made or since its last crash.
 pub fn go_on<R: AllocGlobal + Threads + Wait + Sync + Abort>(
     rt: &R,
-    store: &mut MemStore,
+    store: &mut Noting,
     steps: &str,
 )
-    requires { (disk_of_store store.old).out ≡ 0 }
-    ensures { (disk_of_store store.new).out ≡ 0 }
+    requires { (disk_of_store store.old.store).out ≡ 0 }
+    ensures { (disk_of_store store.new.store).out ≡ 0 }
 {
     for step in steps.lines() {
-        match made_by(rt, store, step) {
-            Some(made) => let_go(replace(store, made)),
-            None => take(rt, store, step),
-        }
+        take(rt, store, step);
     }
-    insist(rt, store.starved() == 0, steps);
+    insist(rt, store.store.starved() == 0, steps);
 }
 
-/// A new store of 109 cells behind these steps.
-pub fn play<R: AllocGlobal + Threads + Wait + Sync + Abort>(rt: &R, steps: &str) -> MemStore
-    ensures { (disk_of_store result).out ≡ 0 }
+/// A new store of so many cells, of which these calls fail, behind these steps.
+pub fn play<R: AllocGlobal + Threads + Wait + Sync + Abort>(
+    rt: &R,
+    cells: usize,
+    fails: &[Fail],
+    steps: &str,
+) -> Noting
+    ensures { (disk_of_store result.store).out ≡ 0 }
 {
-    let mut store = blank(rt.alloc(), CELLS, &[]).expect(rt, "memory");
+    let mut store = noted_blank(rt.alloc(), cells, fails).expect(rt, "memory");
     go_on(rt, &mut store, steps);
     store
 }
 
-/// Plays these lives.
+/// Plays these lives, each of a store of 8 keys.
 pub fn play_all<R: AllocGlobal + Threads + Wait + Sync + Abort>(rt: &R, lives: &[&str]) {
     for steps in lives {
-        let_go(play(rt, *steps));
+        let_noting_go(play(rt, CELLS, &[], *steps));
     }
+}
+
+/// What a crash at this moment leaves takes these steps.
+pub fn go_on_behind<R: AllocGlobal + Threads + Wait + Sync + Abort>(
+    rt: &R,
+    ran: &Noting,
+    moment: usize,
+    filling: Option<u8>,
+    steps: &str,
+) {
+    let mut left = left_after(rt, ran, moment, filling);
+    go_on(rt, &mut left, steps);
+    let_noting_go(left);
 }

@@ -1,10 +1,12 @@
 //! A report, replayed transaction by transaction.
 
+ghost use Rattle.std.specs.Prelude.{◌<◌};
+
 use crate::playing::{insist, number_of, parted};
 use std::process::Abort;
 
 /// What the committed transactions of a report leave, line by line. A value is the number of the
-/// put that wrote it; 0 is none.
+/// put that wrote it, from 1 on; 0 is none.
 #[derive(Drop)]
 struct Replay {
     values: [u64; 16],
@@ -15,38 +17,43 @@ struct Replay {
     txns: u64,
 }
 
-// A value tells its client and which of the client's 50 transactions put it: the number of the put,
-// from the client's times 50 on. Where a key is absent that is 0.
-fn put_of<R: Abort>(rt: &R, value: &str) -> u64 {
+// A value tells its client and which of the client's 50 transactions put it: the client, and the
+// number of the put. Where a key is absent that is 0.
+fn put_of<R: Abort>(rt: &R, value: &str) -> (usize, u64)
+    ensures { result.0 < 65 }
+{
     if value == "absent" {
-        return 0;
+        return (0, 0);
     }
     let (client, txn) = parted(rt, value, "x");
     let (client, txn) = (number_of(rt, client), number_of(rt, txn));
-    insist(rt, client < 65 && txn < 50, value);
-    client.wrapping_mul(50).wrapping_add(txn)
+    assert!(rt; client < 65 && txn < 50, "{value}");
+    (client as usize, client * 50 + txn + 1)
 }
 
-// Takes an operation's line, which names a key: a client's puts come in order, and a get of a
-// committed transaction finds what the earlier ones left.
-fn take_op<R: Abort>(rt: &R, replay: &mut Replay, rest: &str, is_put: bool) {
+// Takes an operation's line: a client's puts come in order, and a get of a committed transaction
+// finds what the earlier ones left.
+fn take_op<R: Abort>(rt: &R, replay: &mut Replay, name: &str, rest: &str) {
     let (key, value) = parted(rt, rest, " ");
-    let key = number_of(rt, key);
-    let put = put_of(rt, value.strip_prefix("= ").unwrap_or(value));
-    let (place, client) = (key as usize % 16, put as usize / 50 % 65);
-    let mut so = key < 16;
-    if is_put {
-        so = so && replay.last[client] < put;
+    let key = number_of(rt, key) as usize;
+    assert!(rt; key < 16, "{rest}");
+    let value = if name == "put" {
+        value
+    } else {
+        value.strip_prefix("= ").unwrap_or("absent")
+    };
+    let (client, put) = put_of(rt, value);
+    if name == "put" {
+        insist(rt, replay.last[client] < put, rest);
         replay.last[client] = put;
     }
-    if replay.counts && is_put {
-        replay.values[place] = put;
+    if !replay.counts {
+        return;
     }
-    insist(
-        rt,
-        so && (!replay.counts || replay.values[place] == put),
-        rest,
-    );
+    if name == "put" {
+        replay.values[key] = put;
+    }
+    insist(rt, replay.values[key] == put, rest);
 }
 
 fn take_line<R: Abort>(rt: &R, replay: &mut Replay, line: &str) {
@@ -57,7 +64,7 @@ fn take_line<R: Abort>(rt: &R, replay: &mut Replay, line: &str) {
             replay.counts = rest.ends_with(" committed");
             replay.txns = replay.txns.saturating_add(1);
         }
-        _ => take_op(rt, replay, rest, name == "put"),
+        _ => take_op(rt, replay, name, rest),
     }
 }
 

@@ -6,4 +6,4 @@ abbrev pub invariant-loop-step : goal.invariant-loop-step
 invariant-loop-step g l =
     (goal.iterator-loop-step g).can_next l.step-iterator ×
     (goal.iterator-loop-step g).is_finite l.step-iterator ×
-    ((disk_of_store l.store).out ≡ 0)
+    ((disk_of_store l.store.store).out ≡ 0)
